@@ -1,0 +1,95 @@
+use crate::bytes::Bytes;
+use crate::items::Items;
+
+/// What a symbol stands for (`nlist.h`: `n_type`, `n_sect`, `n_value`).
+#[derive(Clone, Copy, Debug, PartialEq, Eq)]
+pub enum SymbolKind {
+    /// An external symbol that another file defines.
+    Undefined,
+    /// An external symbol with a size in bytes and an alignment exponent, but no section.
+    Common { size: u64, align: u8 },
+    /// A symbol in a section, by the section's number from 1 and the symbol's address in the object.
+    Defined { section: u8, value: u64 },
+    /// A symbol that is a number and no place.
+    Absolute,
+    /// A symbol that the linker passes over: a debugging entry, or an undefined one that isn't external.
+    Passed,
+}
+
+/// A symbol of an object.
+#[derive(Debug, Drop)]
+pub struct Symbol {
+    pub name: Bytes,
+    pub kind: SymbolKind,
+    /// `N_EXT`: other files see it.
+    pub external: bool,
+    /// `N_PEXT`: other images don't see it.
+    pub hidden: bool,
+    /// `N_WEAK_DEF`.
+    pub weak_def: bool,
+    /// `N_WEAK_REF`.
+    pub weak_ref: bool,
+    /// `N_NO_DEAD_STRIP`.
+    pub no_strip: bool,
+    /// `N_ALT_ENTRY`: it doesn't begin an atom.
+    pub alt: bool,
+}
+
+/// The symbols of an object, in the order of its table.
+pub type SymbolList = Items<Symbol>;
+
+/// A relocation as it stands in the object (`reloc.h`: `relocation_info`).
+#[derive(Clone, Copy, Debug, PartialEq, Eq)]
+pub struct RawReloc {
+    /// `r_address`, the offset in the section, as 32 bits in two's complement.
+    pub address: u32,
+    /// `r_symbolnum`, of 24 bits.
+    pub number: u32,
+    /// `r_pcrel`.
+    pub pcrel: bool,
+    /// `r_length`, from 0 to 3: the field has 2 to that power bytes.
+    pub length: u8,
+    /// `r_extern`.
+    pub external: bool,
+    /// `r_type`, from 0 to 15.
+    pub kind: u8,
+}
+
+/// The relocations of a section, in the order of its table.
+pub type RelocList = Items<RawReloc>;
+
+/// A section of an object (`loader.h`: `section_64`).
+#[derive(Debug, Drop)]
+pub struct Section {
+    pub segment: Bytes,
+    pub name: Bytes,
+    /// The address in the object.
+    pub address: u64,
+    /// In bytes.
+    pub size: u64,
+    /// The alignment is 2 to this power.
+    pub align: u8,
+    /// The low 8 bits of the flags: the section's type.
+    pub kind: u8,
+    /// The flags without the type.
+    pub attributes: u32,
+    /// The offset of the contents in the object's bytes.
+    pub file_offset: u64,
+    /// The offset of the relocations in the object's bytes.
+    pub reloc_offset: u64,
+    /// The contents; empty for a zerofill section.
+    pub bytes: Bytes,
+    pub relocs: RelocList,
+}
+
+/// The sections of an object, in its order.
+pub type SectionList = Items<Section>;
+
+/// A relocatable object.
+#[derive(Debug, Drop)]
+pub struct Object {
+    /// `MH_SUBSECTIONS_VIA_SYMBOLS`: sections may be cut into atoms at their symbols.
+    pub subsections: bool,
+    pub sections: SectionList,
+    pub symbols: SymbolList,
+}
