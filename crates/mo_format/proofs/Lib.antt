@@ -1,0 +1,3 @@
+pub mod FieldLemmas
+pub mod RelocationLemmas
+pub mod StructureLemmas

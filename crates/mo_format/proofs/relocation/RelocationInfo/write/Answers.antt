@@ -1,0 +1,10 @@
+use Rattle.std.proofs.Common.{append_assoc, append-nil}
+use Rattle.mo_format.proofs.RelocationLemmas.{relocation_info_read}
+use Rattle.mo_format.proofs.relocation.RelocationInfo.write.Goals as goal
+
+pub returns-clause-ok : goal.returns-clause-ok
+returns-clause-ok c = rw (c.in_ok-put_u32-2.ensures, c.pack.ensures, c.in_ok-put_u32.ensures) (simp (append_assoc, append-nil))
+
+pub returns-clause-read_back : goal.returns-clause-read_back
+returns-clause-read_back c rest =
+    rw (returns-clause-ok c) (relocation_info_read c.args.self c.args.out.now.items rest c.requires)

@@ -1,0 +1,82 @@
+ghost use Rattle.std.specs.Prelude.{◌≡◌, ◌+◌, ◌≤◌, ◌++◌, ◌∷◌, [], length, OnOk};
+ghost use Rattle.mo_bytes.specs.Number.{number, number_bytes};
+ghost use Rattle.mo_format.specs.Fields as fields;
+
+use byteorder::{ByteOrder, LittleEndian};
+use std::alloc::AllocError;
+
+#[tactic(auto, unfolding(mo_bytes::specs::Number::number))]
+pub(crate) fn u8_at(bytes: &[u8], at: usize) -> u8
+    requires { at + 1 ≤ length bytes.now }
+    ensures { result ≡ number 1 bytes.now at }
+{
+    bytes[at]
+}
+
+#[tactic(auto, unfolding(mo_bytes::specs::Number::number))]
+pub(crate) fn u16_at(bytes: &[u8], at: usize) -> u16
+    requires { at + 2 ≤ length bytes.now }
+    ensures { result ≡ number 2 bytes.now at }
+{
+    LittleEndian::read_u16(&bytes[at..])
+}
+
+#[tactic(auto, unfolding(mo_bytes::specs::Number::number))]
+pub(crate) fn u32_at(bytes: &[u8], at: usize) -> u32
+    requires { at + 4 ≤ length bytes.now }
+    ensures { result ≡ number 4 bytes.now at }
+{
+    LittleEndian::read_u32(&bytes[at..])
+}
+
+#[tactic(auto, unfolding(mo_bytes::specs::Number::number))]
+pub(crate) fn u64_at(bytes: &[u8], at: usize) -> u64
+    requires { at + 8 ≤ length bytes.now }
+    ensures { result ≡ number 8 bytes.now at }
+{
+    LittleEndian::read_u64(&bytes[at..])
+}
+
+#[tactic(auto, unfolding(crate::specs::Fields::name_at))]
+pub(crate) fn name_at(bytes: &[u8], at: usize) -> [u8; 16]
+    requires { at + 16 ≤ length bytes.now }
+    ensures { result ≡ fields.name_at bytes.now at }
+{
+    let mut name = [0u8; 16];
+    name.copy_from_slice(&bytes[at..at + 16]);
+    name
+}
+
+#[tactic(auto, unfolding(mo_bytes::specs::Number::number_bytes))]
+pub(crate) fn put_u8(out: &mut Vec<u8>, value: u8) -> Result<(), AllocError>
+    ensures { OnOk result (out.new.items ≡ out.old.items ++ number_bytes 1 value) }
+{
+    out.extend_from_slice(&value.to_le_bytes())
+}
+
+#[tactic(auto, unfolding(mo_bytes::specs::Number::number_bytes))]
+pub(crate) fn put_u16(out: &mut Vec<u8>, value: u16) -> Result<(), AllocError>
+    ensures { OnOk result (out.new.items ≡ out.old.items ++ number_bytes 2 value) }
+{
+    out.extend_from_slice(&value.to_le_bytes())
+}
+
+#[tactic(auto, unfolding(mo_bytes::specs::Number::number_bytes))]
+pub(crate) fn put_u32(out: &mut Vec<u8>, value: u32) -> Result<(), AllocError>
+    ensures { OnOk result (out.new.items ≡ out.old.items ++ number_bytes 4 value) }
+{
+    out.extend_from_slice(&value.to_le_bytes())
+}
+
+#[tactic(auto, unfolding(mo_bytes::specs::Number::number_bytes))]
+pub(crate) fn put_u64(out: &mut Vec<u8>, value: u64) -> Result<(), AllocError>
+    ensures { OnOk result (out.new.items ≡ out.old.items ++ number_bytes 8 value) }
+{
+    out.extend_from_slice(&value.to_le_bytes())
+}
+
+pub(crate) fn put_name(out: &mut Vec<u8>, name: &[u8; 16]) -> Result<(), AllocError>
+    ensures { OnOk result (out.new.items ≡ out.old.items ++ name.now) }
+{
+    out.extend_from_slice(name)
+}
