@@ -11,3 +11,12 @@ code_of (Usage _ _) = 2
 code_of (ReadFault _) = 3
 code_of WriteFault = 3
 code_of OutOfMemory = 4
+
+-- an answer that the command line and the files determine
+abbrev pub IsDetermined : Status → Type 0
+IsDetermined (Usage _ _) = Unit {0}
+IsDetermined (Refused _) = Unit {0}
+IsDetermined Done = ⊥
+IsDetermined (ReadFault _) = ⊥
+IsDetermined WriteFault = ⊥
+IsDetermined OutOfMemory = ⊥

@@ -1,8 +1,11 @@
 ghost use Rattle.std.specs.Prelude.{◌≡◌};
 ghost use Rattle.mo_types.specs.Answer.{code_of};
+ghost use Rattle.mo_types.specs.declared.answer.Status.TheVariants as answer;
 
 use crate::bytes::Bytes;
 use crate::cause::{Feature, RangeKind, Rule, UsageRule, Which};
+use crate::memory::OutOfMemory;
+use std::alloc::{AllocError, AllocFailed};
 
 /// Why a command line that is well written gets no image. A file is a path, or `path(member)` for an
 /// archive's member; a place is an offset in its bytes.
@@ -82,5 +85,29 @@ impl Status {
             Status::ReadFault { .. } | Status::WriteFault => 3,
             Status::OutOfMemory => 4,
         }
+    }
+}
+
+impl From<OutOfMemory> for Status {
+    ghost from_gives = { λ _ status. status ≡ answer.OutOfMemory };
+
+    fn from(_e: OutOfMemory) -> Status {
+        Status::OutOfMemory
+    }
+}
+
+impl From<AllocError> for Status {
+    ghost from_gives = { λ _ status. status ≡ answer.OutOfMemory };
+
+    fn from(_e: AllocError) -> Status {
+        Status::OutOfMemory
+    }
+}
+
+impl<T: Drop> From<AllocFailed<T>> for Status {
+    ghost from_gives = { λ _ status. status ≡ answer.OutOfMemory };
+
+    fn from(_e: AllocFailed<T>) -> Status {
+        Status::OutOfMemory
     }
 }
