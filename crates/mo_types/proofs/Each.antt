@@ -44,3 +44,6 @@ pub has_read : {A E : Type 0} (value : ℕ → Result A E) (n at : ℕ) (front :
 has_read value n at front reading past =
     let e : n - at ≡ 0 = omega arith in
     sym reading.same ∙ (rw e (ap Ok (append-nil front)))
+
+-- what a loop over a table needs
+pub ruleset table_loop = (starts_reading, goes_on, stops, has_read)
