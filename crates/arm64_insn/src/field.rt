@@ -1,0 +1,42 @@
+//! A run of bits of an instruction word.
+
+ghost use Rattle.std.specs.Prelude.{◌≡◌, ◌+◌, ◌<◌, ◌^◌};
+
+/// A field of an instruction word: `width` bits, of which the lowest is bit `low`.
+#[derive(Clone, Copy)]
+pub struct Field {
+    pub low: u32,
+    pub width: u32,
+    ghost in_word: { low + width < 32 },
+}
+
+impl Field {
+    ghost use Rattle.arm64_insn.specs.Field.{field_at, with_field};
+
+    /// The value of the field in a word.
+    pub fn read(self, word: u32) -> u32
+        ensures { result ≡ field_at self.low self.width word }
+    {
+        word >> self.low & ((1 << self.width) - 1)
+    }
+
+    /// The word with this value in the field, and every other bit as before.
+    pub fn write(self, word: u32, value: u32) -> u32
+        requires { value < 2 ^ self.width }
+        ensures { result ≡ with_field self.low self.width word value }
+    {
+        let mask = ((1 << self.width) - 1) << self.low;
+        word & !mask | value << self.low
+    }
+}
+
+ghost use Rattle.arm64_insn.specs.Field.{twos_complement};
+
+/// The low `width` bits of the two's complement of `number`.
+pub fn twos_complement(number: i64, width: u32) -> u32
+    requires { width < 32 }
+    ensures value { result ≡ twos_complement width number }
+    ensures fits { result < 2 ^ width }
+{
+    (number.cast_unsigned() & ((1 << width) - 1)) as u32
+}
