@@ -1,13 +1,13 @@
 -- The test of a branch's distance, and what the code's own tests say of it.
-use Rattle.std.proofs.Common.{◌≡◌, ℕ, ◌%◌, ◌^◌, ◌<◌, nat_eq, refl, ap, ◌∙◌, arith, ℤ, pos, negsuc, neg_ℤ, ◌*ℤ◌, lit≤, w64, zero, suc, true, false}
+use Rattle.std.proofs.Common.{Some, ◌≡◌, ℕ, ◌+◌, ◌*◌, ◌%◌, ◌^◌, ◌<◌, nat_eq, refl, ap, ◌∙◌, arith, ℤ, pos, negsuc, neg_ℤ, ◌*ℤ◌, lit≤, w64, zero, suc, true, false}
 use Rattle.std.specs.Int.{cast_unsigned, cast_signed, int_div_euclid}
 use Rattle.std.specs.Prelude.{int_le, int_lt, int_rem, FitsSigned}
 use Rattle.std.specs.Int.Signed.{shr_z, mag}
 use Rattle.std.proofs.lemmas.Bool.Decides.{nat_tests}
 use Rattle.std.proofs.lemmas.Int.{ints, to_z-of_z}
-use Rattle.arm64_insn.specs.Branch.{IsBranchDelta, is_branch_delta, branch_word, branch_of}
-use Rattle.arm64_insn.specs.Field.{with_field, twos_complement, sign_extended, KeepsOtherBits}
-use Rattle.arm64_insn.proofs.FieldLemmas.{field_at-with_field, with_field-with_field, with_field-lt, keeps_other_bits, twos_complement-lt, sign_extended-twos_complement}
+use Rattle.arm64_insn.specs.Branch.{IsBranchDelta, is_branch_delta, branch_word, branch_of, put_branch}
+use Rattle.arm64_insn.specs.Field.{field_at, with_field, twos_complement, sign_extended, SameBits}
+use Rattle.arm64_insn.proofs.FieldLemmas.{field_at-with_field, field_at-lt, sign_extended-lt, with_field-field_at, twos_complement-sign_extended, with_field-with_field, with_field-lt, same_above, twos_complement-lt, sign_extended-twos_complement}
 
 pub tested_in_reach : (delta : ℤ) → is_branch_delta delta ≡ true → IsBranchDelta delta
 unfolding is_branch_delta
@@ -103,11 +103,58 @@ unfolding branch_word
 branch_word-branch_word word delta later =
     with_field-with_field 0 26 word _ _ (twos_complement-lt 26 (int_div_euclid delta (pos 4)))
 
-pub branch_word-keeps : (word : ℕ) (delta : ℤ) → KeepsOtherBits 0 26 word (branch_word word delta)
+pub branch_word-same : (word : ℕ) (delta : ℤ) → SameBits 26 32 word (branch_word word delta)
 unfolding branch_word
-branch_word-keeps word delta = keeps_other_bits 0 26 word _ (twos_complement-lt 26 (int_div_euclid delta (pos 4)))
+branch_word-same word delta =
+    same_above 0 26 word _ 26 32 (twos_complement-lt 26 (int_div_euclid delta (pos 4))) (lit≤ tt)
 
 pub branch_word-lt : (word : ℕ) (delta : ℤ) → word < 2 ^ 32 → branch_word word delta < 2 ^ 32
 unfolding branch_word
 branch_word-lt word delta small =
     with_field-lt 0 26 word _ (lit≤ tt) small (twos_complement-lt 26 (int_div_euclid delta (pos 4)))
+
+-- ---- what a word's imm26 says
+
+times_four : (n : ℕ) → negsuc n *ℤ pos 4 ≡ negsuc (n * 4 + 3)
+times_four n = omega (arith, ints)
+
+in_reach_times : (s : ℤ) → mag s < 2 ^ 25 → IsBranchDelta (s *ℤ pos 4)
+in_reach_times (pos n) h = record { least = grind (arith, ints); greatest = grind (arith, ints); whole_words = grind (arith, ints) }
+in_reach_times (negsuc n) h =
+    rw times_four (record { least = grind (arith, ints); greatest = grind (arith, ints); whole_words = grind (arith, ints) })
+
+quarter_times : (s : ℤ) → int_div_euclid (s *ℤ pos 4) (pos 4) ≡ s
+quarter_times (pos n) = grind (arith, ints)
+quarter_times (negsuc n) = rw times_four (ap negsuc (omega arith))
+
+steps_fit : (word : ℕ) → mag (sign_extended 26 (field_at 0 26 word)) < 2 ^ 25
+steps_fit word = sign_extended-lt 26 (field_at 0 26 word) refl (field_at-lt 0 26 word)
+
+pub branch_of-in_reach : (word : ℕ) → IsBranchDelta (branch_of word)
+unfolding branch_of
+branch_of-in_reach word = in_reach_times (sign_extended 26 (field_at 0 26 word)) (steps_fit word)
+
+pub branch_word-branch_of : (word : ℕ) → branch_word word (branch_of word) ≡ word
+unfolding branch_of branch_word
+branch_word-branch_of word =
+    ap (λ z. with_field 0 26 word (twos_complement 26 z)) (quarter_times (sign_extended 26 (field_at 0 26 word)))
+    ∙ ap (with_field 0 26 word) (twos_complement-sign_extended 26 (field_at 0 26 word) refl (field_at-lt 0 26 word))
+    ∙ with_field-field_at 0 26 word
+
+pub put_branch-branch_of : (word : ℕ) → put_branch word (branch_of word) ≡ Some word
+put_branch-branch_of word =
+    rw (in_reach_tested (branch_of word) (branch_of-in_reach word), branch_word-branch_of word)
+
+-- what the code computes
+branch_fits : (s : ℤ) → mag s < 2 ^ 25 → FitsSigned w64 s × FitsSigned w64 (s *ℤ pos 4)
+branch_fits (pos n) h = (record { sfits = omega arith }, record { sfits = omega arith })
+branch_fits (negsuc n) h = (record { sfits = omega arith }, rw times_four (record { sfits = omega arith }))
+
+pub branch_read : (word : ℕ) (s : ℤ) → s ≡ sign_extended 26 (field_at 0 26 word)
+    → cast_signed w64 (cast_unsigned w64 (cast_signed w64 (cast_unsigned w64 s) *ℤ pos 4)) ≡ branch_of word
+unfolding branch_of
+branch_read word s e =
+    let fits = branch_fits (sign_extended 26 (field_at 0 26 word)) (steps_fit word) in
+    ap (λ z. cast_signed w64 (cast_unsigned w64 (cast_signed w64 (cast_unsigned w64 z) *ℤ pos 4))) e
+    ∙ ap (λ z. cast_signed w64 (cast_unsigned w64 (z *ℤ pos 4))) (to_z-of_z w64 _ fits.0)
+    ∙ to_z-of_z w64 _ fits.1

@@ -11,10 +11,9 @@ unfoldable pub with_field : ℕ → ℕ → ℕ → ℕ → ℕ
 with_field low width word value =
     word / 2 ^ (low + width) * 2 ^ (low + width) + value * 2 ^ low + word % 2 ^ low
 
--- each bit outside the field is as before
-pub record KeepsOtherBits (low width old new : ℕ) : Type 0 where
-  pub below : (k : ℕ) → k < low → bit_at new k ≡ bit_at old k
-  pub above : (k : ℕ) → low + width ≤ k → bit_at new k ≡ bit_at old k
+-- the bits from `first` to before `end` are as before
+pub record SameBits (first end old new : ℕ) : Type 0 where
+  pub same : (k : ℕ) → first ≤ k → k < end → bit_at new k ≡ bit_at old k
 
 -- the low `width` bits of the two's complement of a signed number
 unfoldable pub twos_complement : ℕ → ℤ → ℕ

@@ -1,13 +1,15 @@
-//! A run of bits of an instruction word.
+//! Runs of bits of an instruction word, and signed numbers in them.
 
-ghost use Rattle.std.specs.Prelude.{◌≡◌, ◌+◌, ◌<◌, ◌^◌};
+ghost use Rattle.std.specs.Prelude.{◌≡◌, ◌+◌, ◌<◌, ◌≤◌, ◌^◌, ◌≤ℤ◌, ◌<ℤ◌, neg_ℤ, pos};
 
 /// A field of an instruction word: `width` bits, of which the lowest is bit `low`.
 #[derive(Clone, Copy)]
 pub struct Field {
     pub low: u32,
     pub width: u32,
-    ghost in_word: { low + width < 32 },
+    ghost begins_in_word: { low < 32 },
+    ghost ends_in_word: { low + width ≤ 32 },
+    ghost narrow: { width < 32 },
 }
 
 impl Field {
@@ -15,7 +17,8 @@ impl Field {
 
     /// The value of the field in a word.
     pub fn read(self, word: u32) -> u32
-        ensures { result ≡ field_at self.low self.width word }
+        ensures value { result ≡ field_at self.low self.width word }
+        ensures fits { result < 2 ^ self.width }
     {
         word >> self.low & ((1 << self.width) - 1)
     }
@@ -30,7 +33,7 @@ impl Field {
     }
 }
 
-ghost use Rattle.arm64_insn.specs.Field.{twos_complement};
+ghost use Rattle.arm64_insn.specs.Field.{twos_complement, sign_extended};
 
 /// The low `width` bits of the two's complement of `number`.
 pub fn twos_complement(number: i64, width: u32) -> u32
@@ -39,4 +42,20 @@ pub fn twos_complement(number: i64, width: u32) -> u32
     ensures fits { result < 2 ^ width }
 {
     (number.cast_unsigned() & ((1 << width) - 1)) as u32
+}
+
+/// The signed number whose two's complement in `width` bits is `bits`.
+pub fn sign_extended(bits: u32, width: u32) -> i64
+    requires some_bits { 0 < width }
+    requires in_word { width < 32 }
+    requires fits { bits < 2 ^ width }
+    ensures value { result ≡ sign_extended width bits }
+    ensures least { neg_ℤ (pos (2 ^ 31)) ≤ℤ result }
+    ensures greatest { result <ℤ pos (2 ^ 31) }
+{
+    if bits < 1 << (width - 1) {
+        i64::from(bits)
+    } else {
+        i64::from(bits) - (1 << width)
+    }
 }
