@@ -103,6 +103,10 @@ unfolding branch_word
 branch_word-branch_word word delta later =
     with_field-with_field 0 26 word _ _ (twos_complement-lt 26 (int_div_euclid delta (pos 4)))
 
+pub put_branch-branch_word : (word : ℕ) (delta later : ℤ)
+    → put_branch (branch_word word delta) later ≡ put_branch word later
+put_branch-branch_word word delta later = rw (branch_word-branch_word word delta later)
+
 pub branch_word-same : (word : ℕ) (delta : ℤ) → SameBits 26 32 word (branch_word word delta)
 unfolding branch_word
 branch_word-same word delta =

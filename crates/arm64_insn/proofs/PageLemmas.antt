@@ -1,11 +1,11 @@
 -- The test of a distance in pages, and the laws of the field that holds it.
-use Rattle.std.proofs.Common.{◌≡◌, ℕ, ◌+◌, ◌*◌, ◌/◌, ◌%◌, ◌^◌, ◌<◌, ◌≤◌, refl, ap, ◌∙◌, arith, lit≤, ℤ, pos, negsuc, w64, true, false, Some, bit_or, inl, inr, ◌⊎◌}
+use Rattle.std.proofs.Common.{◌≡◌, ℕ, ◌+◌, ◌*◌, ◌/◌, ◌%◌, ◌^◌, ◌<◌, ◌≤◌, refl, ap, ◌∙◌, arith, lit≤, ℤ, pos, negsuc, w64, true, false, Some, bit_and, bit_or, inl, inr, ◌⊎◌}
 use Rattle.std.specs.Int.{cast_unsigned, cast_signed}
 use Rattle.std.specs.Int.Signed.{mag}
 use Rattle.std.specs.Prelude.{int_le, int_lt, FitsSigned}
 use Rattle.std.proofs.lemmas.Bool.Decides.{nat_tests}
 use Rattle.std.proofs.lemmas.Int.{ints, to_z-of_z}
-use Rattle.std.proofs.lemmas.Nat.{or_shifted}
+use Rattle.std.proofs.lemmas.Nat.{or_shifted, and_mask}
 use Rattle.arm64_insn.specs.Page.{IsPageDelta, is_page_delta, with_immhi_immlo, immhi_immlo, page_word, put_page, page_of}
 use Rattle.arm64_insn.specs.Field.{field_at, with_field, twos_complement, sign_extended, SameBits}
 use Rattle.arm64_insn.proofs.FieldLemmas.{field_at-with_field, field_at-lt, with_field-with_field, with_field-field_at, with_field-lt, same_above, same_below, same_twice, same_field, twos_complement-lt, sign_extended-twos_complement, twos_complement-sign_extended, sign_extended-lt}
@@ -90,13 +90,6 @@ with-with_immhi_immlo word value later fits more =
     ∙ with_field-with_field 29 2 _ (value % 4) (later % 4) (rest-lt value)
     ∙ ap (λ n. with_field 29 2 n (later % 4)) (with_field-with_field 5 19 word (value / 4) (later / 4) (quarter-lt value fits))
 
-pub immhi_immlo_by_shift : (word high low : ℕ) → high ≡ field_at 5 19 word → low ≡ field_at 29 2 word → high < 2 ^ 19 → low < 2 ^ 2
-    → bit_or (high * 4 % 4294967296) low ≡ immhi_immlo word
-unfolding immhi_immlo
-immhi_immlo_by_shift word high low is_high is_low h l =
-    let whole : high * 4 % 4294967296 ≡ high * 2 ^ 2 = omega arith in
-    ap (λ n. bit_or n low) whole ∙ or_shifted high 2 low l ∙ ap (λ n. n * 4 + low) is_high ∙ ap (λ n. field_at 5 19 word * 4 + n) is_low
-
 -- ---- pages
 
 page_fits : (pages : ℤ) → IsPageDelta pages → mag pages < 2 ^ 20
@@ -157,18 +150,47 @@ page_word-page_of word =
 pub put_page-page_of : (word : ℕ) → put_page word (page_of word) ≡ Some word
 put_page-page_of word = rw (pages_tested (page_of word) (page_of-in_reach word), page_word-page_of word)
 
+pub put_page-page_word : (word : ℕ) (pages later : ℤ) → put_page (page_word word pages) later ≡ put_page word later
+put_page-page_word word pages later = rw (page_word-page_word word pages later)
+
 pub page_word-lt : (word : ℕ) (pages : ℤ) → word < 2 ^ 32 → page_word word pages < 2 ^ 32
 unfolding page_word with_immhi_immlo
 page_word-lt word pages small =
     with_field-lt 29 2 _ _ (lit≤ tt) (with_field-lt 5 19 word _ (lit≤ tt) small (quarter-lt _ (twos_complement-lt 21 pages))) (rest-lt _)
 
--- what the code computes
+-- the word that the code makes
+pub page_made : (word : ℕ) (pages : ℤ) (imm high new : ℕ) → FitsSigned w64 pages
+    → imm ≡ twos_complement 21 (cast_signed w64 (cast_unsigned w64 pages))
+    → high ≡ with_field 5 19 word (imm / 4) → new ≡ with_field 29 2 high (bit_and imm 3)
+    → new ≡ page_word word pages
+unfolding page_word with_immhi_immlo
+page_made word pages imm high new fits is upper lower =
+    let value : imm ≡ twos_complement 21 pages = is ∙ ap (twos_complement 21) (to_z-of_z w64 pages fits) in
+    lower
+    ∙ ap (with_field 29 2 high) (and_mask imm 2)
+    ∙ ap (λ n. with_field 29 2 n (imm % 4)) upper
+    ∙ ap (λ n. with_field 29 2 (with_field 5 19 word (n / 4)) (n % 4)) value
+
+-- what the code reads
 page_held : (s : ℤ) → mag s < 2 ^ 20 → cast_signed w64 (cast_unsigned w64 s) ≡ s
 page_held s h = to_z-of_z w64 s (record { sfits = omega arith })
 
-pub page_read : (word : ℕ) (s : ℤ) → s ≡ sign_extended 21 (immhi_immlo word)
+immhi_immlo_by_shift : (word high low : ℕ) → high ≡ field_at 5 19 word → low ≡ field_at 29 2 word
+    → bit_or (high * 4 % 4294967296) low ≡ immhi_immlo word
+unfolding immhi_immlo
+immhi_immlo_by_shift word high low is_high is_low =
+    let h : high < 2 ^ 19 = omega (arith, field_at-lt 5 19 word) in
+    let l : low < 2 ^ 2 = omega (arith, field_at-lt 29 2 word) in
+    let whole : high * 4 % 4294967296 ≡ high * 2 ^ 2 = omega arith in
+    ap (λ n. bit_or n low) whole
+    ∙ or_shifted high 2 low l
+    ∙ ap (λ n. n * 4 + low) is_high
+    ∙ ap (λ n. field_at 5 19 word * 4 + n) is_low
+
+pub page_read : (word high low : ℕ) (s : ℤ) → high ≡ field_at 5 19 word → low ≡ field_at 29 2 word
+    → s ≡ sign_extended 21 (bit_or (high * 4 % 4294967296) low)
     → cast_signed w64 (cast_unsigned w64 s) ≡ page_of word
 unfolding page_of
-page_read word s e =
-    ap (λ z. cast_signed w64 (cast_unsigned w64 z)) e
+page_read word high low s is_high is_low e =
+    ap (λ z. cast_signed w64 (cast_unsigned w64 z)) (e ∙ ap (sign_extended 21) (immhi_immlo_by_shift word high low is_high is_low))
     ∙ page_held _ (sign_extended-lt 21 (immhi_immlo word) refl (immhi_immlo-lt word))

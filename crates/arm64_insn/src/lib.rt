@@ -9,7 +9,7 @@ ghost use Rattle.std.specs.Prelude.{◌≡◌, ◌%◌, ◌^◌, ◌<◌, ◌≤
 ghost use Rattle.std.specs.Option.{SomeIff};
 ghost use Rattle.arm64_insn.specs.Field.{SameBits};
 ghost use Rattle.arm64_insn.specs.Branch.{IsBranchDelta, is_branch_delta, branch_word, put_branch, branch_of};
-ghost use Rattle.arm64_insn.specs.Page.{IsPageDelta, is_page_delta, page_word, put_page, page_of, with_immhi_immlo, immhi_immlo};
+ghost use Rattle.arm64_insn.specs.Page.{IsPageDelta, is_page_delta, page_word, put_page, page_of};
 ghost use Rattle.arm64_insn.specs.Low12.{IsWholeSteps, imm12_scale, low12_word, put_low12, low12_of, is_unsigned_offset, is_128_bits};
 
 mod field;
@@ -25,19 +25,25 @@ const IMMHI: Field = Field { low: 5, width: 19 };
 /// Bits 29 and 30 of `ADRP`: the low 2 bits of that distance.
 const IMMLO: Field = Field { low: 29, width: 2 };
 
+/// The bits of immhi:immlo.
+const PAGE_BITS: u32 = 21;
+
 /// Bits 10 to 21 of `ADD` (immediate), and of a load or store with an unsigned offset.
 const IMM12: Field = Field { low: 10, width: 12 };
 
-/// The bits that are 111 in loads and stores with an unsigned offset, and the two that are then 01.
+/// Bits 27 to 29, 111 in the loads and stores of one register.
 const LOAD_STORE: Field = Field { low: 27, width: 3 };
 
+/// Bits 24 and 25 of such a load or store, 01 where its offset is unsigned.
 const ADDRESSING: Field = Field { low: 24, width: 2 };
 
-/// Of a load or store: size, V (a SIMD or floating-point register) and the upper bit of opc.
+/// size, bits 30 and 31 of such a load or store.
 const SIZE: Field = Field { low: 30, width: 2 };
 
+/// V, bit 26 of such a load or store: the register is one of SIMD and floating point.
 const VECTOR: Field = Field { low: 26, width: 1 };
 
+/// The upper bit of opc, bit 23 of such a load or store.
 const OPC_HIGH: Field = Field { low: 23, width: 1 };
 
 /// The bytes that a branch reaches backwards; forwards it reaches 4 bytes less.
@@ -56,7 +62,7 @@ pub fn put_branch(word: u32, delta: i64) -> Option<u32>
 
     ensures read_back { IfSome result (λ new. branch_of new ≡ delta) }
     ensures others { IfSome result (SameBits 26 32 word) }
-    ensures last { IfSome result (λ new. (later : ℤ) → branch_word new later ≡ branch_word word later) }
+    ensures last { IfSome result (λ new. (later : ℤ) → put_branch new later ≡ put_branch word later) }
 {
     if !is_branch_delta(delta) {
         return None;
@@ -83,12 +89,13 @@ pub fn put_page(word: u32, pages: i64) -> Option<u32>
 
     ensures read_back { IfSome result (λ new. page_of new ≡ pages) }
     ensures others { IfSome result (λ new. SameBits 0 5 word new × SameBits 24 29 word new × SameBits 31 32 word new) }
-    ensures last { IfSome result (λ new. (later : ℤ) → page_word new later ≡ page_word word later) }
+    ensures last { IfSome result (λ new. (later : ℤ) → put_page new later ≡ put_page word later) }
 {
     if !is_page_delta(pages) {
         return None;
     }
-    Some(with_immhi_immlo(word, twos_complement(pages, 21)))
+    let imm = twos_complement(pages, PAGE_BITS);
+    Some(IMMLO.write(IMMHI.write(word, imm >> 2), imm & 0b11))
 }
 
 /// The distance in pages of 4,096 bytes that immhi:immlo of `ADRP` holds.
@@ -97,7 +104,7 @@ pub fn page_of(word: u32) -> i64
     ensures in_reach { IsPageDelta result }
     ensures written_back { put_page word result ≡ Some word }
 {
-    sign_extended(immhi_immlo(word), 21)
+    sign_extended(IMMHI.read(word) << 2 | IMMLO.read(word), PAGE_BITS)
 }
 
 /// Writes the low 12 bits of an address into imm12 of `ADD` (immediate), or of a load or store with an
@@ -143,22 +150,6 @@ fn is_page_delta(pages: i64) -> bool
     ensures { result ≡ is_page_delta pages }
 {
     -PAGE_REACH <= pages && pages < PAGE_REACH
-}
-
-#[tactic(auto, unfolding(crate::specs::Page::with_immhi_immlo))]
-fn with_immhi_immlo(word: u32, value: u32) -> u32
-    requires { value < 2 ^ 21 }
-    ensures { result ≡ with_immhi_immlo word value }
-{
-    IMMLO.write(IMMHI.write(word, value >> 2), value & 0b11)
-}
-
-#[tactic(auto, unfolding(crate::specs::Page::immhi_immlo))]
-fn immhi_immlo(word: u32) -> u32
-    ensures value { result ≡ immhi_immlo word }
-    ensures fits { result < 2 ^ 21 }
-{
-    IMMHI.read(word) << 2 | IMMLO.read(word)
 }
 
 /// How imm12 counts: in steps of 2 to this power bytes.

@@ -1,12 +1,10 @@
-use Rattle.std.proofs.Common.{◌∙◌, ap}
-use Rattle.arm64_insn.specs.Field.{sign_extended}
 use Rattle.arm64_insn.proofs.PageLemmas.{page_read, page_of-in_reach, put_page-page_of}
 use Rattle.arm64_insn.proofs.page_of.Goals as goal
 
 pub returns-clause-value : goal.returns-clause-value
 returns-clause-value c =
-    page_read c.args.word c.sign_extended.result
-    (c.sign_extended.ensures.value ∙ ap (sign_extended 21) c.immhi_immlo.ensures.value)
+    page_read c.args.word c.read.result c.read-2.result c.sign_extended.result
+    c.read.ensures.value c.read-2.ensures.value c.sign_extended.ensures.value
 
 pub returns-clause-in_reach : goal.returns-clause-in_reach
 returns-clause-in_reach c = rw (returns-clause-value c) (page_of-in_reach c.args.word)

@@ -1,7 +1,7 @@
 use Rattle.std.proofs.Common.{◌≡◌, w64, true}
 use Rattle.std.proofs.lemmas.Int.{to_z-of_z}
 use Rattle.arm64_insn.specs.Branch.{is_branch_delta, branch_word}
-use Rattle.arm64_insn.proofs.BranchLemmas.{branch_made, in_reach_tested, tested_in_reach, branch_of-branch_word, branch_word-same, branch_word-branch_word}
+use Rattle.arm64_insn.proofs.BranchLemmas.{branch_made, in_reach_tested, tested_in_reach, branch_of-branch_word, branch_word-same, put_branch-branch_word}
 use Rattle.arm64_insn.proofs.put_branch.Goals as goal
 
 pub returns-then-not-is_branch_delta-clause-in_reach :
@@ -32,4 +32,4 @@ pub returns-clause-others : goal.returns-clause-others
 returns-clause-others c = rw (made c) (branch_word-same c.args.word c.args.delta)
 
 pub returns-clause-last : goal.returns-clause-last
-returns-clause-last c later = rw (made c) (branch_word-branch_word c.args.word c.args.delta later)
+returns-clause-last c later = rw (made c) (put_branch-branch_word c.args.word c.args.delta later)

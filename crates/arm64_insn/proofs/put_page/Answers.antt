@@ -1,8 +1,7 @@
-use Rattle.std.proofs.Common.{◌≡◌, w64, true, ap, ◌∙◌}
+use Rattle.std.proofs.Common.{◌≡◌, w64, true}
 use Rattle.std.proofs.lemmas.Int.{to_z-of_z}
-use Rattle.arm64_insn.specs.Field.{twos_complement}
-use Rattle.arm64_insn.specs.Page.{is_page_delta, page_word, with_immhi_immlo}
-use Rattle.arm64_insn.proofs.PageLemmas.{pages_tested, tested_in_pages, page_of-page_word, page_word-same, page_word-page_word}
+use Rattle.arm64_insn.specs.Page.{is_page_delta, page_word}
+use Rattle.arm64_insn.proofs.PageLemmas.{pages_tested, tested_in_pages, page_made, page_of-page_word, page_word-same, put_page-page_word}
 use Rattle.arm64_insn.proofs.put_page.Goals as goal
 
 pub returns-then-not-is_page_delta-clause-in_reach :
@@ -12,15 +11,13 @@ returns-then-not-is_page_delta-clause-in_reach c h =
     let yes = pages_tested c.args.pages h in
     cc
 
-tested : (c : goal.After-with_immhi_immlo) → is_page_delta c.args.pages ≡ true
+tested : (c : goal.After-write-2) → is_page_delta c.args.pages ≡ true
 tested c = let held = to_z-of_z w64 c.args.pages c.ranges.pages in cc
 
-made : (c : goal.After-with_immhi_immlo) → c.with_immhi_immlo.result ≡ page_word c.args.word c.args.pages
-unfolding page_word
+made : (c : goal.After-write-2) → c.write-2.result ≡ page_word c.args.word c.args.pages
 made c =
-    c.with_immhi_immlo.ensures
-    ∙ ap (with_immhi_immlo c.args.word) c.twos_complement.ensures.value
-    ∙ ap (λ z. with_immhi_immlo c.args.word (twos_complement 21 z)) (to_z-of_z w64 c.args.pages c.ranges.pages)
+    page_made c.args.word c.args.pages c.twos_complement-imm.result c.write.result c.write-2.result c.ranges.pages
+    c.twos_complement-imm.ensures.value c.write.ensures c.write-2.ensures
 
 pub returns-clause-written : goal.returns-clause-written
 returns-clause-written c = rw (tested c, made c)
@@ -36,4 +33,4 @@ pub returns-clause-others : goal.returns-clause-others
 returns-clause-others c = rw (made c) (page_word-same c.args.word c.args.pages)
 
 pub returns-clause-last : goal.returns-clause-last
-returns-clause-last c later = rw (made c) (page_word-page_word c.args.word c.args.pages later)
+returns-clause-last c later = rw (made c) (put_page-page_word c.args.word c.args.pages later)
