@@ -1,7 +1,7 @@
 -- The laws of imm12: a write leaves the scale as it was, and is read back.
-use Rattle.std.proofs.Common.{◌≡◌, ℕ, ◌+◌, ◌*◌, ◌/◌, ◌%◌, ◌^◌, ◌<◌, ◌≤◌, ap, ◌∙◌, arith, lit≤, Some, eq-eqb}
+use Rattle.std.proofs.Common.{◌≡◌, ℕ, ◌+◌, ◌*◌, ◌/◌, ◌%◌, ◌^◌, ◌<◌, ◌≤◌, sym, ap, ◌∙◌, arith, lit≤, Some, bit_and, eq-eqb}
 use Rattle.std.proofs.Math.Nat.{mod-eq_of_lt, mul-mod_left, div-le_self}
-use Rattle.std.proofs.lemmas.Nat.{div-add-mod', shl-shr, shl_whole}
+use Rattle.std.proofs.lemmas.Nat.{div-add-mod', shl-shr, shl_whole, one_shl, and_mask}
 use Rattle.arm64_insn.specs.Low12.{imm12_scale, IsWholeSteps, low12_word, put_low12, low12_of}
 use Rattle.arm64_insn.specs.Field.{field_at, with_field, SameBits}
 use Rattle.arm64_insn.proofs.FieldLemmas.{field_at-with_field, field_at-lt, with_field-with_field, with_field-field_at, with_field-lt, same_above, same_below, same_field}
@@ -77,7 +77,21 @@ put_low12-low12_of word n is fits =
     ap (put_low12 word) is
     ∙ rw (eq-eqb _ _ (low12_of-whole word small), low12_word-low12_of word small)
 
--- what the code computes
+-- the word that the code makes
+pub low12_made : (word target scale new : ℕ) → scale ≡ imm12_scale word → scale ≤ 4
+    → bit_and target 4095 % (1 * 2 ^ scale % 2 ^ 32) ≡ 0
+    → new ≡ with_field 10 12 word (bit_and target 4095 / (1 * 2 ^ scale % 2 ^ 32))
+    → IsWholeSteps word target × (new ≡ low12_word word target)
+unfolding low12_word
+low12_made word target scale new is small whole made =
+    let step : 1 * 2 ^ scale % 2 ^ 32 ≡ 2 ^ imm12_scale word = one_shl scale 32 (omega arith) ∙ ap (λ n. 2 ^ n) is in
+    let low : bit_and target 4095 ≡ target % 2 ^ 12 = and_mask target 12 in (
+      ap (λ n. n % 2 ^ imm12_scale word) (sym low) ∙ ap (λ n. bit_and target 4095 % n) (sym step) ∙ whole,
+      made ∙ ap (λ n. with_field 10 12 word (bit_and target 4095 / n)) step
+          ∙ ap (λ n. with_field 10 12 word (n / 2 ^ imm12_scale word)) low,
+    )
+
+-- what the code reads
 pub low12_by_shift : (word field scale : ℕ) → field ≡ field_at 10 12 word → scale ≡ imm12_scale word → scale ≤ 4
     → field * 2 ^ scale % 2 ^ 64 ≡ low12_of word
 unfolding low12_of

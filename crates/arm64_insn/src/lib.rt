@@ -112,7 +112,6 @@ pub fn page_of(word: u32) -> i64
 ///
 /// `None` where those bits are no whole steps. Arm Architecture Reference Manual, "ADD (immediate)",
 /// "LDR (immediate)", "LDR (immediate, SIMD&FP)" and their kin.
-#[tactic(auto, unfolding(crate::specs::Low12::low12_word))]
 pub fn put_low12(word: u32, target: u64) -> Option<u32>
     ensures written { result ≡ put_low12 word target }
     ensures in_form { SomeIff result (IsWholeSteps word target) (low12_word word target) }
@@ -131,7 +130,6 @@ pub fn put_low12(word: u32, target: u64) -> Option<u32>
 
 /// The bytes that imm12 of `ADD` (immediate), or of a load or store with an unsigned offset, stands for:
 /// the field times the size that is loaded or stored, or the field itself.
-#[tactic(auto, unfolding(crate::specs::Low12::low12_of))]
 pub fn low12_of(word: u32) -> u64
     ensures value { result ≡ low12_of word }
     ensures written_back { result < 2 ^ 12 → put_low12 word result ≡ Some word }

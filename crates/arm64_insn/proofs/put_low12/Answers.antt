@@ -1,12 +1,15 @@
-use Rattle.std.proofs.Common.{◌≡◌, arith}
-use Rattle.std.proofs.lemmas.Grind.{common_steps}
+use Rattle.std.proofs.Common.{◌≡◌, eq-eqb}
 use Rattle.arm64_insn.specs.Low12.{low12_word, IsWholeSteps}
-use Rattle.arm64_insn.proofs.Low12Lemmas.{low12_of-low12_word, low12_word-same, put_low12-low12_word}
+use Rattle.arm64_insn.proofs.Low12Lemmas.{low12_made, low12_of-low12_word, low12_word-same, put_low12-low12_word}
 use Rattle.arm64_insn.proofs.put_low12.Goals as goal
 
 made : (c : goal.After-write) → IsWholeSteps c.args.word c.args.target × (c.write.result ≡ low12_word c.args.word c.args.target)
-unfolding low12_word
-made c = (grind (arith, common_steps), grind (arith, common_steps))
+made c =
+    low12_made c.args.word c.args.target c.imm12_scale-step.result c.write.result c.imm12_scale-step.ensures.value
+    c.imm12_scale-step.ensures.small c.if-low-step-ne0.false c.write.ensures
+
+pub returns-clause-written : goal.returns-clause-written
+returns-clause-written c = let m = made c in rw (eq-eqb _ _ m.0, m.1)
 
 pub returns-clause-in_form : goal.returns-clause-in_form
 returns-clause-in_form c = made c
