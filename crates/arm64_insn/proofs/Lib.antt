@@ -1,0 +1,4 @@
+pub mod FieldLemmas
+pub mod BranchLemmas
+pub mod PageLemmas
+pub mod Low12Lemmas
