@@ -1,3 +1,5 @@
 pub mod FormLemmas
+pub mod NameLemmas
+pub mod PlacedLemmas
 pub mod SymbolLemmas
 pub mod WordLemmas

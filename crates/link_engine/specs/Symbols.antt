@@ -1,7 +1,6 @@
 -- The symbols of an object of the form (`nlist.h`).
-use Rattle.std.specs.Prelude.{ℕ, ◌+◌, ◌*◌, ◌/◌, ◌%◌, ◌≤◌, ◌==◌, ◌&&◌, ◌||◌, Bool, not, nat_le, bit_and, List, [], ◌∷◌, take, drop, Option, Some, None, Result, Ok, Err, if◌then◌else◌}
-use Rattle.std.specs.List.{list_any}
-use Rattle.std.specs.Str.{bytes_eq}
+use Rattle.std.specs.Prelude.{ℕ, ◌+◌, ◌*◌, ◌≤◌, ◌==◌, ◌&&◌, ◌||◌, Bool, not, nat_le, bit_and, List, [], ◌∷◌, take, drop, Option, Some, None, Result, Ok, Err, if◌then◌else◌}
+use Rattle.std.specs.List.{AllByRecursion}
 use Rattle.mo_types.specs.Gives.{◌>>=◌, guarded, each_from}
 use Rattle.mo_types.specs.declared.object.Symbol.{Symbol}
 use Rattle.mo_types.specs.declared.object.SymbolKind.{SymbolKind}
@@ -76,3 +75,17 @@ symbol_at bytes frame number =
 -- all symbols, in their order
 unfoldable pub symbols_of : List ℕ → Frame → Result (List Symbol) FormFault
 symbols_of bytes frame = each_from (symbol_at bytes frame) 0 frame.symtab.nsyms
+
+-- from the section's start to its end
+pub record IsWithin (start size address : ℕ) : Type 0 where
+  pub low : start ≤ address
+  pub high : address ≤ start + size
+
+-- a definition lies in the section or at its end
+abbrev pub IsPlaced : ℕ → ℕ → SymbolKind → Type 0
+IsPlaced start size (Defined section value) = IsWithin start size value
+IsPlaced start size _ = Unit {0}
+
+-- each symbol's definition does
+abbrev pub ArePlaced : ℕ → ℕ → List Symbol → Type 0
+ArePlaced start size symbols = AllByRecursion (λ symbol. IsPlaced start size symbol.kind) symbols

@@ -4,6 +4,10 @@
 //! refusals count. Each step has one contract, by one definition of `specs/`.
 #![tactic(auto)]
 
+mod entry;
+mod fetch;
 mod form;
+mod names;
+mod object;
 mod symbols;
 mod words;

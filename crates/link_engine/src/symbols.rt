@@ -4,6 +4,7 @@ ghost use Rattle.std.specs.Prelude.{◌≡◌, ◌+◌, ◌*◌, ◌≤◌, ◌<
 ghost use Rattle.mo_types.specs.Gives.{Gives};
 ghost use Rattle.link_engine.specs.Form.{IsFormFault, IsFrame};
 ghost use Rattle.link_engine.specs.Symbols as symbol;
+ghost use Rattle.link_engine.specs.Symbols.{ArePlaced, IsPlaced};
 
 use crate::form::{FormFault, Frame, first_nul};
 use mo_format::{Nlist, SectionHeader};
@@ -29,7 +30,8 @@ fn is_definition(text: &SectionHeader, entry: &Nlist) -> bool
 #[tactic(auto, unfolding(crate::specs::Symbols::kind_of))]
 fn kind_of(text: &SectionHeader, entry: &Nlist) -> Result<SymbolKind, FormFault>
     requires { text.now.addr + text.now.size < 2 ^ 63 }
-    ensures { Gives IsFormFault result (symbol.kind_of text.now entry.now) }
+    ensures exact { Gives IsFormFault result (symbol.kind_of text.now entry.now) }
+    ensures placed { IfOk result (IsPlaced text.now.addr text.now.size) }
 {
     if is_stab(entry) {
         return Ok(SymbolKind::Passed);
@@ -71,7 +73,8 @@ fn string_at(alloc: Global, strings: &[u8], at: usize) -> Result<Bytes, FormFaul
 #[tactic(auto, unfolding(crate::specs::Symbols::symbol_of))]
 fn symbol_of(alloc: Global, strings: &[u8], text: &SectionHeader, entry: &Nlist) -> Result<Symbol, FormFault>
     requires { text.now.addr + text.now.size < 2 ^ 63 }
-    ensures { Gives IsFormFault result (symbol.symbol_of strings.now text.now entry.now) }
+    ensures exact { Gives IsFormFault result (symbol.symbol_of strings.now text.now entry.now) }
+    ensures placed { IfOk result (λ symbol. IsPlaced text.now.addr text.now.size symbol.kind) }
 {
     let name = string_at(alloc, strings, entry.n_strx as usize)?;
     let kind = kind_of(text, entry)?;
@@ -89,10 +92,11 @@ fn symbol_of(alloc: Global, strings: &[u8], text: &SectionHeader, entry: &Nlist)
 }
 
 /// The symbols of the table, in its order.
-#[tactic(auto, using(mo_types::proofs::Each::table_loop), unfolding(crate::specs::Symbols::symbol_at, crate::specs::Symbols::symbols_of))]
+#[tactic(auto, using(mo_types::proofs::Each::table_loop, crate::proofs::PlacedLemmas::all_placed), unfolding(crate::specs::Symbols::symbol_at, crate::specs::Symbols::symbols_of))]
 pub fn symbols_of(alloc: Global, bytes: &[u8], frame: &Frame) -> Result<SymbolList, FormFault>
     requires { IsFrame (length bytes.now) frame.now }
-    ensures { Gives IsFormFault result (symbol.symbols_of bytes.now frame.now) }
+    ensures exact { Gives IsFormFault result (symbol.symbols_of bytes.now frame.now) }
+    ensures placed { IfOk result (ArePlaced frame.now.text.addr frame.now.text.size) }
 {
     let symtab = &frame.symtab;
     let start = symtab.stroff as usize;

@@ -16,7 +16,7 @@ abbrev pub fetch_limit : ℕ
 fetch_limit = 2 ^ 30
 
 -- what a fetch of the path gives
-abbrev pub fetched : FileMap → List ℕ → Option (List ℕ)
+unfoldable pub fetched : FileMap → List ℕ → Option (List ℕ)
 fetched files path = option_map (take fetch_limit) (file_at files path)
 
 -- An answer of a fetch, and the bytes that it gave, agree with the files, where these are told.

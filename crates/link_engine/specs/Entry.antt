@@ -1,0 +1,30 @@
+-- Where the program begins.
+use Rattle.std.specs.Prelude.{ℕ, ◌&&◌, Bool, List, [], codes, Option, Some, None, Result, Ok, Err, if◌then◌else◌}
+use Rattle.std.specs.Str.{bytes_eq}
+use Rattle.mo_types.specs.Scan.{first_some}
+use Rattle.mo_types.specs.declared.answer.Status.{Status}
+use Rattle.mo_types.specs.declared.answer.Status.TheVariants.{Refused}
+use Rattle.mo_types.specs.declared.answer.Refusal.TheVariants.{Undefined}
+use Rattle.mo_types.specs.declared.object.Symbol.{Symbol}
+use Rattle.mo_types.specs.declared.object.SymbolKind.{SymbolKind}
+use Rattle.mo_types.specs.declared.object.SymbolKind.TheVariants.{Defined}
+
+-- the name of the entry
+abbrev pub entry_name : List ℕ
+entry_name = codes "_main"
+
+abbrev pub address_of : SymbolKind → Option ℕ
+address_of (Defined section value) = Some value
+address_of _ = None
+
+-- the address of an external definition of the entry
+abbrev pub entry_value : Symbol → Option ℕ
+entry_value symbol = if symbol.external && bytes_eq symbol.name entry_name then address_of symbol.kind else None
+
+abbrev pub or_undefined : Option ℕ → Result ℕ Status
+or_undefined (Some value) = Ok value
+or_undefined None = Err (Refused (Undefined entry_name []))
+
+-- the entry's address in the object
+unfoldable pub entry_of : List Symbol → Result ℕ Status
+entry_of symbols = or_undefined (first_some entry_value symbols)
