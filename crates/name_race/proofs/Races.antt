@@ -3,9 +3,12 @@ use Rattle.std.proofs.Common.{◌≡◌, ℕ, ◌<◌, length, sym, ◌∙◌, a
 use Rattle.name_race.specs.Race.{Race, Holding}
 
 -- a racer that is of this race in a contract is of it by its fields
-pub same_race : (fields kept : Holding) (race_fields race : Race) → fields ≡ kept → race_fields ≡ race → kept.race ≡ race → fields.race ≡ race_fields
-same_race fields kept race_fields race is race_is of = ap (λ (k : Holding). k.race) is ∙ (of ∙ sym race_is)
+pub same_race : (fields held : Holding) (race_fields race : Race) → fields ≡ held → race_fields ≡ race → held.race ≡ race → fields.race ≡ race_fields
+same_race fields held race_fields race is race_is of = ap (λ (h : Holding). h.race) is ∙ (of ∙ sym race_is)
 
--- a name has a word
-pub has_word : (name words : ℕ) (race_fields race : Race) → race_fields ≡ race → words ≡ length race_fields.start → name < length race.start → name < words
-has_word name words race_fields race is long near = subst (λ n. name < n) (sym long) (subst (λ (r : Race). name < length r.start) (sym is) near)
+-- a name has a word at the start, and so a word
+pub has_start : (name : ℕ) (race_fields race : Race) → race_fields ≡ race → name < length race.start → name < length race_fields.start
+has_start name race_fields race is near = subst (λ (r : Race). name < length r.start) (sym is) near
+
+pub has_word : (name words names : ℕ) → words ≡ names → name < names → name < words
+has_word name words names long near = subst (λ n. name < n) (sym long) near

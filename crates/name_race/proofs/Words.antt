@@ -2,6 +2,7 @@
 use Rattle.std.proofs.Common.{◌≡◌, ℕ, zero, suc, ◌+◌, ◌<◌, ◌≤◌, List, [], ◌∷◌, ◌++◌, length, get_or, set, take, sym, ◌∙◌, ap, subst, take_all}
 use mathlib.Core.Option.{some, some-injective, some-ne-none}
 use lib.ListN.{get_elem?}
+use Rattle.std.specs.Mem.Slots.{slots_counts}
 use Rattle.std.proofs.lemmas.List.{take_more, take_more_set}
 
 get_or_at : (xs : List ℕ) (i r d : ℕ) → get_elem? xs i ≡ some r → get_or xs i d ≡ r
@@ -15,3 +16,5 @@ written_more into items i r near long at so =
 
 pub written_all : (into items : List ℕ) (n : ℕ) → length into ≤ n → length into ≡ length items → take n into ≡ take n items → into ≡ items
 written_all into items n all long so = sym (take_all n into all) ∙ (so ∙ take_all n items (subst (λ k. k ≤ n) long all))
+
+pub ruleset copying = (written_more, written_all, slots_counts)

@@ -144,6 +144,7 @@ fn split_as<J: Share>(race: &NameRace, racer: &mut Racer, passes: u64) -> Racer
 }
 
 // Writes the words of a table that has ended.
+#[tactic(auto, using(crate::proofs::Words::copying))]
 fn copy_words(closed: &Closed<(), Global>, into: &mut [u64])
     requires full { IsFull closed.now.words }
     requires places { length into.old ≡ slots_len closed.now.words }
