@@ -1,0 +1,161 @@
+//! Races in one thread and in several, against words that were counted by hand and by `race_core`.
+ghost use Rattle.std.specs.Prelude.{◌≡◌, ◌<◌, ◌≤◌, length, All, IfOk};
+ghost use Rattle.std.specs.Thread.{IsSync};
+
+use crate::{NameRace, Racer};
+use race_core::{Offer, replay};
+use std::alloc::{AllocError, Global};
+use std::test::Fail;
+use std::thread::{Threads, join};
+
+const NONE: u64 = u64::MAX;
+
+// Makes the offers of these events.
+fn offer_all(race: &NameRace, racer: Racer, events: &[Offer]) -> Racer
+    requires racer { racer.race ≡ race.now }
+    requires names { All (λ e. e.name < length race.now.start) events.now }
+    ensures race { result.race ≡ race.now }
+    ensures passes { result.passes ≡ racer.passes }
+{
+    let mut racer = racer;
+    for event in events {
+        race.offer(&mut racer, event.name, event.word);
+    }
+    racer
+}
+
+// Makes them in two threads.
+fn offer_by_two<R: Threads + Sync>(rt: &R, race: &NameRace, racer: Racer, events: &[Offer]) -> Racer
+    requires racer { racer.race ≡ race.now }
+    requires passes { 2 ≤ racer.passes }
+    requires names { All (λ e. e.name < length race.now.start) events.now }
+    ensures race { result.race ≡ race.now }
+    ensures passes { result.passes ≡ racer.passes }
+{
+    let mut racer = racer;
+    let (front, back) = events.split_at(events.len() / 2);
+    let other = race.split(&mut racer, 1);
+    let (mut racer, other) = join(
+        rt,
+        move || -> Racer
+            requires { (racer.race ≡ race.now) × All (λ e. e.name < length race.now.start) front.now }
+            ensures { (result.race ≡ race.entry.now) × (result.passes ≡ racer.passes) }
+        { offer_all(race, racer, front) },
+        move || -> Racer
+            requires { (other.race ≡ race.now) × All (λ e. e.name < length race.now.start) back.now }
+            ensures { (result.race ≡ race.entry.now) × (result.passes ≡ other.passes) }
+        { offer_all(race, other, back) },
+    );
+    race.join(&mut racer, other);
+    racer
+}
+
+// Makes them in four threads.
+fn offer_by_four<R: Threads + Sync>(
+    rt: &R,
+    race: &NameRace,
+    racer: Racer,
+    events: &[Offer],
+) -> Racer
+    requires racer { racer.race ≡ race.now }
+    requires passes { 4 ≤ racer.passes }
+    requires names { All (λ e. e.name < length race.now.start) events.now }
+    ensures race { result.race ≡ race.now }
+    ensures passes { result.passes ≡ racer.passes }
+{
+    let mut racer = racer;
+    let (front, back) = events.split_at(events.len() / 2);
+    let other = race.split(&mut racer, 2);
+    let (mut racer, other) = join(
+        rt,
+        move || -> Racer
+            requires { IsSync R.row × (racer.race ≡ race.now) × (2 ≤ racer.passes) × All (λ e. e.name < length race.now.start) front.now }
+            ensures { (result.race ≡ race.entry.now) × (result.passes ≡ racer.passes) }
+        { offer_by_two(rt, race, racer, front) },
+        move || -> Racer
+            requires { IsSync R.row × (other.race ≡ race.now) × (2 ≤ other.passes) × All (λ e. e.name < length race.now.start) back.now }
+            ensures { (result.race ≡ race.entry.now) × (result.passes ≡ other.passes) }
+        { offer_by_two(rt, race, other, back) },
+    );
+    race.join(&mut racer, other);
+    racer
+}
+
+// Offers that look random, and are the same each time.
+fn many_offers(alloc: Global, count: u32) -> Result<Vec<Offer>, AllocError>
+    ensures { IfOk result (λ v. All (λ e. e.name < 100000) v.items) }
+{
+    let mut events = Vec::with_capacity(alloc, count as usize)?;
+    let mut state = 1u64;
+    for i in 0..count {
+        state = state
+            .wrapping_mul(6364136223846793005)
+            .wrapping_add(1442695040888963407);
+        events.push(Offer {
+            worker: i % 4,
+            name: ((state >> 32) % 100_000) as u32,
+            word: state,
+        })?;
+    }
+    Ok(events)
+}
+
+#[test]
+fn race_of_three_names(rt: HostRuntime) -> Result<(), Fail> {
+    let (race, racer) = NameRace::begin(vec![in rt.alloc(); NONE; 3]?, 2)?;
+    let events = [
+        Offer {
+            worker: 0,
+            name: 0,
+            word: 7,
+        },
+        Offer {
+            worker: 0,
+            name: 0,
+            word: 5,
+        },
+        Offer {
+            worker: 1,
+            name: 0,
+            word: 5,
+        },
+        Offer {
+            worker: 1,
+            name: 2,
+            word: 9,
+        },
+    ];
+    let racer = offer_by_two(&rt, &race, racer, &events);
+    let mut words = [0; 3];
+    race.settle(racer, &mut words);
+    assert_eq!(rt; words, [5, NONE, 9]);
+    Ok(())
+}
+
+#[test]
+fn a_racer_sees_the_word_of_another(rt: HostRuntime) -> Result<(), Fail> {
+    let (race, mut first) = NameRace::begin(vec![in rt.alloc(); NONE]?, 2)?;
+    let mut second = race.split(&mut first, 1);
+    assert_eq!(rt; race.offer(&mut first, 0, 7), NONE);
+    assert_eq!(rt; race.least(&mut second, 0), 7);
+    assert_eq!(rt; race.offer(&mut second, 0, 9), 7);
+    assert_eq!(rt; race.least(&mut first, 0), 7);
+    race.join(&mut first, second);
+    let mut words = [0; 1];
+    race.settle(first, &mut words);
+    assert_eq!(rt; words, [7]);
+    Ok(())
+}
+
+#[test]
+fn four_threads_settle_what_one_replays(rt: HostRuntime) -> Result<(), Fail> {
+    let events = many_offers(rt.alloc(), 1_000_000)?;
+    let mut replayed = vec![in rt.alloc(); NONE; 100_000]?;
+    replay(replayed.as_mut_slice(), events.as_slice());
+    let (race, racer) = NameRace::begin(vec![in rt.alloc(); NONE; 100_000]?, 4)?;
+    let racer = offer_by_four(&rt, &race, racer, events.as_slice());
+    let mut settled = vec![in rt.alloc(); 0; 100_000]?;
+    race.settle(racer, settled.as_mut_slice());
+    assert!(rt; settled == replayed);
+    Ok(())
+}

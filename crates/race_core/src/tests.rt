@@ -1,0 +1,59 @@
+//! The words of small races, counted by hand.
+ghost use Rattle.std.specs.Prelude.{◌<◌};
+
+use crate::{Offer, replay};
+
+const NONE: u64 = u64::MAX;
+
+fn offer(i: u32) -> Offer
+    ensures { result.name < 3 }
+{
+    let (worker, name, word) = match i {
+        0 => (0, 0, 7),
+        1 => (1, 0, 5),
+        2 => (1, 2, 9),
+        _ => (0, 0, 5),
+    };
+    Offer { worker, name, word }
+}
+
+#[test]
+fn race_of_three_names(rt: HostRuntime) {
+    let mut orders = 0u8;
+    for a in 0..4u32 {
+        for b in 0..4u32 {
+            for c in 0..4u32 {
+                if a == b || a == c || b == c {
+                    continue;
+                }
+                let events = [offer(a), offer(b), offer(c), offer(6 - (a + b + c))];
+                let mut words = [NONE; 3];
+                replay(&mut words, &events);
+                assert_eq!(rt; words, [5, NONE, 9], "in the order {a}, {b}, {c}");
+                orders = orders.saturating_add(1);
+            }
+        }
+    }
+    assert_eq!(rt; orders, 24);
+}
+
+#[test]
+fn words_at_the_start_count(rt: HostRuntime) {
+    let mut words = [3, 8];
+    replay(&mut words, &[]);
+    assert_eq!(rt; words, [3, 8]);
+    let events = [
+        Offer {
+            worker: 0,
+            name: 0,
+            word: 4,
+        },
+        Offer {
+            worker: 0,
+            name: 1,
+            word: 0,
+        },
+    ];
+    replay(&mut words, &events);
+    assert_eq!(rt; words, [3, 0]);
+}
