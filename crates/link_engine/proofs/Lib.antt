@@ -1,4 +1,5 @@
 pub mod FormLemmas
+pub mod ImageLemmas
 pub mod NameLemmas
 pub mod PlacedLemmas
 pub mod SymbolLemmas

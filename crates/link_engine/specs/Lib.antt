@@ -1,6 +1,7 @@
 pub mod Command
 pub mod Entry
 pub mod Form
+pub mod Image
 pub mod Input
 pub mod Names
 pub mod Object

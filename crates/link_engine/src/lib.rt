@@ -7,6 +7,7 @@
 mod entry;
 mod fetch;
 mod form;
+mod image;
 mod names;
 mod object;
 mod symbols;

@@ -1,5 +1,5 @@
 -- The computed multiple is the least one, and how `round_up` finds it.
-use Rattle.std.proofs.Common.{◌≡◌, ℕ, ◌+◌, ◌-◌, ◌*◌, ◌/◌, ◌%◌, ◌^◌, ◌<◌, ◌≤◌, ◌≢◌, inl, inr, refl, sym, ap, subst, arith, Option, Some, None, SomeIff, IfSome}
+use Rattle.std.proofs.Common.{◌≡◌, ℕ, ◌+◌, ◌-◌, ◌*◌, ◌/◌, ◌%◌, ◌^◌, ◌<◌, ◌≤◌, ◌≢◌, inl, inr, refl, sym, ap, subst, arith, Option, Some, None, SomeIff, IfSome, IsSome}
 use Rattle.std.proofs.Math.Nat.{mul-le-mul_right, mod-lt, le_antisymm}
 use Rattle.std.proofs.lemmas.Bool.{cases_lt, lt-ltb, le-ltb}
 use Rattle.std.proofs.lemmas.Nat.{div-add-mod', pow_pos}
@@ -83,3 +83,23 @@ past_is_least limit unit exponent value None e past cause = tt
 past_is_least limit unit exponent value (Some sum) e past cause =
     let some : 0 < unit = rw e (pow_pos exponent) in
     rw (← e) (subst (λ (n : ℕ). IsLeastMultiple unit value n) (sym cause.1) (is_least_past unit value _ some refl past))
+
+-- What `round_up` answers is less than one unit past the value.
+pub whole_near : (unit exponent value : ℕ) → unit ≡ 2 ^ exponent → value < value + 2 ^ exponent
+whole_near unit exponent value e = let some : 0 < 2 ^ exponent = pow_pos exponent in omega arith
+
+pub past_near : (limit unit exponent value : ℕ) (sum : Option ℕ) → unit ≡ 2 ^ exponent → (value % unit ≡ 0 → ⊥) → SomeIff sum (value + (unit - value % unit) < limit) (value + (unit - value % unit)) → IfSome sum (λ multiple. multiple < value + 2 ^ exponent)
+past_near limit unit exponent value None e past cause = tt
+past_near limit unit exponent value (Some sum) e past cause =
+    let some : 0 < unit = rw e (pow_pos exponent) in
+    let rest : value % unit < unit = mod-lt value some in
+    let same : sum ≡ value + (unit - value % unit) = cause.1 in
+    rw (← e) (omega arith)
+
+pub past_fits : (limit unit exponent value : ℕ) (sum : Option ℕ) → unit ≡ 2 ^ exponent → (value % unit ≡ 0 → ⊥) → SomeIff sum (value + (unit - value % unit) < limit) (value + (unit - value % unit)) → value + 2 ^ exponent ≤ limit → IsSome sum
+past_fits limit unit exponent value None e past cause room =
+    let some : 0 < unit = rw e (pow_pos exponent) in
+    let rest : value % unit < unit = mod-lt value some in
+    let room_of : value + unit ≤ limit = rw e room in
+    absurd (cause (omega arith))
+past_fits limit unit exponent value (Some sum) e past cause room = refl

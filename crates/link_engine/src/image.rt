@@ -1,0 +1,247 @@
+//! The image of an object: a header and load commands, the section of code, and zeros (`loader.h`).
+
+ghost use Rattle.std.specs.Prelude.{◌≡◌, ◌++◌, ◌+◌, ◌-◌, ◌≤◌, ◌<◌, ◌^◌, length, replicate, OnOk, IfOk};
+ghost use Rattle.mo_bytes.specs.Rounding.{least_multiple};
+ghost use Rattle.link_engine.specs.Image as image;
+ghost use Rattle.link_engine.specs.Image.{front, image_of, placement_of, zeros_to};
+ghost use Rattle.link_engine.specs.Object.{IsText};
+ghost use Rattle.link_engine.specs.Symbols.{IsWithin};
+
+use mo_bytes::round_up;
+use mo_format::{
+    BuildVersionCommand, DylinkerCommand, EntryPointCommand, MachHeader, SectionHeader,
+    SegmentCommand,
+};
+use mo_types::{Bytes, OutOfMemory, Section};
+use std::alloc::{AllocError, Global};
+
+/// Where the section lies in the image and in the file.
+#[derive(Clone, Copy, Debug, PartialEq, Eq)]
+pub struct Placement {
+    /// The section's distance from the start of `__TEXT`, in bytes.
+    pub text_offset: u64,
+    /// The bytes of `__TEXT`, in memory and in the file.
+    pub segment_size: u64,
+}
+
+const LC_SEGMENT_64: u32 = 0x19;
+
+const BASE: u64 = 0x1_0000_0000;
+
+const PAGE_EXPONENT: u8 = 14;
+
+const COMMANDS_SIZE: u32 = 376;
+
+const FRONT_SIZE: u64 = 440;
+
+const PAGEZERO_NAME: [u8; 16] = *b"__PAGEZERO\0\0\0\0\0\0";
+
+const TEXT_NAME: [u8; 16] = *b"__TEXT\0\0\0\0\0\0\0\0\0\0";
+
+const LINKEDIT_NAME: [u8; 16] = *b"__LINKEDIT\0\0\0\0\0\0";
+
+const TEXT_SECTION_NAME: [u8; 16] = *b"__text\0\0\0\0\0\0\0\0\0\0";
+
+const DYLINKER_PATH: &[u8] = b"/usr/lib/dyld\0\0\0\0\0\0\0";
+
+#[tactic(auto, using(crate::proofs::ImageLemmas::units))]
+fn rounded(value: u64, exponent: u8) -> u64
+    requires value { value < 2 ^ 32 }
+    requires exponent { exponent ≤ 14 }
+    ensures exact { result ≡ least_multiple (2 ^ exponent) value }
+    ensures enough { value ≤ result }
+    ensures near { result < value + 2 ^ 14 }
+{
+    round_up(value, exponent).unwrap()
+}
+
+#[tactic(auto, unfolding(crate::specs::Image::placement_of))]
+fn place(text: &Section) -> Placement
+    requires { IsText text.now }
+    ensures exact { result ≡ placement_of text.now }
+    ensures front { 440 ≤ result.text_offset }
+    ensures end { result.text_offset + text.now.size ≤ result.segment_size }
+    ensures offset { result.text_offset < 2 ^ 15 }
+    ensures size { result.segment_size < 2 ^ 27 }
+{
+    let text_offset = rounded(FRONT_SIZE, text.align);
+    Placement {
+        text_offset,
+        segment_size: rounded(text_offset + text.size, PAGE_EXPONENT),
+    }
+}
+
+fn image_header() -> MachHeader
+    ensures { result ≡ image.image_header }
+{
+    MachHeader {
+        magic: 0xfeed_facf,
+        cputype: 0x0100_000c,
+        cpusubtype: 0,
+        filetype: 2,
+        ncmds: 6,
+        sizeofcmds: COMMANDS_SIZE,
+        flags: 0x0020_0085,
+        reserved: 0,
+    }
+}
+
+fn page_zero() -> SegmentCommand
+    ensures { result ≡ image.page_zero }
+{
+    SegmentCommand {
+        cmd: LC_SEGMENT_64,
+        cmdsize: 72,
+        segname: PAGEZERO_NAME,
+        vmaddr: 0,
+        vmsize: BASE,
+        fileoff: 0,
+        filesize: 0,
+        maxprot: 0,
+        initprot: 0,
+        nsects: 0,
+        flags: 0,
+    }
+}
+
+fn text_segment(placement: &Placement) -> SegmentCommand
+    ensures { result ≡ image.text_segment placement.now }
+{
+    SegmentCommand {
+        cmd: LC_SEGMENT_64,
+        cmdsize: 152,
+        segname: TEXT_NAME,
+        vmaddr: BASE,
+        vmsize: placement.segment_size,
+        fileoff: 0,
+        filesize: placement.segment_size,
+        maxprot: 5,
+        initprot: 5,
+        nsects: 1,
+        flags: 0,
+    }
+}
+
+fn text_header(text: &Section, placement: &Placement) -> SectionHeader
+    requires { placement.now.text_offset < 2 ^ 15 }
+    ensures { result ≡ image.text_header text.now placement.now }
+{
+    SectionHeader {
+        sectname: TEXT_SECTION_NAME,
+        segname: TEXT_NAME,
+        addr: BASE + placement.text_offset,
+        size: text.size,
+        offset: placement.text_offset as u32,
+        align: u32::from(text.align),
+        reloff: 0,
+        nreloc: 0,
+        flags: text.attributes & 0x8000_0400,
+        reserved1: 0,
+        reserved2: 0,
+        reserved3: 0,
+    }
+}
+
+fn link_edit(placement: &Placement) -> SegmentCommand
+    requires { placement.now.segment_size < 2 ^ 27 }
+    ensures { result ≡ image.link_edit placement.now }
+{
+    SegmentCommand {
+        cmd: LC_SEGMENT_64,
+        cmdsize: 72,
+        segname: LINKEDIT_NAME,
+        vmaddr: BASE + placement.segment_size,
+        vmsize: 0,
+        fileoff: placement.segment_size,
+        filesize: 0,
+        maxprot: 1,
+        initprot: 1,
+        nsects: 0,
+        flags: 0,
+    }
+}
+
+fn dylinker() -> DylinkerCommand
+    ensures { result ≡ image.dylinker }
+{
+    DylinkerCommand {
+        cmd: 0xe,
+        cmdsize: 32,
+        name: 12,
+    }
+}
+
+fn build_version() -> BuildVersionCommand
+    ensures { result ≡ image.build_version }
+{
+    BuildVersionCommand {
+        cmd: 0x32,
+        cmdsize: 24,
+        platform: 1,
+        minos: 0x000b_0000,
+        sdk: 0x000b_0000,
+        ntools: 0,
+    }
+}
+
+fn entry_point(text: &Section, placement: &Placement, entry: u64) -> EntryPointCommand
+    requires offset { placement.now.text_offset < 2 ^ 15 }
+    requires within { IsWithin text.now.address text.now.size entry }
+    requires text { IsText text.now }
+    ensures { result ≡ image.entry_point text.now placement.now entry }
+{
+    EntryPointCommand {
+        cmd: 0x8000_0028,
+        cmdsize: 24,
+        entryoff: placement.text_offset + (entry - text.address),
+        stacksize: 0,
+    }
+}
+
+// Appends the header and the load commands.
+#[tactic(auto, unfolding(crate::specs::Image::front))]
+fn write_front(out: &mut Vec<u8>, text: &Section, placement: &Placement, entry: u64) -> Result<(), AllocError>
+    requires offset { placement.now.text_offset < 2 ^ 15 }
+    requires size { placement.now.segment_size < 2 ^ 27 }
+    requires within { IsWithin text.now.address text.now.size entry }
+    requires text { IsText text.now }
+    ensures bytes { OnOk result (out.new.items ≡ out.old.items ++ front text.now placement.now entry) }
+    ensures size { OnOk result (length out.new.items ≡ length out.old.items + 408) }
+{
+    image_header().write(out)?;
+    page_zero().write(out)?;
+    text_segment(placement).write(out)?;
+    text_header(text, placement).write(out)?;
+    link_edit(placement).write(out)?;
+    dylinker().write(out)?;
+    out.extend_from_slice(DYLINKER_PATH)?;
+    build_version().write(out)?;
+    entry_point(text, placement, entry).write(out)?;
+    Ok(())
+}
+
+// Appends zeros, up to a size in bytes.
+#[tactic(auto, using(crate::proofs::ImageLemmas::zeros))]
+fn pad(out: &mut Vec<u8>, size: usize) -> Result<(), AllocError>
+    requires { length out.old.items ≤ size }
+    ensures zeros { OnOk result (out.new.items ≡ zeros_to size out.old.items) }
+    ensures size { OnOk result (length out.new.items ≡ size) }
+{
+    out.resize(size, 0)
+}
+
+/// The image of a section whose entry has an address in the object.
+#[tactic(auto, unfolding(crate::specs::Image::image_of))]
+pub fn image(alloc: Global, text: &Section, entry: u64) -> Result<Bytes, OutOfMemory>
+    requires within { IsWithin text.now.address text.now.size entry }
+    requires text { IsText text.now }
+    ensures { IfOk result (λ image. image ≡ image_of text.now entry) }
+{
+    let placement = place(text);
+    let mut image = Vec::with_capacity(alloc, placement.segment_size as usize)?;
+    write_front(&mut image, text, &placement, entry)?;
+    pad(&mut image, placement.text_offset as usize)?;
+    image.extend_from_slice(text.bytes.as_slice())?;
+    pad(&mut image, placement.segment_size as usize)?;
+    Ok(Bytes::from_vec(image))
+}
