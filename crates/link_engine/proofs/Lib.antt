@@ -4,3 +4,4 @@ pub mod NameLemmas
 pub mod PlacedLemmas
 pub mod SymbolLemmas
 pub mod WordLemmas
+pub mod WritingLemmas

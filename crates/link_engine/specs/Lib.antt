@@ -7,3 +7,4 @@ pub mod Names
 pub mod Object
 pub mod Symbols
 pub mod Word
+pub mod Writing

@@ -12,3 +12,4 @@ mod names;
 mod object;
 mod symbols;
 mod words;
+mod write;
