@@ -1,3 +1,4 @@
 pub mod Answer
 pub mod Cause
 pub mod Gives
+pub mod Message
