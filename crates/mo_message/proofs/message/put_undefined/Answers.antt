@@ -12,7 +12,3 @@ line_with_file name (first ∷ others) some = refl
 pub returns-in-len1-up-clause-ok : goal.returns-in-len1-up-clause-ok
 returns-in-len1-up-clause-ok g c =
     rw (line_with_file c.args.name.now c.args.file.now c.in-len1-up.len_at_least) c.put_line_of_two.ensures.ok
-
-pub returns-in-len1-up-clause-err : goal.returns-in-len1-up-clause-err
-returns-in-len1-up-clause-err g c =
-    rw (line_with_file c.args.name.now c.args.file.now c.in-len1-up.len_at_least) c.put_line_of_two.ensures.err
