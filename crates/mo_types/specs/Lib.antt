@@ -1,4 +1,5 @@
 pub mod Answer
 pub mod Cause
 pub mod Gives
+pub mod Message
 pub mod Scan
