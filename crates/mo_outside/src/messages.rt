@@ -1,0 +1,69 @@
+ghost use Rattle.std.specs.Prelude.{◌≡◌, [], IfOk, IsOk, Some, option_and_then};
+ghost use Rattle.std.specs.Option.{option_copied};
+ghost use Rattle.mo_outside.specs.Room.{put_within};
+
+use crate::buffer::Buffer;
+use crate::traits::{Diag, Failed};
+use mo_types::OutOfMemory;
+use std::alloc::Global;
+use std::marker::Model;
+
+/// A place for messages in memory that never fails. It stops telling them at the first message that
+/// doesn't fit the rest of the room.
+#[derive(Drop)]
+pub struct SureDiag {
+    lines: Buffer,
+    is_telling: bool,
+}
+
+impl Model for SureDiag {
+    ghost use Rattle.std.specs.Prelude.{Some, None, if◌then◌else◌};
+    ghost use Rattle.mo_outside.specs.Memory.{SureMessages};
+
+    ghost Value = { SureMessages };
+
+    ghost view = { λ diag. record { lines = if diag.is_telling then Some diag.lines.bytes else None; room = diag.lines.room } };
+}
+
+impl SureDiag {
+    /// A place with room for so many bytes of messages, for which it takes the memory now.
+    pub fn new(alloc: Global, room: u64) -> Result<SureDiag, OutOfMemory>
+        ensures { IfOk result (λ diag. diag ≡ record { lines = Some []; room = room }) }
+    {
+        let lines = Buffer::new(alloc, room)?;
+        Ok(SureDiag {
+            lines,
+            is_telling: true,
+        })
+    }
+
+    /// The messages that were put, where it tells them.
+    pub fn lines(&self) -> Option<&[u8]>
+        ensures { option_copied result ≡ self.now.lines }
+    {
+        if self.is_telling {
+            Some(self.lines.as_slice())
+        } else {
+            None
+        }
+    }
+}
+
+impl Diag for SureDiag {
+    ghost lines = { λ diag. diag.lines };
+
+    ghost faults = { λ _. 0 };
+
+    fn put(&mut self, bytes: &[u8]) -> Result<(), Failed>
+        ensures sure { IsOk result }
+        ensures lines { self.new.lines ≡ option_and_then (put_within self.old.room bytes.now) self.old.lines }
+        ensures room { self.new.room ≡ self.old.room }
+    {
+        if self.is_telling && self.lines.fits(bytes) {
+            self.lines.append(bytes);
+        } else {
+            self.is_telling = false;
+        }
+        Ok(())
+    }
+}
