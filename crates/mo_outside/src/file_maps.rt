@@ -1,8 +1,10 @@
-ghost use Rattle.std.specs.Prelude.{◌≡◌, ◌≢◌, ◌≤◌, ◌^◌, [], AllPairs, IfOk, IfErr, length, if◌then◌else◌, Some, false};
+ghost use Rattle.std.specs.Prelude.{◌≡◌, ◌↔◌, IsErrOf, IsTrue, OnErr, ◌≢◌, ◌≤◌, ◌^◌, [], AllPairs, IfOk, IfErr, length, if◌then◌else◌, Some, false};
 ghost use Rattle.std.specs.Option.{option_copied};
-ghost use Rattle.mo_outside.specs.Files.{file_at, fetched};
-ghost use Rattle.mo_outside.specs.Memory.{files_of};
+ghost use Rattle.mo_outside.specs.Calls.{is_failing, counted};
+ghost use Rattle.mo_outside.specs.Files.{Fetches, file_at, fetched};
+ghost use Rattle.mo_outside.specs.Memory.{files_of, IsFilesOf};
 
+use crate::calls::{CallCount, CallList};
 use crate::traits::{FetchFault, Files};
 use mo_types::{Bytes, Items};
 use std::alloc::Global;
@@ -63,7 +65,8 @@ impl SureFiles {
     /// The files of the pairs, which takes no memory. Their paths are distinct.
     pub fn new(pairs: FileList) -> SureFiles
         requires { AllPairs (λ one other. one.0 ≢ other.0) pairs }
-        ensures { result ≡ pairs }
+        ensures holds { IsFilesOf pairs (files_of pairs) }
+        ensures starts { result ≡ pairs }
     {
         SureFiles { pairs }
     }
@@ -80,6 +83,65 @@ impl Files for SureFiles {
         path: &[u8],
         into: &mut Vec<u8>,
     ) -> Result<bool, FetchFault> {
+        fetch_from(self.pairs.as_slice(), path, into)
+    }
+}
+
+/// Files in memory, where some calls fail: those with the numbers that are to fail.
+#[derive(Drop)]
+pub struct MemFiles {
+    pairs: FileList,
+    calls: CallCount,
+}
+
+impl Model for MemFiles {
+    ghost use Rattle.mo_outside.specs.Memory.{MemoryFiles};
+
+    ghost Value = { MemoryFiles };
+
+    ghost view = { λ files. record { pairs = files.pairs; calls = files.calls } };
+}
+
+impl MemFiles {
+    /// The files of the pairs, which takes no memory. Their paths are distinct. The calls on it that are
+    /// to fail are given by their numbers, counted from 1.
+    pub fn new(pairs: FileList, failing: CallList) -> MemFiles
+        requires { AllPairs (λ one other. one.0 ≢ other.0) pairs }
+        ensures holds { IsFilesOf pairs (files_of pairs) }
+        ensures starts { result ≡ record { pairs = pairs; calls = record { failing = failing; made = 0; faults = 0 } } }
+    {
+        MemFiles {
+            pairs,
+            calls: CallCount::new(failing),
+        }
+    }
+
+    /// How many calls failed.
+    pub fn fault_count(&self) -> u64
+        ensures { result ≡ self.now.calls.faults }
+    {
+        self.calls.faults()
+    }
+}
+
+impl Files for MemFiles {
+    ghost holds = { λ files. Some (files_of files.pairs) };
+
+    ghost faults = { λ files. files.calls.faults };
+
+    fn fetch(&mut self, alloc: Global, path: &[u8], into: &mut Vec<u8>) -> Result<bool, FetchFault>
+        requires { into.old.items ≡ [] }
+        ensures failed { IsErrOf result FetchFault.Failed ↔ IsTrue (is_failing self.old.calls) }
+        ensures answer { IfOk result (λ there. Fetches (Some (files_of self.old.pairs)) path.now there into.new.items) }
+        ensures absent { result ≡ Ok false → into.new.items ≡ [] }
+        ensures size { length into.new.items ≤ 2 ^ 30 }
+        ensures err { OnErr result (into.new.items ≡ []) }
+        ensures calls { self.new ≡ record self.old { calls = counted (is_failing self.old.calls) self.old.calls } }
+        ensures faults { self.old.calls.faults ≤ self.new.calls.faults }
+    {
+        if self.calls.count(true).is_err() {
+            return Err(FetchFault::Failed);
+        }
         fetch_from(self.pairs.as_slice(), path, into)
     }
 }

@@ -13,8 +13,8 @@ mod outputs;
 mod traits;
 
 pub use calls::CallList;
-pub use file_maps::{FileList, SureFiles};
+pub use file_maps::{FileList, MemFiles, SureFiles};
 pub use gates::FreeGate;
-pub use messages::SureDiag;
-pub use outputs::SureOut;
+pub use messages::{MemDiag, SureDiag};
+pub use outputs::{MemOut, SureOut};
 pub use traits::{Diag, Failed, FetchFault, Files, Gate, Out};
