@@ -79,7 +79,7 @@ impl Files for SureFiles {
 
     fn fetch(
         &mut self,
-        alloc: Global,
+        _alloc: Global,
         path: &[u8],
         into: &mut Vec<u8>,
     ) -> Result<bool, FetchFault> {
@@ -129,7 +129,7 @@ impl Files for MemFiles {
 
     ghost faults = { λ files. files.calls.faults };
 
-    fn fetch(&mut self, alloc: Global, path: &[u8], into: &mut Vec<u8>) -> Result<bool, FetchFault>
+    fn fetch(&mut self, _alloc: Global, path: &[u8], into: &mut Vec<u8>) -> Result<bool, FetchFault>
         requires { into.old.items ≡ [] }
         ensures failed { IsErrOf result FetchFault.Failed ↔ IsTrue (is_failing self.old.calls) }
         ensures answer { IfOk result (λ there. Fetches (Some (files_of self.old.pairs)) path.now there into.new.items) }

@@ -18,3 +18,6 @@ pub use gates::FreeGate;
 pub use messages::{MemDiag, SureDiag};
 pub use outputs::{MemOut, SureOut};
 pub use traits::{Diag, Failed, FetchFault, Files, Gate, Out};
+
+#[cfg(test)]
+mod tests;
