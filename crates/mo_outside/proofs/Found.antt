@@ -31,11 +31,13 @@ first_bytes : (bytes : List ℕ) (limit : ℕ) → take (min (length bytes) limi
 first_bytes bytes limit = let turned : min (length bytes) limit ≡ min limit (length bytes) = omega arith in rw turned (take_min limit bytes)
 
 pub fetched_absent : (files : FileMap) (path : List ℕ) → None ≡ file_at files path → fetched files path ≡ None
+unfolding fetched
 fetched_absent files path absent = ap (option_map (take fetch_limit)) (sym absent)
 
 -- the first bytes of a file, up to the limit
 pub fetched_present : (files : FileMap) (path bytes : List ℕ) (count : ℕ) → Some bytes ≡ file_at files path
     → count ≡ min (length bytes) fetch_limit → fetched files path ≡ Some (take count bytes)
+unfolding fetched
 fetched_present files path bytes count present counts =
     ap (option_map (take fetch_limit)) (sym present) ∙ ap Some (sym (ap (λ n. take n bytes) counts ∙ first_bytes bytes fetch_limit))
 
