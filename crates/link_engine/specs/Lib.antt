@@ -6,5 +6,6 @@ pub mod Input
 pub mod Names
 pub mod Object
 pub mod Symbols
+pub mod Verdict
 pub mod Word
 pub mod Writing

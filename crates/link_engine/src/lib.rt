@@ -10,6 +10,7 @@ mod form;
 mod image;
 mod names;
 mod object;
+mod plan;
 mod symbols;
 mod words;
 mod write;

@@ -1,0 +1,44 @@
+//! All steps before writing.
+
+ghost use Rattle.std.specs.Prelude.{◌≡◌, ◌≤◌, ℕ, List, IfErr, IfSome};
+ghost use Rattle.mo_outside.specs.Faults.{Rises};
+ghost use Rattle.mo_types.specs.Answer.{IsDetermined};
+ghost use Rattle.mo_types.specs.Gives.{Gives};
+ghost use Rattle.mo_types.specs.declared.answer.Status.TheVariants.{ReadFault, Usage};
+ghost use Rattle.mo_types.specs.declared.cause.UsageRule.{UsageRule};
+ghost use Rattle.link_engine.specs.Command.{command_of};
+ghost use Rattle.link_engine.specs.Verdict.{verdict};
+
+use crate::entry::entry_of;
+use crate::fetch::fetch;
+use crate::image::image;
+use crate::object::read;
+use crate::words::read_words;
+use mo_outside::Files;
+use mo_types::{ArgList, Bytes, Status};
+use std::alloc::Global;
+
+/// What a link writes.
+#[derive(Debug, Drop)]
+pub struct Plan {
+    pub path: Bytes,
+    pub image: Bytes,
+}
+
+/// What is to be written for the words and the files, or why nothing is.
+#[tactic(auto, unfolding(crate::specs::Verdict::verdict))]
+pub fn make_plan<F: Files>(alloc: Global, words: &ArgList, files: &mut F) -> Result<Plan, Status>
+    ensures holds { F.holds files.new ≡ F.holds files.old }
+    ensures faults { F.faults files.old ≤ F.faults files.new }
+    ensures exact { IfSome (F.holds files.old) (λ held. Gives IsDetermined result (verdict words.now held)) }
+{
+    let command = read_words(alloc, words)?;
+    let bytes = fetch(alloc, files, &command)?;
+    let object = read(alloc, &command, bytes.as_slice())?;
+    let entry = entry_of(alloc, &object)?;
+    let image = image(alloc, &object.text, entry)?;
+    Ok(Plan {
+        path: command.output,
+        image,
+    })
+}
