@@ -5,6 +5,7 @@ pub mod Image
 pub mod Input
 pub mod Names
 pub mod Object
+pub mod Steps
 pub mod Symbols
 pub mod Verdict
 pub mod Word

@@ -1,11 +1,12 @@
 //! The input's bytes.
 
-ghost use Rattle.std.specs.Prelude.{◌≡◌, ◌≤◌, List, ℕ, IfSome};
+ghost use Rattle.std.specs.Prelude.{◌≡◌, ◌≤◌, List, ℕ, IfErr, IfSome};
 ghost use Rattle.mo_outside.specs.Faults.{Rises};
 ghost use Rattle.mo_types.specs.Answer.{IsDetermined};
 ghost use Rattle.mo_types.specs.Gives.{Gives};
 ghost use Rattle.mo_types.specs.declared.answer.Status.TheVariants.{ReadFault};
 ghost use Rattle.link_engine.specs.Input.{input_of};
+ghost use Rattle.link_engine.specs.Steps.{IsFileStop};
 
 use crate::words::Command;
 use mo_outside::{FetchFault, Files};
@@ -17,6 +18,7 @@ pub fn fetch<F: Files>(alloc: Global, files: &mut F, command: &Command) -> Resul
     ensures holds { F.holds files.new ≡ F.holds files.old }
     ensures faults { F.faults files.old ≤ F.faults files.new }
     ensures exact { IfSome (F.holds files.old) (λ held. Gives IsDetermined result (input_of held command.now)) }
+    ensures kind { IfErr result IsFileStop }
     ensures read_fault { (path : List ℕ) → result ≡ Err (ReadFault path) → (path ≡ command.now.input) × Rises (F.faults files.old) (F.faults files.new) }
 {
     let mut bytes = Vec::new(alloc);

@@ -1,11 +1,12 @@
 //! An object of the linked form.
 
-ghost use Rattle.std.specs.Prelude.{◌≡◌, length, IfOk};
+ghost use Rattle.std.specs.Prelude.{◌≡◌, length, IfErr, IfOk};
 ghost use Rattle.mo_types.specs.Gives.{Gives};
 ghost use Rattle.mo_types.specs.Answer.{IsDetermined};
 ghost use Rattle.link_engine.specs.Form.{IsFormFault, IsFrame};
 ghost use Rattle.link_engine.specs.Object as object;
 ghost use Rattle.link_engine.specs.Object.{IsLinkable, IsText};
+ghost use Rattle.link_engine.specs.Steps.{IsRefusal};
 
 use crate::form::{FormFault, Frame, frame_of, name_text};
 use crate::names::are_distinct;
@@ -67,6 +68,7 @@ fn object_of(alloc: Global, bytes: &[u8]) -> Result<TextObject, FormFault>
 #[tactic(auto, unfolding(crate::specs::Object::read))]
 pub fn read(alloc: Global, command: &Command, bytes: &[u8]) -> Result<TextObject, Status>
     ensures exact { Gives IsDetermined result (object.read command.now bytes.now) }
+    ensures kind { IfErr result IsRefusal }
     ensures linkable { IfOk result IsLinkable }
 {
     match object_of(alloc, bytes) {

@@ -1,12 +1,13 @@
 //! All steps before writing.
 
-ghost use Rattle.std.specs.Prelude.{◌≡◌, ◌≤◌, ℕ, List, IfErr, IfSome};
+ghost use Rattle.std.specs.Prelude.{◌≡◌, ◌≤◌, ℕ, List, ◌⊎◌, IfErr, IfOk, IfSome};
 ghost use Rattle.mo_outside.specs.Faults.{Rises};
 ghost use Rattle.mo_types.specs.Answer.{IsDetermined};
 ghost use Rattle.mo_types.specs.Gives.{Gives};
-ghost use Rattle.mo_types.specs.declared.answer.Status.TheVariants.{ReadFault, Usage};
+ghost use Rattle.mo_types.specs.declared.answer.Status.TheVariants.{OutOfMemory, ReadFault, Usage};
 ghost use Rattle.mo_types.specs.declared.cause.UsageRule.{UsageRule};
 ghost use Rattle.link_engine.specs.Command.{command_of};
+ghost use Rattle.link_engine.specs.Steps.{IsInput, IsStop};
 ghost use Rattle.link_engine.specs.Verdict.{verdict};
 
 use crate::entry::entry_of;
@@ -30,6 +31,11 @@ pub struct Plan {
 pub fn make_plan<F: Files>(alloc: Global, words: &ArgList, files: &mut F) -> Result<Plan, Status>
     ensures holds { F.holds files.new ≡ F.holds files.old }
     ensures faults { F.faults files.old ≤ F.faults files.new }
+    ensures kind { IfErr result IsStop }
+    ensures usage { (word : ℕ) (rule : UsageRule) → result ≡ Err (Usage word rule) → command_of words.now ≡ Err (Usage word rule) }
+    ensures misused { IfErr (command_of words.now) (λ fault. (result ≡ Err fault) ⊎ (result ≡ Err OutOfMemory)) }
+    ensures read_fault { (path : List ℕ) → result ≡ Err (ReadFault path) → IsInput words.now path × Rises (F.faults files.old) (F.faults files.new) }
+    ensures output { IfOk result (λ plan. IfOk (command_of words.now) (λ command. plan.path ≡ command.output)) }
     ensures exact { IfSome (F.holds files.old) (λ held. Gives IsDetermined result (verdict words.now held)) }
 {
     let command = read_words(alloc, words)?;

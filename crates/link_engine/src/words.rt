@@ -1,8 +1,9 @@
-ghost use Rattle.std.specs.Prelude.{◌≡◌, ◌+◌};
+ghost use Rattle.std.specs.Prelude.{◌≡◌, ◌+◌, IfErr};
 ghost use Rattle.mo_types.specs.Gives.{Gives};
 ghost use Rattle.mo_types.specs.Answer.{IsDetermined};
 ghost use Rattle.mo_types.specs.declared.answer.Status.TheVariants.{Usage};
 ghost use Rattle.link_engine.specs.Command.{command_of};
+ghost use Rattle.link_engine.specs.Steps.{IsWordsStop};
 ghost use Rattle.link_engine.specs.Word as word_tests;
 
 use mo_types::{Arg, ArgList, Bytes, Status, UsageRule};
@@ -45,14 +46,16 @@ fn usage(word: usize, rule: UsageRule) -> Status
 /// Reads the words of a command line after the program's name: a path, and perhaps `-o` with a path, as
 /// ld(1) has them. The fault of the least word decides.
 pub fn read_words(alloc: Global, words: &ArgList) -> Result<Command, Status>
-    ensures { Gives IsDetermined result (command_of words.now) }
+    ensures exact { Gives IsDetermined result (command_of words.now) }
+    ensures kind { IfErr result IsWordsStop }
 {
     read_each(alloc, words.as_slice())
 }
 
 #[tactic(auto, using(crate::proofs::WordLemmas::readings))]
 fn read_each(alloc: Global, words: &[Arg]) -> Result<Command, Status>
-    ensures { Gives IsDetermined result (command_of words.now) }
+    ensures exact { Gives IsDetermined result (command_of words.now) }
+    ensures kind { IfErr result IsWordsStop }
 {
     let mut input: Option<&[u8]> = None;
     let mut output: Option<&[u8]> = None;

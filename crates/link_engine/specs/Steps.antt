@@ -1,0 +1,37 @@
+-- Which answers a step before writing may give.
+use Rattle.std.specs.Prelude.{ℕ, ◌≡◌, List, Result, Ok}
+use Rattle.mo_types.specs.declared.answer.Status.{Status}
+use Rattle.mo_types.specs.declared.answer.Status.TheVariants.{Done, Usage, ReadFault, Refused, WriteFault, OutOfMemory}
+use Rattle.link_engine.specs.declared.words.Command.{Command}
+use Rattle.link_engine.specs.Command.{command_of}
+
+-- the words are at fault, or memory ran out
+abbrev pub IsWordsStop : Status → Type 0
+IsWordsStop (Usage _ _) = Unit {0}
+IsWordsStop OutOfMemory = Unit {0}
+IsWordsStop _ = ⊥
+
+-- a file isn't read, or memory ran out
+abbrev pub IsFileStop : Status → Type 0
+IsFileStop (ReadFault _) = Unit {0}
+IsFileStop (Refused _) = Unit {0}
+IsFileStop OutOfMemory = Unit {0}
+IsFileStop _ = ⊥
+
+-- the inputs are refused, or memory ran out
+abbrev pub IsRefusal : Status → Type 0
+IsRefusal (Refused _) = Unit {0}
+IsRefusal OutOfMemory = Unit {0}
+IsRefusal _ = ⊥
+
+-- an answer that is given before anything is written
+abbrev pub IsStop : Status → Type 0
+IsStop Done = ⊥
+IsStop WriteFault = ⊥
+IsStop _ = Unit {0}
+
+-- the path is that of the command's input
+pub record IsInput (words : List (List ℕ)) (path : List ℕ) : Type 0 where
+  pub command : Command
+  pub read : command_of words ≡ Ok command
+  pub input : path ≡ command.input
