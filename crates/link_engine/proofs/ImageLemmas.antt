@@ -45,7 +45,7 @@ unfolding image_of
 whole_image text entry placement i0 i1 i2 i3 i4 at e0 e1 e2 e3 e4 =
     let front_is : i1 ≡ front text placement entry = e1 ∙ ap (λ xs. xs ++ front text placement entry) e0 in
     let filled : i3 ≡ zeros_to placement.text_offset (front text placement entry) ++ text.bytes =
-        e3 ∙ ap (λ xs. xs ++ text.bytes) (e2 ∙ ap (zeros_to placement.text_offset) front_is) in
+    e3 ∙ ap (λ xs. xs ++ text.bytes) (e2 ∙ ap (zeros_to placement.text_offset) front_is) in
     let built : i4 ≡ zeros_to placement.segment_size (zeros_to placement.text_offset (front text placement entry) ++ text.bytes) =
-        e4 ∙ ap (zeros_to placement.segment_size) filled in
+    e4 ∙ ap (zeros_to placement.segment_size) filled in
     built ∙ ap (λ (p : Placement). zeros_to p.segment_size (zeros_to p.text_offset (front text p entry) ++ text.bytes)) at

@@ -1,5 +1,6 @@
 pub mod FormLemmas
 pub mod ImageLemmas
+pub mod LinkLemmas
 pub mod NameLemmas
 pub mod PlacedLemmas
 pub mod SymbolLemmas

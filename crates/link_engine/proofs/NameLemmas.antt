@@ -1,5 +1,5 @@
 -- Names are distinct where each is new among those before it.
-use Rattle.std.proofs.Common.{◌≡◌, ℕ, ◌+◌, ◌<◌, ◌≤◌, ◌++◌, ◌∷◌, [], ◌&&◌, ◌||◌, List, length, drop, get_or, Bool, true, false, not, cond, if◌then◌else◌, refl, sym, ap, ◌∙◌, subst, arith, add-one, drop-cons}
+use Rattle.std.proofs.Common.{◌≡◌, ℕ, ◌+◌, ◌<◌, ◌≤◌, ◌∷◌, [], ◌&&◌, ◌||◌, List, length, drop, get_or, Bool, true, false, not, if◌then◌else◌, refl, sym, ap, ◌∙◌, add-one, drop-cons}
 use Rattle.std.specs.Borrow.{Bor}
 use Rattle.std.specs.List.{list_any, list_all}
 use Rattle.std.specs.Str.{bytes_eq}
@@ -83,9 +83,9 @@ scan_adds symbols at seen with_name symbol new scanned within is external answer
     let absent : has_name seen symbol.name ≡ false = true_not (has_name seen symbol.name) (sym answer ∙ is_new) in
     record {
       same =
-        sym (name_added (has_name seen) (has_name with_name) symbol.name (external_names (drop (at + 1) symbols)) absent with)
-        ∙ sym (ap (rest_distinct (has_name seen)) (names_from symbols at symbol within is external))
-        ∙ scanned.same
+          sym (name_added (has_name seen) (has_name with_name) symbol.name (external_names (drop (at + 1) symbols)) absent with)
+          ∙ sym (ap (rest_distinct (has_name seen)) (names_from symbols at symbol within is external))
+          ∙ scanned.same;
     }
 
 pub scan_stops : (symbols : List Symbol) (at : ℕ) (seen : List (Bor (List ℕ))) (symbol : Symbol) (new : Bool) → IsScanned symbols at seen → at < length symbols → symbol ≡ get_or symbols at symbol → symbol.external ≡ true → new ≡ not (has_name seen symbol.name) → new ≡ false → false ≡ are_distinct (external_names symbols)

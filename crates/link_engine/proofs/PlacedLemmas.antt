@@ -1,6 +1,5 @@
 -- Definitions lie in their section.
-use Rattle.std.proofs.Common.{◌≡◌, ℕ, ◌+◌, ◌≤◌, ◌++◌, ◌∷◌, [], List, Bool, true, false, Option, Some, None, if◌then◌else◌, sym, subst}
-use Rattle.std.specs.List.{AllByRecursion}
+use Rattle.std.proofs.Common.{◌≡◌, ℕ, ◌++◌, ◌∷◌, [], List, Bool, true, false, Option, Some, None, if◌then◌else◌, subst}
 use Rattle.mo_types.specs.Scan.{first_some, option_or_else}
 use Rattle.mo_types.specs.declared.object.Symbol.{Symbol}
 use Rattle.mo_types.specs.declared.object.SymbolKind.{SymbolKind}

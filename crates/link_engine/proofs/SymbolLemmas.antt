@@ -1,8 +1,6 @@
 -- The strings of symbols' names.
-use Rattle.std.proofs.Common.{◌≡◌, ℕ, ◌<◌, List, [], length, drop, Option, Some, None, Result, Ok, Err, sym, ap, ◌∙◌, arith}
+use Rattle.std.proofs.Common.{◌≡◌, ℕ, ◌<◌, List, [], length, drop, None, Err, sym, ap, ◌∙◌, arith}
 use Rattle.std.proofs.lemmas.List.{drop_all}
-use Rattle.memchr.specs.Find.{IsFirstByte, is_byte, places, first_of}
-use Rattle.link_engine.specs.declared.form.FormFault.{FormFault}
 use Rattle.link_engine.specs.declared.form.FormFault.TheVariants.{NotOfForm}
 use Rattle.link_engine.specs.Form.{first_nul}
 use Rattle.link_engine.specs.Symbols.{ended, string_at}

@@ -1,14 +1,14 @@
 -- The words of a command line, read one group at a time.
-use Rattle.std.proofs.Common.{◌≡◌, ℕ, zero, suc, ◌+◌, ◌-◌, ◌<◌, ◌≤◌, ◌++◌, ◌∷◌, [], List, length, drop, get_or, Bool, true, false, cond, Option, Some, None, is_some, unwrap_or, Result, Ok, Err, refl, sym, ap, ◌∙◌, subst, arith, add-one, drop-cons, append-nil}
+use Rattle.std.proofs.Common.{◌≡◌, ℕ, ◌+◌, ◌<◌, ◌≤◌, ◌++◌, ◌∷◌, [], List, length, drop, get_or, true, false, Option, Some, None, is_some, unwrap_or, Result, Err, refl, sym, ap, ◌∙◌, subst, arith, add-one, drop-cons, append-nil}
 use Rattle.std.proofs.Math.Seq.{drop-length}
 use Rattle.std.proofs.lemmas.List.{drop_all}
 use Rattle.std.specs.Prelude.{option_to_list}
 use Rattle.mo_types.specs.declared.answer.Status.{Status}
 use Rattle.mo_types.specs.declared.answer.Status.TheVariants.{Usage}
-use Rattle.mo_types.specs.declared.cause.UsageRule.TheVariants.{Unknown, NoValue, NoInput}
+use Rattle.mo_types.specs.declared.cause.UsageRule.TheVariants.{Unknown, NoValue}
 use Rattle.link_engine.specs.declared.words.Command.{Command}
 use Rattle.link_engine.specs.Word.{has_nul, is_path}
-use Rattle.link_engine.specs.Command.{Group, Path, Output, Bare, Other, is_output, lone_word, groups, first_fault, inputs, output_or, made, default_output, command_of}
+use Rattle.link_engine.specs.Command.{Output, Bare, is_output, lone_word, groups, first_fault, inputs, output_or, made, default_output, command_of}
 
 -- what is read where the words from the one of number `word` on are left, and an input and an output were found
 abbrev pub reading : ℕ → Option (List ℕ) → Option (List ℕ) → List (List ℕ) → Result Command Status
@@ -64,13 +64,13 @@ from_two words at word value within is_word is_value =
 pub goes_past_value : (words : List (List ℕ)) (at : ℕ) (input output : Option (List ℕ)) (word value : List ℕ) → Reads words at input output → at + 1 < length words → word ≡ get_or words at word → value ≡ get_or words (at + 1) value → is_output word ≡ true → has_nul value ≡ false → Reads words (at + 2) input (Some value)
 goes_past_value words at input output word value reads within is_word is_value option clean =
     let e : reading (at + 1) input output (drop at words) ≡ reading (at + 1 + 2) input (Some value) (drop (at + 2) words) =
-        ap (reading (at + 1) input output) (from_two words at word value within is_word is_value) ∙ value_read (at + 1) input output word value (drop (at + 2) words) option clean in
+    ap (reading (at + 1) input output) (from_two words at word value within is_word is_value) ∙ value_read (at + 1) input output word value (drop (at + 2) words) option clean in
     record { same = subst (λ (n : ℕ). reading n input (Some value) (drop (at + 2) words) ≡ command_of words) (omega arith) (sym e ∙ reads.same) }
 
 pub goes_past_path : (words : List (List ℕ)) (at : ℕ) (output : Option (List ℕ)) (word : List ℕ) → Reads words at None output → at < length words → word ≡ get_or words at word → is_output word ≡ false → is_path word ≡ true → Reads words (at + 1) (Some word) output
 goes_past_path words at output word reads within is_word plain path =
     let e : reading (at + 1) None output (drop at words) ≡ reading (at + 1 + 1) (Some word) output (drop (at + 1) words) =
-        ap (reading (at + 1) None output) (from_word words at word within is_word) ∙ path_read (at + 1) output word (drop (at + 1) words) plain path in
+    ap (reading (at + 1) None output) (from_word words at word within is_word) ∙ path_read (at + 1) output word (drop (at + 1) words) plain path in
     record { same = sym e ∙ reads.same }
 
 pub stops_bare : (words : List (List ℕ)) (at : ℕ) (input output : Option (List ℕ)) (word : List ℕ) → Reads words at input output → at + 1 ≡ length words → word ≡ get_or words at word → is_output word ≡ true → command_of words ≡ Err (Usage (at + 1) NoValue)

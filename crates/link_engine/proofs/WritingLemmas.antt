@@ -1,5 +1,5 @@
 -- Pieces that are written one after the other.
-use Rattle.std.proofs.Common.{◌≡◌, ℕ, ◌+◌, ◌≤◌, ◌++◌, ◌∷◌, [], List, length, take, drop, Bool, true, false, Option, Some, None, Result, Ok, Err, OnErr, inl, inr, refl, sym, ap, ◌∙◌, subst, arith, append_assoc, ◌-◌, length-drop}
+use Rattle.std.proofs.Common.{◌≡◌, ℕ, ◌+◌, ◌≤◌, ◌++◌, ◌∷◌, [], List, length, take, drop, true, false, Option, Some, None, Result, Ok, Err, OnErr, inl, inr, refl, sym, ap, ◌∙◌, subst, arith, append_assoc, ◌-◌, length-drop}
 use Rattle.std.proofs.Math.Nat.{le_refl}
 use Rattle.std.proofs.Math.Seq.{take-add, take-length}
 use Rattle.std.proofs.lemmas.List.{append-nil}
@@ -55,12 +55,12 @@ starts bytes (Some files) = nothing_taken bytes files
 
 taken_more : (bytes piece : List ℕ) (at count : ℕ) → piece ≡ drop at bytes → (a b c : List Written) → Takes bytes at a b → Takes piece count b c → Takes bytes (at + count) a c
 taken_more bytes piece at count is a b c before now = record {
-    taken =
+  taken =
       now.taken
       ∙ ap (λ (p : List ℕ). at_last (with_more (take count p)) b) is
       ∙ ap (at_last (with_more (take count (drop at bytes)))) before.taken
       ∙ at_last-at_last (with_more (take count (drop at bytes))) (with_more (take at bytes)) (with_more (take (at + count) bytes)) (more-more bytes at count) a;
-  }
+}
 
 pub goes_on : (bytes piece : List ℕ) (at count : ℕ) (x y z : Option (List Written)) → Tells (Takes bytes at) x y → Tells (Takes piece count) y z → piece ≡ drop at bytes → Tells (Takes bytes (at + count)) x z
 goes_on bytes piece at count x y z before now is =
@@ -68,13 +68,13 @@ goes_on bytes piece at count x y z before now is =
 
 taken_some : (bytes piece : List ℕ) (at : ℕ) → piece ≡ drop at bytes → at ≤ length bytes → (a b c : List Written) → Takes bytes at a b → TakesSome piece b c → TakesSome bytes a c
 taken_some bytes piece at is within a b c before now = record {
-    count = at + now.count;
-    within =
+  count = at + now.count;
+  within =
       let rest : length piece ≡ length bytes - at = ap length is ∙ length-drop at bytes in
       let some : now.count ≤ length piece = now.within in
       omega arith;
-    taken = (taken_more bytes piece at now.count is a b c before (record { taken = now.taken })).taken;
-  }
+  taken = (taken_more bytes piece at now.count is a b c before (record { taken = now.taken })).taken;
+}
 
 pub stops : (bytes piece : List ℕ) (at : ℕ) (x y z : Option (List Written)) → Tells (Takes bytes at) x y → Tells (TakesSome piece) y z → piece ≡ drop at bytes → at ≤ length bytes → Tells (TakesSome bytes) x z
 stops bytes piece at x y z before now is within =
@@ -89,8 +89,8 @@ pub ruleset pieces = (starts, goes_on, stops, ends)
 
 begun : (path image : List ℕ) (count : ℕ) (a b c : List Written) → Begins path a b → Takes image count b c → Grows path (take count image) false a c
 begun path image count a b c begins takes = record {
-    grown = takes.taken ∙ ap (at_last (with_more (take count image))) begins.begun ∙ at_last-append (with_more (take count image)) a _;
-  }
+  grown = takes.taken ∙ ap (at_last (with_more (take count image))) begins.begun ∙ at_last-append (with_more (take count image)) a _;
+}
 
 written : (path image : List ℕ) (a b c d : List Written) → Begins path a b → Takes image (length image) b c → Finishes c d → WritesWhole path image a d
 written path image a b c d begins takes finishes =
@@ -98,10 +98,10 @@ written path image a b c d begins takes finishes =
     let whole : take (length image) image ≡ image = take-length image in
     record {
       grown =
-        finishes.done
-        ∙ ap (at_last finished) part.grown
-        ∙ at_last-append finished a _
-        ∙ ap (λ (bytes : List ℕ). a ++ record { path = path; bytes = bytes; done = true } ∷ []) whole;
+          finishes.done
+          ∙ ap (at_last finished) part.grown
+          ∙ at_last-append finished a _
+          ∙ ap (λ (bytes : List ℕ). a ++ record { path = path; bytes = bytes; done = true } ∷ []) whole;
     }
 
 pub whole_written : (path image : List ℕ) (w x y z : Option (List Written)) → Tells (Begins path) w x → Tells (Takes image (length image)) x y → Tells Finishes y z → Tells (WritesWhole path image) w z
@@ -123,7 +123,7 @@ part_written path image x y z begins takes =
 pub not_finished : (path image : List ℕ) (w x y z : Option (List Written)) → Tells (Begins path) w x → Tells (Takes image (length image)) x y → Tells Stays y z → Tells (WritesPart path image) w z
 not_finished path image w x y z begins takes stays =
     let both : Tells (Grows path (take (length image) image) false) w y =
-        tells_both (Begins path) (Takes image (length image)) (Grows path (take (length image) image) false) (begun path image (length image)) w x y begins takes in
+    tells_both (Begins path) (Takes image (length image)) (Grows path (take (length image) image) false) (begun path image (length image)) w x y begins takes in
     tells_both (Grows path (take (length image) image) false) Stays (WritesPart path image)
     (λ a b c grows same. record { part = inr (length image, le_refl (length image), record { grown = same.same ∙ grows.grown }) })
     w y z both stays

@@ -1,5 +1,5 @@
 -- The command that the words of a command line make, or the fault of the least word (ld(1)).
-use Rattle.std.specs.Prelude.{ℕ, ◌+◌, ◌++◌, Bool, true, false, ◌||◌, List, [], ◌∷◌, codes, Option, None, Some, unwrap_or, Result, Ok, Err, if◌then◌else◌}
+use Rattle.std.specs.Prelude.{ℕ, ◌+◌, Bool, true, false, List, [], ◌∷◌, codes, Option, None, Some, Result, Ok, Err, if◌then◌else◌}
 use Rattle.std.specs.Str.{bytes_eq}
 use Rattle.mo_types.specs.declared.answer.Status.{Status}
 use Rattle.mo_types.specs.declared.answer.Status.TheVariants.{Usage}

@@ -1,6 +1,6 @@
 -- The form of the objects that are linked (`loader.h`): a header of 32 bytes, a segment with one section,
 -- which is code, and a symbol table.
-use Rattle.std.specs.Prelude.{ℕ, ◌+◌, ◌-◌, ◌*◌, ◌^◌, ◌≤◌, ◌<◌, ◌==◌, ◌&&◌, Bool, not, nat_le, nat_lt, bit_and, List, length, take, codes, Option, Result}
+use Rattle.std.specs.Prelude.{ℕ, ◌+◌, ◌-◌, ◌*◌, ◌^◌, ◌≤◌, ◌<◌, ◌==◌, ◌&&◌, Bool, nat_le, nat_lt, bit_and, List, length, take, codes, Option, Result}
 use Rattle.std.specs.Option.{option_map_or}
 use Rattle.std.specs.Str.{bytes_eq}
 use Rattle.memchr.specs.Find.{is_byte, places, first_of}
@@ -61,11 +61,11 @@ lies_within size frame =
 -- the structures that stand at the front of a file
 abbrev pub frame_at : List ℕ → Frame
 frame_at bytes = record {
-    header = mach_header_at bytes 0;
-    segment = segment_command_at bytes 32;
-    text = section_header_at bytes 104;
-    symtab = symtab_command_at bytes 184;
-  }
+  header = mach_header_at bytes 0;
+  segment = segment_command_at bytes 32;
+  text = section_header_at bytes 104;
+  symtab = symtab_command_at bytes 184;
+}
 
 abbrev pub is_frame : ℕ → Frame → Bool
 is_frame size frame =

@@ -31,9 +31,9 @@ front_size = 32 + commands_size + 32
 -- the section at its least place, and the end of `__TEXT` in the image and in the file
 unfoldable pub placement_of : Section → Placement
 placement_of text = record {
-    text_offset = least_multiple (2 ^ text.align) front_size;
-    segment_size = least_multiple page (least_multiple (2 ^ text.align) front_size + text.size);
-  }
+  text_offset = least_multiple (2 ^ text.align) front_size;
+  segment_size = least_multiple page (least_multiple (2 ^ text.align) front_size + text.size);
+}
 
 -- a name of 16 bytes, with zeros after it
 abbrev pub name_field : List ℕ → List ℕ
@@ -41,77 +41,77 @@ name_field name = name ++ replicate (16 - length name) 0
 
 abbrev pub image_header : MachHeader
 image_header = record {
-    magic = 0xfeedfacf;
-    cputype = 0x0100000c;
-    cpusubtype = 0;
-    filetype = 2;
-    ncmds = 6;
-    sizeofcmds = commands_size;
-    flags = 0x200085;
-    reserved = 0;
-  }
+  magic = 0xfeedfacf;
+  cputype = 0x0100000c;
+  cpusubtype = 0;
+  filetype = 2;
+  ncmds = 6;
+  sizeofcmds = commands_size;
+  flags = 0x200085;
+  reserved = 0;
+}
 
 abbrev pub page_zero : SegmentCommand
 page_zero = record {
-    cmd = 0x19;
-    cmdsize = 72;
-    segname = name_field (codes "__PAGEZERO");
-    vmaddr = 0;
-    vmsize = base;
-    fileoff = 0;
-    filesize = 0;
-    maxprot = 0;
-    initprot = 0;
-    nsects = 0;
-    flags = 0;
-  }
+  cmd = 0x19;
+  cmdsize = 72;
+  segname = name_field (codes "__PAGEZERO");
+  vmaddr = 0;
+  vmsize = base;
+  fileoff = 0;
+  filesize = 0;
+  maxprot = 0;
+  initprot = 0;
+  nsects = 0;
+  flags = 0;
+}
 
 abbrev pub text_segment : Placement → SegmentCommand
 text_segment placement = record {
-    cmd = 0x19;
-    cmdsize = 152;
-    segname = name_field (codes "__TEXT");
-    vmaddr = base;
-    vmsize = placement.segment_size;
-    fileoff = 0;
-    filesize = placement.segment_size;
-    maxprot = 5;
-    initprot = 5;
-    nsects = 1;
-    flags = 0;
-  }
+  cmd = 0x19;
+  cmdsize = 152;
+  segname = name_field (codes "__TEXT");
+  vmaddr = base;
+  vmsize = placement.segment_size;
+  fileoff = 0;
+  filesize = placement.segment_size;
+  maxprot = 5;
+  initprot = 5;
+  nsects = 1;
+  flags = 0;
+}
 
 -- the attributes that an image keeps are those of code (S_ATTR_PURE_INSTRUCTIONS and S_ATTR_SOME_INSTRUCTIONS)
 abbrev pub text_header : Section → Placement → SectionHeader
 text_header text placement = record {
-    sectname = name_field (codes "__text");
-    segname = name_field (codes "__TEXT");
-    addr = base + placement.text_offset;
-    size = text.size;
-    offset = placement.text_offset;
-    align = text.align;
-    reloff = 0;
-    nreloc = 0;
-    flags = bit_and text.attributes 0x80000400;
-    reserved1 = 0;
-    reserved2 = 0;
-    reserved3 = 0;
-  }
+  sectname = name_field (codes "__text");
+  segname = name_field (codes "__TEXT");
+  addr = base + placement.text_offset;
+  size = text.size;
+  offset = placement.text_offset;
+  align = text.align;
+  reloff = 0;
+  nreloc = 0;
+  flags = bit_and text.attributes 0x80000400;
+  reserved1 = 0;
+  reserved2 = 0;
+  reserved3 = 0;
+}
 
 abbrev pub link_edit : Placement → SegmentCommand
 link_edit placement = record {
-    cmd = 0x19;
-    cmdsize = 72;
-    segname = name_field (codes "__LINKEDIT");
-    vmaddr = base + placement.segment_size;
-    vmsize = 0;
-    fileoff = placement.segment_size;
-    filesize = 0;
-    maxprot = 1;
-    initprot = 1;
-    nsects = 0;
-    flags = 0;
-  }
+  cmd = 0x19;
+  cmdsize = 72;
+  segname = name_field (codes "__LINKEDIT");
+  vmaddr = base + placement.segment_size;
+  vmsize = 0;
+  fileoff = placement.segment_size;
+  filesize = 0;
+  maxprot = 1;
+  initprot = 1;
+  nsects = 0;
+  flags = 0;
+}
 
 abbrev pub dylinker : DylinkerCommand
 dylinker = record { cmd = 0xe; cmdsize = 32; name = 12 }
@@ -125,11 +125,11 @@ build_version = record { cmd = 0x32; cmdsize = 24; platform = 1; minos = 0x000b0
 
 abbrev pub entry_point : Section → Placement → ℕ → EntryPointCommand
 entry_point text placement entry = record {
-    cmd = 0x80000028;
-    cmdsize = 24;
-    entryoff = placement.text_offset + (entry - text.address);
-    stacksize = 0;
-  }
+  cmd = 0x80000028;
+  cmdsize = 24;
+  entryoff = placement.text_offset + (entry - text.address);
+  stacksize = 0;
+}
 
 -- the header and the load commands
 unfoldable pub front : Section → Placement → ℕ → List ℕ

@@ -5,6 +5,7 @@ pub mod Image
 pub mod Input
 pub mod Names
 pub mod Object
+pub mod Settles
 pub mod Steps
 pub mod Symbols
 pub mod Verdict

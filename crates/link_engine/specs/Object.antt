@@ -1,5 +1,5 @@
 -- The objects that are linked: those of the form, each with its section of code and its symbols.
-use Rattle.std.specs.Prelude.{ℕ, ◌+◌, ◌^◌, ◌≡◌, ◌≤◌, ◌<◌, ◌==◌, Bool, bit_and, List, [], length, take, drop, Result, Ok, Err}
+use Rattle.std.specs.Prelude.{ℕ, ◌+◌, ◌^◌, ◌≡◌, ◌≤◌, ◌<◌, ◌==◌, bit_and, List, [], length, take, drop, Result, Ok, Err}
 use Rattle.mo_types.specs.Gives.{◌>>=◌, guarded}
 use Rattle.mo_types.specs.declared.answer.Status.{Status}
 use Rattle.mo_types.specs.declared.answer.Status.TheVariants.{Refused}
@@ -9,7 +9,7 @@ use Rattle.mo_types.specs.declared.object.Section.{Section}
 use Rattle.link_engine.specs.declared.words.Command.{Command}
 use Rattle.link_engine.specs.declared.form.Frame.{Frame}
 use Rattle.link_engine.specs.declared.form.FormFault.{FormFault}
-use Rattle.link_engine.specs.declared.form.FormFault.TheVariants.{NotOfForm, OutOfMemory}
+use Rattle.link_engine.specs.declared.form.FormFault.TheVariants.{NotOfForm}
 use Rattle.link_engine.specs.declared.object.TextObject.{TextObject}
 use Rattle.link_engine.specs.Form.{name_text, frame_of}
 use Rattle.link_engine.specs.Names.{external_names, are_distinct}
@@ -18,18 +18,18 @@ use Rattle.link_engine.specs.Symbols.{ArePlaced, symbols_of}
 -- the section, each field the number at its place
 unfoldable pub text_of : List ℕ → Frame → Result Section FormFault
 text_of bytes frame = Ok (record {
-    segment = name_text frame.text.segname;
-    name = name_text frame.text.sectname;
-    address = frame.text.addr;
-    size = frame.text.size;
-    align = frame.text.align;
-    kind = bit_and frame.text.flags 0xff;
-    attributes = bit_and frame.text.flags 0xffffff00;
-    file_offset = frame.text.offset;
-    reloc_offset = frame.text.reloff;
-    bytes = take frame.text.size (drop frame.text.offset bytes);
-    relocs = [];
-  })
+  segment = name_text frame.text.segname;
+  name = name_text frame.text.sectname;
+  address = frame.text.addr;
+  size = frame.text.size;
+  align = frame.text.align;
+  kind = bit_and frame.text.flags 0xff;
+  attributes = bit_and frame.text.flags 0xffffff00;
+  file_offset = frame.text.offset;
+  reloc_offset = frame.text.reloff;
+  bytes = take frame.text.size (drop frame.text.offset bytes);
+  relocs = [];
+})
 
 -- the bounds of the section
 pub record IsText (text : Section) : Type 0 where

@@ -1,5 +1,5 @@
 -- Which answers a step before writing may give.
-use Rattle.std.specs.Prelude.{ℕ, ◌≡◌, List, Result, Ok}
+use Rattle.std.specs.Prelude.{ℕ, ◌≡◌, List, Ok}
 use Rattle.mo_types.specs.declared.answer.Status.{Status}
 use Rattle.mo_types.specs.declared.answer.Status.TheVariants.{Done, Usage, ReadFault, Refused, WriteFault, OutOfMemory}
 use Rattle.link_engine.specs.declared.words.Command.{Command}

@@ -1,5 +1,5 @@
 -- The symbols of an object of the form (`nlist.h`).
-use Rattle.std.specs.Prelude.{ℕ, ◌+◌, ◌*◌, ◌≤◌, ◌==◌, ◌&&◌, ◌||◌, Bool, not, nat_le, bit_and, List, [], ◌∷◌, take, drop, Option, Some, None, Result, Ok, Err, if◌then◌else◌}
+use Rattle.std.specs.Prelude.{ℕ, ◌+◌, ◌*◌, ◌≤◌, ◌==◌, ◌&&◌, ◌||◌, Bool, not, nat_le, bit_and, List, take, drop, Option, Some, None, Result, Ok, Err, if◌then◌else◌}
 use Rattle.std.specs.List.{AllByRecursion}
 use Rattle.mo_types.specs.Gives.{◌>>=◌, guarded, each_from}
 use Rattle.mo_types.specs.declared.object.Symbol.{Symbol}

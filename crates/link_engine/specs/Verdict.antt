@@ -1,20 +1,16 @@
 -- What a link answers: the definitions, without an outside that fails.
-use Rattle.std.specs.Prelude.{ℕ, ◌≡◌, List, [], Option, Some, None, Result, Ok, Err}
-use Rattle.mo_outside.specs.Files.{FileMap, file_at, fetched}
+use Rattle.std.specs.Prelude.{ℕ, List, Result, Ok}
+use Rattle.mo_outside.specs.Files.{FileMap}
 use Rattle.mo_types.specs.Gives.{◌>>=◌}
-use Rattle.mo_types.specs.Scan.{first_some}
 use Rattle.mo_types.specs.declared.answer.Status.{Status}
-use Rattle.mo_types.specs.declared.answer.Status.TheVariants.{Usage}
-use Rattle.mo_types.specs.declared.cause.UsageRule.{UsageRule}
-use Rattle.link_engine.specs.declared.form.FormFault.TheVariants.{NotOfForm}
 use Rattle.link_engine.specs.declared.object.TextObject.{TextObject}
 use Rattle.link_engine.specs.declared.plan.Plan.{Plan}
 use Rattle.link_engine.specs.declared.words.Command.{Command}
 use Rattle.link_engine.specs.Command.{command_of}
-use Rattle.link_engine.specs.Entry.{entry_of, entry_name, entry_value}
+use Rattle.link_engine.specs.Entry.{entry_of}
 use Rattle.link_engine.specs.Image.{image_of}
 use Rattle.link_engine.specs.Input.{input_of}
-use Rattle.link_engine.specs.Object.{object_of, read}
+use Rattle.link_engine.specs.Object.{read}
 
 -- what is to be written for a command and its object, whose entry has an address
 abbrev pub plan_of : Command → TextObject → ℕ → Plan

@@ -1,5 +1,5 @@
 -- What a word of the command line may be.
-use Rattle.std.specs.Prelude.{ℕ, ◌==◌, ◌&&◌, Bool, true, false, not, List, [], ◌∷◌}
+use Rattle.std.specs.Prelude.{ℕ, ◌==◌, ◌&&◌, Bool, false, not, List, [], ◌∷◌}
 use Rattle.std.specs.List.{list_any}
 
 -- a NUL stands in the word

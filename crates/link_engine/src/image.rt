@@ -200,7 +200,12 @@ fn entry_point(text: &Section, placement: &Placement, entry: u64) -> EntryPointC
 
 // Appends the header and the load commands.
 #[tactic(auto, unfolding(crate::specs::Image::front))]
-fn write_front(out: &mut Vec<u8>, text: &Section, placement: &Placement, entry: u64) -> Result<(), AllocError>
+fn write_front(
+    out: &mut Vec<u8>,
+    text: &Section,
+    placement: &Placement,
+    entry: u64,
+) -> Result<(), AllocError>
     requires offset { placement.now.text_offset < 2 ^ 15 }
     requires size { placement.now.segment_size < 2 ^ 27 }
     requires within { IsWithin text.now.address text.now.size entry }

@@ -71,7 +71,12 @@ fn string_at(alloc: Global, strings: &[u8], at: usize) -> Result<Bytes, FormFaul
 }
 
 #[tactic(auto, unfolding(crate::specs::Symbols::symbol_of))]
-fn symbol_of(alloc: Global, strings: &[u8], text: &SectionHeader, entry: &Nlist) -> Result<Symbol, FormFault>
+fn symbol_of(
+    alloc: Global,
+    strings: &[u8],
+    text: &SectionHeader,
+    entry: &Nlist,
+) -> Result<Symbol, FormFault>
     requires { text.now.addr + text.now.size < 2 ^ 63 }
     ensures exact { Gives IsFormFault result (symbol.symbol_of strings.now text.now entry.now) }
     ensures placed { IfOk result (λ symbol. IsPlaced text.now.addr text.now.size symbol.kind) }

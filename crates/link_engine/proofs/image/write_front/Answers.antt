@@ -1,4 +1,4 @@
-use Rattle.std.proofs.Common.{◌≡◌, ◌++◌, ap, ◌∙◌}
+use Rattle.std.proofs.Common.{◌++◌, ap, ◌∙◌}
 use Rattle.mo_format.specs.Command.{dylinker_command_bytes, build_version_command_bytes, entry_point_command_bytes}
 use Rattle.mo_format.specs.Header.{mach_header_bytes}
 use Rattle.mo_format.specs.Segment.{segment_command_bytes, section_header_bytes}

@@ -1,4 +1,4 @@
-use Rattle.std.proofs.Common.{length, length-drop, arith}
+use Rattle.std.proofs.Common.{length-drop, arith}
 use Rattle.std.proofs.lemmas.List.{take_rest}
 use Rattle.link_engine.proofs.WritingLemmas.{goes_on, on_err, stops}
 use Rattle.link_engine.proofs.write.write_all.Goals as goal
@@ -10,9 +10,9 @@ returns-in_err-at-clause-err g c =
 
 pub loop-at-preserved : goal.loop-at-preserved
 loop-at-preserved g c = record {
-    within =
+  within =
       let rest = length-drop c.loop-at.at c.args.bytes.now in
       omega (arith, rw (take_rest c.args.bytes.now c.loop-at.at) at c.in_ok-at.ensures.within);
-    faults = omega (arith, c.in_ok-at.ensures.faults);
-    told = goes_on c.args.bytes.now _ c.loop-at.at c.in_ok-at.field-0 _ _ _ c.loop-at.invariant.told c.in_ok-at.ensures.ok (take_rest c.args.bytes.now c.loop-at.at);
-  }
+  faults = omega (arith, c.in_ok-at.ensures.faults);
+  told = goes_on c.args.bytes.now _ c.loop-at.at c.in_ok-at.field-0 _ _ _ c.loop-at.invariant.told c.in_ok-at.ensures.ok (take_rest c.args.bytes.now c.loop-at.at);
+}
