@@ -1,3 +1,5 @@
+pub mod BranchLemmas
+pub mod DistinctLemmas
 pub mod FormLemmas
 pub mod ImageLemmas
 pub mod LinkLemmas

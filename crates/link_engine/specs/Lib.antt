@@ -1,3 +1,4 @@
+pub mod Branches
 pub mod Command
 pub mod Entry
 pub mod Form

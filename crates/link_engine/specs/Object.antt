@@ -1,5 +1,6 @@
 -- The objects that are linked: those of the form, each with its section of code and its symbols.
 use Rattle.std.specs.Prelude.{ℕ, ◌+◌, ◌^◌, ◌≡◌, ◌≤◌, ◌<◌, ◌==◌, bit_and, List, [], length, take, drop, Result, Ok, Err}
+use Rattle.std.specs.Str.{bytes_eq}
 use Rattle.mo_types.specs.Gives.{◌>>=◌, guarded}
 use Rattle.mo_types.specs.declared.answer.Status.{Status}
 use Rattle.mo_types.specs.declared.answer.Status.TheVariants.{Refused}
@@ -49,7 +50,7 @@ object_of bytes = do
   frame ← frame_of bytes
   plain ← guarded (frame.text.nreloc == 0) NotOfForm frame
   symbols ← symbols_of bytes frame
-  named ← guarded (are_distinct (external_names symbols)) NotOfForm symbols
+  named ← guarded (are_distinct bytes_eq (external_names symbols)) NotOfForm symbols
   text ← text_of bytes frame
   Ok (record { text = text; symbols = symbols })
 

@@ -17,6 +17,7 @@ ghost use Rattle.link_engine.specs.Settles.{Completes, ExactlyWhere, IsBuilt, Is
 ghost use Rattle.link_engine.specs.Steps.{IsInput, IsStop};
 ghost use Rattle.link_engine.specs.Verdict.{verdict};
 
+mod branches;
 mod entry;
 mod fetch;
 mod form;

@@ -9,7 +9,7 @@ ghost use Rattle.link_engine.specs.Object.{IsLinkable, IsText};
 ghost use Rattle.link_engine.specs.Steps.{IsRefusal};
 
 use crate::form::{FormFault, Frame, frame_of, name_text};
-use crate::names::are_distinct;
+use crate::names::are_distinct_names;
 use crate::symbols::symbols_of;
 use crate::words::Command;
 use mo_types::{Bytes, Feature, Refusal, RelocList, Section, Status, SymbolList};
@@ -57,7 +57,7 @@ fn object_of(alloc: Global, bytes: &[u8]) -> Result<TextObject, FormFault>
         return Err(FormFault::NotOfForm);
     }
     let symbols = symbols_of(alloc, bytes, &frame)?;
-    if !are_distinct(alloc, symbols.as_slice())? {
+    if !are_distinct_names(alloc, symbols.as_slice())? {
         return Err(FormFault::NotOfForm);
     }
     let text = text_of(alloc, bytes, &frame)?;
