@@ -18,7 +18,7 @@ pub record AllPass {A : Type 0} (test : A → Bool) (xs : List A) (at : ℕ) : T
 pub all_starts : {A : Type 0} (test : A → Bool) (xs : List A) → AllPass test xs 0
 all_starts test xs = record { same = refl }
 
-all_from : {A : Type 0} (test : A → Bool) (xs : List A) (at : ℕ) (x : A) → at < length xs → x ≡ get_or xs at x → list_all test (drop at xs) ≡ (test x && list_all test (drop (at + 1) xs))
+pub all_from : {A : Type 0} (test : A → Bool) (xs : List A) (at : ℕ) (x : A) → at < length xs → x ≡ get_or xs at x → list_all test (drop at xs) ≡ (test x && list_all test (drop (at + 1) xs))
 all_from test xs at x within is = ap (list_all test) (from_place xs at x within is)
 
 pub all_goes_on : {A : Type 0} (test : A → Bool) (xs : List A) (at : ℕ) (x : A) → AllPass test xs at → at < length xs → x ≡ get_or xs at x → test x ≡ true → AllPass test xs (at + 1)
@@ -151,7 +151,7 @@ clear_words n cut word is = ap (λ flags. get_or flags word false) is ∙ replic
 
 pub ruleset cuts = (clear_words)
 
-both : (a b : Bool) → (a && b) ≡ true → (a ≡ true) × (b ≡ true)
+pub both : (a b : Bool) → (a && b) ≡ true → (a ≡ true) × (b ≡ true)
 both true b e = (refl, e)
 both false b e = absurd cc
 

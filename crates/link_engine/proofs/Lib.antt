@@ -5,6 +5,7 @@ pub mod ImageLemmas
 pub mod LinkLemmas
 pub mod NameLemmas
 pub mod PlacedLemmas
+pub mod PatchLemmas
 pub mod SymbolLemmas
 pub mod WordLemmas
 pub mod WritingLemmas

@@ -6,6 +6,7 @@ pub mod Image
 pub mod Input
 pub mod Names
 pub mod Object
+pub mod Patching
 pub mod Settles
 pub mod Steps
 pub mod Symbols

@@ -21,9 +21,9 @@ fn offset_of(text: &Section, kind: SymbolKind) -> Option<u64>
     }
 }
 
-// The offset that a relocation's symbol has in the section.
+/// The offset that a relocation's symbol has in the section.
 #[tactic(auto, unfolding(crate::specs::Branches::target_of))]
-fn target_of(text: &Section, symbols: &[Symbol], reloc: &RawReloc) -> Option<u64>
+pub fn target_of(text: &Section, symbols: &[Symbol], reloc: &RawReloc) -> Option<u64>
     ensures { result ≡ branches.target_of text.now symbols.now reloc.now }
 {
     match symbols.get(reloc.number as usize) {

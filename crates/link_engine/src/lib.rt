@@ -24,6 +24,7 @@ mod form;
 mod image;
 mod names;
 mod object;
+mod patch;
 mod plan;
 mod run;
 mod symbols;
