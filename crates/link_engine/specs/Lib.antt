@@ -7,6 +7,7 @@ pub mod Input
 pub mod Names
 pub mod Object
 pub mod Patching
+pub mod Relocs
 pub mod Settles
 pub mod Steps
 pub mod Symbols

@@ -151,7 +151,8 @@ pub fn are_branches(
     symbols: &[Symbol],
 ) -> Result<bool, OutOfMemory>
     requires { IsText text.now }
-    ensures { IfOk result (λ answer. answer ≡ branches.are_branches subsections text.now symbols.now) }
+    ensures exact { IfOk result (λ answer. answer ≡ branches.are_branches subsections text.now symbols.now) }
+    ensures branches { IfOk result (λ answer. answer ≡ true → list_all (branches.is_branch text.now symbols.now) text.now.relocs ≡ true) }
 {
     let relocs = text.relocs.as_slice();
     if !all_branches(text, symbols, relocs) {

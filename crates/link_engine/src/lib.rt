@@ -26,6 +26,7 @@ mod names;
 mod object;
 mod patch;
 mod plan;
+mod relocs;
 mod run;
 mod symbols;
 mod words;
