@@ -4,10 +4,10 @@ use std::alloc::{AllocError, Global};
 use std::fmt::Debug;
 use std::test::Fail;
 
-fn lower_case(alloc: Global, variant: &impl Debug) -> Result<String, AllocError> {
-    let mut name = format!(in alloc; "{variant:?}")?;
-    name.make_ascii_lowercase();
-    Ok(name)
+fn is_named(alloc: Global, variant: &impl Debug, name: &str) -> Result<bool, AllocError> {
+    let mut lower_case = format!(in alloc; "{variant:?}")?;
+    lower_case.make_ascii_lowercase();
+    Ok(lower_case.as_str() == name)
 }
 
 // A message shows each cause by its variant's name in lower case, which `Debug` prints.
@@ -44,7 +44,7 @@ fn causes_are_named_as_their_variants(rt: HostRuntime) -> Result<(), Fail> {
         Rule::NoTarget,
         Rule::BadKey,
     ] {
-        assert_eq!(rt; cause.as_str(), lower_case(rt.alloc(), &cause)?.as_str());
+        assert!(rt; is_named(rt.alloc(), &cause, cause.as_str())?, "{cause:?}");
     }
     for cause in [
         Feature::SectionType,
@@ -68,7 +68,7 @@ fn causes_are_named_as_their_variants(rt: HostRuntime) -> Result<(), Fail> {
         Feature::EhFrame,
         Feature::Later,
     ] {
-        assert_eq!(rt; cause.as_str(), lower_case(rt.alloc(), &cause)?.as_str());
+        assert!(rt; is_named(rt.alloc(), &cause, cause.as_str())?, "{cause:?}");
     }
     for cause in [
         Which::Inputs,
@@ -82,7 +82,7 @@ fn causes_are_named_as_their_variants(rt: HostRuntime) -> Result<(), Fail> {
         Which::NamePool,
         Which::Sections,
     ] {
-        assert_eq!(rt; cause.as_str(), lower_case(rt.alloc(), &cause)?.as_str());
+        assert!(rt; is_named(rt.alloc(), &cause, cause.as_str())?, "{cause:?}");
     }
     for cause in [
         RangeKind::ImageSize,
@@ -95,7 +95,7 @@ fn causes_are_named_as_their_variants(rt: HostRuntime) -> Result<(), Fail> {
         RangeKind::RebaseTarget,
         RangeKind::FixupPlace,
     ] {
-        assert_eq!(rt; cause.as_str(), lower_case(rt.alloc(), &cause)?.as_str());
+        assert!(rt; is_named(rt.alloc(), &cause, cause.as_str())?, "{cause:?}");
     }
     for cause in [
         UsageRule::Unknown,
@@ -104,7 +104,7 @@ fn causes_are_named_as_their_variants(rt: HostRuntime) -> Result<(), Fail> {
         UsageRule::DylibOnly,
         UsageRule::NoInput,
     ] {
-        assert_eq!(rt; cause.as_str(), lower_case(rt.alloc(), &cause)?.as_str());
+        assert!(rt; is_named(rt.alloc(), &cause, cause.as_str())?, "{cause:?}");
     }
     Ok(())
 }
@@ -142,27 +142,14 @@ fn answers_have_the_codes_of_the_program(rt: HostRuntime) -> Result<(), Fail> {
 
 #[test]
 fn strings_of_bytes_keep_them_in_order(rt: HostRuntime) -> Result<(), Fail> {
-    let empty = Bytes::new(rt.alloc());
-    assert!(rt; empty.is_empty());
+    assert!(rt; Bytes::new(rt.alloc()).is_empty());
     let name = Bytes::from_vec(vec![in rt.alloc(); b'_', b'a']?);
     assert_eq!(rt; name.as_slice(), b"_a".as_slice());
     assert_eq!(rt; name.len(), 2);
-    assert_eq!(rt; name.clone()?.into_vec().as_slice(), b"_a".as_slice());
-    let mut last = empty;
-    for text in [
-        b"\0".as_slice(),
-        b"\0\0".as_slice(),
-        b"_a".as_slice(),
-        b"_a\0".as_slice(),
-        b"_b".as_slice(),
-        b"a".as_slice(),
-        b"\xff".as_slice(),
-    ] {
-        let next = Bytes::from_slice(rt.alloc(), text)?;
-        assert!(rt; last < next, "at {text:?}");
-        assert_eq!(rt; next == name, text == b"_a".as_slice());
-        last = next;
-    }
+    let longer = Bytes::from_slice(rt.alloc(), b"_a\0")?;
+    let later = Bytes::from_slice(rt.alloc(), b"\xff")?;
+    assert!(rt; name == name.clone()? && name < longer && longer < later);
+    assert_eq!(rt; later.into_vec().as_slice(), b"\xff".as_slice());
     let word = Arg::new(String::from_str(rt.alloc(), "-o")?);
     assert_eq!(rt; word.as_bytes(), b"-o".as_slice());
     Ok(())
