@@ -1,6 +1,7 @@
 //! The words of the command line.
 
-ghost use Rattle.std.specs.Prelude.{◌≡◌, ◌⊎◌, IfErr};
+ghost use Rattle.std.specs.Prelude.{IfErr};
+ghost use Rattle.atomld.specs.Words.{IsWordsFault};
 
 use mo_types::{Arg, ArgList, OutOfMemory, Status, UsageRule};
 use std::alloc::Global;
@@ -27,8 +28,11 @@ fn word<R: Env>(rt: &R, alloc: Global, number: usize) -> Result<Option<Vec<u8>>,
     Err(OutOfMemory)
 }
 
-/// The words after the program's name. A word that isn't UTF-8 is one that no command line has.
-pub fn gather<R: Env>(rt: &R, alloc: Global) -> Result<ArgList, Status> {
+/// The words after the program's name. The first one that isn't UTF-8 is an unknown word, and no other word
+/// is looked at then.
+pub fn gather<R: Env>(rt: &R, alloc: Global) -> Result<ArgList, Status>
+    ensures { IfErr result IsWordsFault }
+{
     let mut words = ArgList::new(alloc);
     for number in 1..usize::MAX {
         let Some(bytes) = word(rt, alloc, number)? else {
