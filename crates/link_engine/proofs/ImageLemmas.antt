@@ -4,6 +4,8 @@ use Rattle.std.proofs.lemmas.List.{take_all, length-replicate}
 use Rattle.mo_bytes.proofs.Numbers.{length-number_bytes}
 use Rattle.mo_types.specs.declared.object.Section.{Section}
 use Rattle.link_engine.specs.declared.image.Placement.{Placement}
+use Rattle.link_engine.specs.declared.object.TextObject.{TextObject}
+use Rattle.link_engine.specs.Patching.{contents_of}
 use Rattle.link_engine.specs.Image.{commands_size, front, image_of, placement_of, zeros_to}
 use Rattle.std.proofs.Math.Nat.{pow-le-pow_right}
 
@@ -40,12 +42,13 @@ zeros_size size bytes new room e = ap length (zeros_put size bytes new room e) �
 pub ruleset zeros = (zeros_put, zeros_size)
 
 -- the pieces of an image, put one after the other
-pub whole_image : (text : Section) (entry : ℕ) (placement : Placement) (i0 i1 i2 i3 i4 : List ℕ) → placement ≡ placement_of text → i0 ≡ [] → i1 ≡ i0 ++ front text placement entry → i2 ≡ zeros_to placement.text_offset i1 → i3 ≡ i2 ++ text.bytes → i4 ≡ zeros_to placement.segment_size i3 → i4 ≡ image_of text entry
+pub whole_image : (object : TextObject) (entry : ℕ) (placement : Placement) (i0 i1 i2 i3 i4 : List ℕ) → placement ≡ placement_of object.text → i0 ≡ [] → i1 ≡ i0 ++ front object.text placement entry → i2 ≡ zeros_to placement.text_offset i1 → i3 ≡ i2 ++ contents_of object.text object.symbols → i4 ≡ zeros_to placement.segment_size i3 → i4 ≡ image_of object entry
 unfolding image_of
-whole_image text entry placement i0 i1 i2 i3 i4 at e0 e1 e2 e3 e4 =
-    let front_is : i1 ≡ front text placement entry = e1 ∙ ap (λ xs. xs ++ front text placement entry) e0 in
-    let filled : i3 ≡ zeros_to placement.text_offset (front text placement entry) ++ text.bytes =
-    e3 ∙ ap (λ xs. xs ++ text.bytes) (e2 ∙ ap (zeros_to placement.text_offset) front_is) in
-    let built : i4 ≡ zeros_to placement.segment_size (zeros_to placement.text_offset (front text placement entry) ++ text.bytes) =
-    e4 ∙ ap (zeros_to placement.segment_size) filled in
-    built ∙ ap (λ (p : Placement). zeros_to p.segment_size (zeros_to p.text_offset (front text p entry) ++ text.bytes)) at
+whole_image object entry placement i0 i1 i2 i3 i4 at e0 e1 e2 e3 e4 =
+    let contents : List ℕ = contents_of object.text object.symbols in
+    let front_is : i1 ≡ front object.text placement entry = e1 ∙ ap (λ xs. xs ++ front object.text placement entry) e0 in
+    let filled : i3 ≡ zeros_to placement.text_offset (front object.text placement entry) ++ contents =
+        e3 ∙ ap (λ xs. xs ++ contents) (e2 ∙ ap (zeros_to placement.text_offset) front_is) in
+    let built : i4 ≡ zeros_to placement.segment_size (zeros_to placement.text_offset (front object.text placement entry) ++ contents) =
+        e4 ∙ ap (zeros_to placement.segment_size) filled in
+    built ∙ ap (λ (p : Placement). zeros_to p.segment_size (zeros_to p.text_offset (front object.text p entry) ++ contents)) at

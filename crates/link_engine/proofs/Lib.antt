@@ -1,8 +1,11 @@
+pub mod BranchLemmas
+pub mod DistinctLemmas
 pub mod FormLemmas
 pub mod ImageLemmas
 pub mod LinkLemmas
 pub mod NameLemmas
 pub mod PlacedLemmas
+pub mod PatchLemmas
 pub mod SymbolLemmas
 pub mod WordLemmas
 pub mod WritingLemmas

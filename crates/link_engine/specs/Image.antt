@@ -12,6 +12,8 @@ use Rattle.mo_format.specs.declared.segment.SectionHeader.{SectionHeader}
 use Rattle.mo_format.specs.declared.segment.SegmentCommand.{SegmentCommand}
 use Rattle.mo_types.specs.declared.object.Section.{Section}
 use Rattle.link_engine.specs.declared.image.Placement.{Placement}
+use Rattle.link_engine.specs.declared.object.TextObject.{TextObject}
+use Rattle.link_engine.specs.Patching.{contents_of}
 
 -- the address of `__TEXT`
 abbrev pub base : ℕ
@@ -143,8 +145,9 @@ front text placement entry =
 abbrev pub zeros_to : ℕ → List ℕ → List ℕ
 zeros_to size bytes = bytes ++ replicate (size - length bytes) 0
 
--- the image of a section and the entry's address in the object
-unfoldable pub image_of : Section → ℕ → List ℕ
-image_of text entry =
-    let placement = placement_of text in
-    zeros_to placement.segment_size (zeros_to placement.text_offset (front text placement entry) ++ text.bytes)
+-- the image of an object whose entry has an address in it
+unfoldable pub image_of : TextObject → ℕ → List ℕ
+image_of object entry =
+    let placement = placement_of object.text in
+    zeros_to placement.segment_size
+    (zeros_to placement.text_offset (front object.text placement entry) ++ contents_of object.text object.symbols)

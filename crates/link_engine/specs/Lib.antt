@@ -1,3 +1,4 @@
+pub mod Branches
 pub mod Command
 pub mod Entry
 pub mod Form
@@ -5,6 +6,8 @@ pub mod Image
 pub mod Input
 pub mod Names
 pub mod Object
+pub mod Patching
+pub mod Relocs
 pub mod Settles
 pub mod Steps
 pub mod Symbols

@@ -14,7 +14,7 @@ use Rattle.link_engine.specs.Object.{read}
 
 -- what is to be written for a command and its object, whose entry has an address
 abbrev pub plan_of : Command → TextObject → ℕ → Plan
-plan_of command object entry = record { path = command.output; image = image_of object.text entry }
+plan_of command object entry = record { path = command.output; image = image_of object entry }
 
 -- what is to be written for the words and the files, or the first refusal in the order of the steps
 unfoldable pub verdict : List (List ℕ) → FileMap → Result Plan Status

@@ -4,9 +4,12 @@ ghost use Rattle.std.specs.Prelude.{◌≡◌, ◌++◌, ◌+◌, ◌-◌, ◌�
 ghost use Rattle.mo_bytes.specs.Rounding.{least_multiple};
 ghost use Rattle.link_engine.specs.Image as image;
 ghost use Rattle.link_engine.specs.Image.{front, image_of, placement_of, zeros_to};
-ghost use Rattle.link_engine.specs.Object.{IsText};
+ghost use Rattle.link_engine.specs.Object.{IsLinkable, IsText};
+ghost use Rattle.link_engine.specs.Patching.{contents_of};
 ghost use Rattle.link_engine.specs.Symbols.{IsWithin};
 
+use crate::object::TextObject;
+use crate::patch::patch;
 use mo_bytes::round_up;
 use mo_format::{
     BuildVersionCommand, DylinkerCommand, EntryPointCommand, MachHeader, SectionHeader,
@@ -235,18 +238,32 @@ fn pad(out: &mut Vec<u8>, size: usize) -> Result<(), AllocError>
     out.resize(size, 0)
 }
 
-/// The image of a section whose entry has an address in the object.
-#[tactic(auto, unfolding(crate::specs::Image::image_of))]
-pub fn image(alloc: Global, text: &Section, entry: u64) -> Result<Bytes, OutOfMemory>
-    requires within { IsWithin text.now.address text.now.size entry }
-    requires text { IsText text.now }
-    ensures { IfOk result (λ image. image ≡ image_of text.now entry) }
+// Appends the section's contents, with its branches patched.
+fn put_contents(out: &mut Vec<u8>, object: &TextObject) -> Result<(), AllocError>
+    requires room { length out.old.items < 2 ^ 32 }
+    requires object { IsLinkable object.now }
+    ensures bytes { OnOk result (out.new.items ≡ out.old.items ++ contents_of object.now.text object.now.symbols) }
+    ensures size { OnOk result (length out.new.items ≡ length out.old.items + object.now.text.size) }
 {
+    let text = &object.text;
+    let start = out.len();
+    out.extend_from_slice(text.bytes.as_slice())?;
+    patch(out, start, text, object.symbols.as_slice(), text.relocs.as_slice());
+    Ok(())
+}
+
+/// The image of an object whose entry has an address in it.
+pub fn image(alloc: Global, object: &TextObject, entry: u64) -> Result<Bytes, OutOfMemory>
+    requires within { IsWithin object.now.text.address object.now.text.size entry }
+    requires object { IsLinkable object.now }
+    ensures { IfOk result (λ image. image ≡ image_of object.now entry) }
+{
+    let text = &object.text;
     let placement = place(text);
     let mut image = Vec::with_capacity(alloc, placement.segment_size as usize)?;
     write_front(&mut image, text, &placement, entry)?;
     pad(&mut image, placement.text_offset as usize)?;
-    image.extend_from_slice(text.bytes.as_slice())?;
+    put_contents(&mut image, object)?;
     pad(&mut image, placement.segment_size as usize)?;
     Ok(Bytes::from_vec(image))
 }

@@ -17,13 +17,16 @@ ghost use Rattle.link_engine.specs.Settles.{Completes, ExactlyWhere, IsBuilt, Is
 ghost use Rattle.link_engine.specs.Steps.{IsInput, IsStop};
 ghost use Rattle.link_engine.specs.Verdict.{verdict};
 
+mod branches;
 mod entry;
 mod fetch;
 mod form;
 mod image;
 mod names;
 mod object;
+mod patch;
 mod plan;
+mod relocs;
 mod run;
 mod symbols;
 mod words;

@@ -18,8 +18,8 @@ fn is_new<'a>(seen: &mut HashSet<&'a [u8]>, name: &'a [u8]) -> Result<bool, OutO
 
 /// Whether no two external symbols have one name.
 #[tactic(auto, using(crate::proofs::NameLemmas::scans))]
-pub fn are_distinct(alloc: Global, symbols: &[Symbol]) -> Result<bool, OutOfMemory>
-    ensures { IfOk result (λ answer. answer ≡ names.are_distinct (names.external_names symbols.now)) }
+pub fn are_distinct_names(alloc: Global, symbols: &[Symbol]) -> Result<bool, OutOfMemory>
+    ensures { IfOk result (λ answer. answer ≡ names.are_distinct bytes_eq (names.external_names symbols.now)) }
 {
     let mut seen: HashSet<&[u8]> = HashSet::new(alloc);
     for symbol in symbols {

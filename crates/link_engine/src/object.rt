@@ -9,7 +9,9 @@ ghost use Rattle.link_engine.specs.Object.{IsLinkable, IsText};
 ghost use Rattle.link_engine.specs.Steps.{IsRefusal};
 
 use crate::form::{FormFault, Frame, frame_of, name_text};
-use crate::names::are_distinct;
+use crate::branches::are_branches;
+use crate::names::are_distinct_names;
+use crate::relocs::relocs_of;
 use crate::symbols::symbols_of;
 use crate::words::Command;
 use mo_types::{Bytes, Feature, Refusal, RelocList, Section, Status, SymbolList};
@@ -23,9 +25,15 @@ pub struct TextObject {
 }
 
 #[tactic(auto, unfolding(crate::specs::Object::text_of))]
-fn text_of(alloc: Global, bytes: &[u8], frame: &Frame) -> Result<Section, FormFault>
+fn text_of(
+    alloc: Global,
+    bytes: &[u8],
+    frame: &Frame,
+    relocs: RelocList,
+) -> Result<Section, FormFault>
     requires { IsFrame (length bytes.now) frame.now }
-    ensures exact { Gives IsFormFault result (object.text_of bytes.now frame.now) }
+    ensures exact { IfOk result (λ text. text ≡ object.text_of bytes.now frame.now relocs) }
+    ensures kind { IfErr result (λ fault. ¬ IsFormFault fault) }
     ensures within { IfOk result IsText }
     ensures place { IfOk result (λ text. (text.address ≡ frame.now.text.addr) × (text.size ≡ frame.now.text.size)) }
 {
@@ -43,7 +51,7 @@ fn text_of(alloc: Global, bytes: &[u8], frame: &Frame) -> Result<Section, FormFa
         file_offset: u64::from(text.offset),
         reloc_offset: u64::from(text.reloff),
         bytes: Bytes::from_slice(alloc, contents)?,
-        relocs: RelocList::new(alloc),
+        relocs,
     })
 }
 
@@ -53,14 +61,16 @@ fn object_of(alloc: Global, bytes: &[u8]) -> Result<TextObject, FormFault>
     ensures linkable { IfOk result IsLinkable }
 {
     let frame = frame_of(bytes)?;
-    if frame.text.nreloc != 0 {
-        return Err(FormFault::NotOfForm);
-    }
     let symbols = symbols_of(alloc, bytes, &frame)?;
-    if !are_distinct(alloc, symbols.as_slice())? {
+    if !are_distinct_names(alloc, symbols.as_slice())? {
         return Err(FormFault::NotOfForm);
     }
-    let text = text_of(alloc, bytes, &frame)?;
+    let relocs = relocs_of(alloc, bytes, &frame)?;
+    let text = text_of(alloc, bytes, &frame, relocs)?;
+    let subsections = frame.header.flags & 0x2000 != 0;
+    if !are_branches(alloc, subsections, &text, symbols.as_slice())? {
+        return Err(FormFault::NotOfForm);
+    }
     Ok(TextObject { text, symbols })
 }
 

@@ -42,7 +42,7 @@ pub fn make_plan<F: Files>(alloc: Global, words: &ArgList, files: &mut F) -> Res
     let bytes = fetch(alloc, files, &command)?;
     let object = read(alloc, &command, bytes.as_slice())?;
     let entry = entry_of(alloc, &object)?;
-    let image = image(alloc, &object.text, entry)?;
+    let image = image(alloc, &object, entry)?;
     Ok(Plan {
         path: command.output,
         image,

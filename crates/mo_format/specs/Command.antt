@@ -16,7 +16,10 @@ dylinker_command_at bytes at = record {
 
 abbrev pub dylinker_command_fields : DylinkerCommand → List Field
 dylinker_command_fields s =
-    Number 4 s.cmd ∷ Number 4 s.cmdsize ∷ Number 4 s.name ∷ []
+    Number 4 s.cmd
+    ∷ Number 4 s.cmdsize
+    ∷ Number 4 s.name
+    ∷ []
 
 abbrev pub dylinker_command_bytes : DylinkerCommand → List ℕ
 dylinker_command_bytes s = spelled (dylinker_command_fields s)
@@ -34,7 +37,13 @@ build_version_command_at bytes at = record {
 
 abbrev pub build_version_command_fields : BuildVersionCommand → List Field
 build_version_command_fields s =
-    Number 4 s.cmd ∷ Number 4 s.cmdsize ∷ Number 4 s.platform ∷ Number 4 s.minos ∷ Number 4 s.sdk ∷ Number 4 s.ntools ∷ []
+    Number 4 s.cmd
+    ∷ Number 4 s.cmdsize
+    ∷ Number 4 s.platform
+    ∷ Number 4 s.minos
+    ∷ Number 4 s.sdk
+    ∷ Number 4 s.ntools
+    ∷ []
 
 abbrev pub build_version_command_bytes : BuildVersionCommand → List ℕ
 build_version_command_bytes s = spelled (build_version_command_fields s)
@@ -50,7 +59,11 @@ entry_point_command_at bytes at = record {
 
 abbrev pub entry_point_command_fields : EntryPointCommand → List Field
 entry_point_command_fields s =
-    Number 4 s.cmd ∷ Number 4 s.cmdsize ∷ Number 8 s.entryoff ∷ Number 8 s.stacksize ∷ []
+    Number 4 s.cmd
+    ∷ Number 4 s.cmdsize
+    ∷ Number 8 s.entryoff
+    ∷ Number 8 s.stacksize
+    ∷ []
 
 abbrev pub entry_point_command_bytes : EntryPointCommand → List ℕ
 entry_point_command_bytes s = spelled (entry_point_command_fields s)

@@ -1,5 +1,5 @@
 -- The fields of a structure, one after the other.
-use Rattle.std.specs.Prelude.{ℕ, List, [], ◌∷◌, ◌++◌, take, drop}
+use Rattle.std.specs.Prelude.{ℕ, ◌≡◌, List, [], ◌∷◌, ◌++◌, length, take, drop}
 use Rattle.mo_bytes.specs.Number.{number_bytes}
 
 -- a number of some bytes, or a name of 16 bytes
@@ -19,3 +19,7 @@ field_bytes (Name bytes) = bytes
 abbrev pub spelled : List Field → List ℕ
 spelled [] = []
 spelled (f ∷ fs) = field_bytes f ++ spelled fs
+
+-- the structure is read where the old bytes ended, whatever follows the new ones
+abbrev pub ReadsBack : {S : Type 0} → (List ℕ → ℕ → S) → List ℕ → List ℕ → S → Type 0
+ReadsBack structure_at old new s = (rest : List ℕ) → structure_at (new ++ rest) (length old) ≡ s

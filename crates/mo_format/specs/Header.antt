@@ -19,7 +19,15 @@ mach_header_at bytes at = record {
 
 abbrev pub mach_header_fields : MachHeader → List Field
 mach_header_fields s =
-    Number 4 s.magic ∷ Number 4 s.cputype ∷ Number 4 s.cpusubtype ∷ Number 4 s.filetype ∷ Number 4 s.ncmds ∷ Number 4 s.sizeofcmds ∷ Number 4 s.flags ∷ Number 4 s.reserved ∷ []
+    Number 4 s.magic
+    ∷ Number 4 s.cputype
+    ∷ Number 4 s.cpusubtype
+    ∷ Number 4 s.filetype
+    ∷ Number 4 s.ncmds
+    ∷ Number 4 s.sizeofcmds
+    ∷ Number 4 s.flags
+    ∷ Number 4 s.reserved
+    ∷ []
 
 abbrev pub mach_header_bytes : MachHeader → List ℕ
 mach_header_bytes s = spelled (mach_header_fields s)

@@ -23,7 +23,18 @@ segment_command_at bytes at = record {
 
 abbrev pub segment_command_fields : SegmentCommand → List Field
 segment_command_fields s =
-    Number 4 s.cmd ∷ Number 4 s.cmdsize ∷ Name s.segname ∷ Number 8 s.vmaddr ∷ Number 8 s.vmsize ∷ Number 8 s.fileoff ∷ Number 8 s.filesize ∷ Number 4 s.maxprot ∷ Number 4 s.initprot ∷ Number 4 s.nsects ∷ Number 4 s.flags ∷ []
+    Number 4 s.cmd
+    ∷ Number 4 s.cmdsize
+    ∷ Name s.segname
+    ∷ Number 8 s.vmaddr
+    ∷ Number 8 s.vmsize
+    ∷ Number 8 s.fileoff
+    ∷ Number 8 s.filesize
+    ∷ Number 4 s.maxprot
+    ∷ Number 4 s.initprot
+    ∷ Number 4 s.nsects
+    ∷ Number 4 s.flags
+    ∷ []
 
 abbrev pub segment_command_bytes : SegmentCommand → List ℕ
 segment_command_bytes s = spelled (segment_command_fields s)
@@ -47,7 +58,19 @@ section_header_at bytes at = record {
 
 abbrev pub section_header_fields : SectionHeader → List Field
 section_header_fields s =
-    Name s.sectname ∷ Name s.segname ∷ Number 8 s.addr ∷ Number 8 s.size ∷ Number 4 s.offset ∷ Number 4 s.align ∷ Number 4 s.reloff ∷ Number 4 s.nreloc ∷ Number 4 s.flags ∷ Number 4 s.reserved1 ∷ Number 4 s.reserved2 ∷ Number 4 s.reserved3 ∷ []
+    Name s.sectname
+    ∷ Name s.segname
+    ∷ Number 8 s.addr
+    ∷ Number 8 s.size
+    ∷ Number 4 s.offset
+    ∷ Number 4 s.align
+    ∷ Number 4 s.reloff
+    ∷ Number 4 s.nreloc
+    ∷ Number 4 s.flags
+    ∷ Number 4 s.reserved1
+    ∷ Number 4 s.reserved2
+    ∷ Number 4 s.reserved3
+    ∷ []
 
 abbrev pub section_header_bytes : SectionHeader → List ℕ
 section_header_bytes s = spelled (section_header_fields s)

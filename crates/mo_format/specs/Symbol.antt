@@ -18,7 +18,13 @@ symtab_command_at bytes at = record {
 
 abbrev pub symtab_command_fields : SymtabCommand → List Field
 symtab_command_fields s =
-    Number 4 s.cmd ∷ Number 4 s.cmdsize ∷ Number 4 s.symoff ∷ Number 4 s.nsyms ∷ Number 4 s.stroff ∷ Number 4 s.strsize ∷ []
+    Number 4 s.cmd
+    ∷ Number 4 s.cmdsize
+    ∷ Number 4 s.symoff
+    ∷ Number 4 s.nsyms
+    ∷ Number 4 s.stroff
+    ∷ Number 4 s.strsize
+    ∷ []
 
 abbrev pub symtab_command_bytes : SymtabCommand → List ℕ
 symtab_command_bytes s = spelled (symtab_command_fields s)
@@ -35,7 +41,12 @@ nlist_at bytes at = record {
 
 abbrev pub nlist_fields : Nlist → List Field
 nlist_fields s =
-    Number 4 s.n_strx ∷ Number 1 s.n_type ∷ Number 1 s.n_sect ∷ Number 2 s.n_desc ∷ Number 8 s.n_value ∷ []
+    Number 4 s.n_strx
+    ∷ Number 1 s.n_type
+    ∷ Number 1 s.n_sect
+    ∷ Number 2 s.n_desc
+    ∷ Number 8 s.n_value
+    ∷ []
 
 abbrev pub nlist_bytes : Nlist → List ℕ
 nlist_bytes s = spelled (nlist_fields s)

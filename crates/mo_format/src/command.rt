@@ -1,4 +1,5 @@
-ghost use Rattle.std.specs.Prelude.{◌≡◌, ◌+◌, ◌≤◌, ◌++◌, ℕ, List, length, OnOk};
+ghost use Rattle.std.specs.Prelude.{◌≡◌, ◌+◌, ◌≤◌, ◌++◌, length, OnOk, OnErr};
+ghost use Rattle.mo_format.specs.Fields.{ReadsBack};
 ghost use Rattle.mo_format.specs.Command.{dylinker_command_at, dylinker_command_bytes, build_version_command_at, build_version_command_bytes, entry_point_command_at, entry_point_command_bytes};
 
 use crate::fields::{put_u32, put_u64, u32_at, u64_at};
@@ -9,19 +10,19 @@ use std::alloc::AllocError;
 pub struct DylinkerCommand {
     /// `LC_LOAD_DYLINKER`, 0xe.
     pub cmd: u32,
-    /// 12, and the bytes of the path with its padding.
+    /// In bytes: 12, and the path with its NUL and zeros up to a multiple of 8.
     pub cmdsize: u32,
-    /// The offset of the path in the command, 12.
+    /// The offset of the path from the command's first byte: 12.
     pub name: u32,
 }
 
 impl DylinkerCommand {
-    /// Its bytes in a file.
+    /// How many bytes it has in a file.
     pub const SIZE: usize = 12;
 
-    /// The one that stands at `at`.
+    /// Reads the command whose first byte stands at the offset `at`.
     pub fn read(bytes: &[u8], at: usize) -> DylinkerCommand
-        requires { at + 12 ≤ length bytes.now }
+        requires { at + Self.SIZE ≤ length bytes.now }
         ensures { result ≡ dylinker_command_at bytes.now at }
     {
         DylinkerCommand {
@@ -31,42 +32,45 @@ impl DylinkerCommand {
         }
     }
 
-    /// Appends its bytes.
+    /// Appends the bytes of the command, or leaves `out` as it was.
     pub fn write(self, out: &mut Vec<u8>) -> Result<(), AllocError>
         ensures ok { OnOk result (out.new.items ≡ out.old.items ++ dylinker_command_bytes self) }
-        ensures read_back { OnOk result ((rest : List ℕ) → dylinker_command_at (out.new.items ++ rest) (length out.old.items) ≡ self) }
+        ensures size { OnOk result (length out.new.items ≡ length out.old.items + Self.SIZE) }
+        ensures read_back { OnOk result (ReadsBack dylinker_command_at out.old.items out.new.items self) }
+        ensures err { OnErr result (out.new.items ≡ out.old.items) }
     {
-        put_u32(out, self.cmd)?;
-        put_u32(out, self.cmdsize)?;
-        put_u32(out, self.name)?;
+        out.reserve(Self::SIZE)?;
+        put_u32(out, self.cmd);
+        put_u32(out, self.cmdsize);
+        put_u32(out, self.name);
         Ok(())
     }
 }
 
-/// The platform and the versions that an image is for (`loader.h`: `build_version_command`).
+/// The platform and the versions that a file is for (`loader.h`: `build_version_command`).
 #[derive(Clone, Copy, Debug, PartialEq, Eq)]
 pub struct BuildVersionCommand {
     /// `LC_BUILD_VERSION`, 0x32.
     pub cmd: u32,
-    /// 24, as no tools follow.
+    /// In bytes: 24, and 8 for each tool.
     pub cmdsize: u32,
-    /// 1 for macOS.
+    /// `PLATFORM_MACOS`, 1.
     pub platform: u32,
-    /// X.Y.Z as `xxxx.yy.zz` in hexadecimal digits.
+    /// The least version of the system: X.Y.Z as the hexadecimal digits `xxxxyyzz`.
     pub minos: u32,
-    /// As `minos`.
+    /// The version of the development kit, in that form.
     pub sdk: u32,
     /// How many tools follow.
     pub ntools: u32,
 }
 
 impl BuildVersionCommand {
-    /// Its bytes in a file.
+    /// How many bytes it has in a file.
     pub const SIZE: usize = 24;
 
-    /// The one that stands at `at`.
+    /// Reads the command whose first byte stands at the offset `at`.
     pub fn read(bytes: &[u8], at: usize) -> BuildVersionCommand
-        requires { at + 24 ≤ length bytes.now }
+        requires { at + Self.SIZE ≤ length bytes.now }
         ensures { result ≡ build_version_command_at bytes.now at }
     {
         BuildVersionCommand {
@@ -79,17 +83,20 @@ impl BuildVersionCommand {
         }
     }
 
-    /// Appends its bytes.
+    /// Appends the bytes of the command, or leaves `out` as it was.
     pub fn write(self, out: &mut Vec<u8>) -> Result<(), AllocError>
         ensures ok { OnOk result (out.new.items ≡ out.old.items ++ build_version_command_bytes self) }
-        ensures read_back { OnOk result ((rest : List ℕ) → build_version_command_at (out.new.items ++ rest) (length out.old.items) ≡ self) }
+        ensures size { OnOk result (length out.new.items ≡ length out.old.items + Self.SIZE) }
+        ensures read_back { OnOk result (ReadsBack build_version_command_at out.old.items out.new.items self) }
+        ensures err { OnErr result (out.new.items ≡ out.old.items) }
     {
-        put_u32(out, self.cmd)?;
-        put_u32(out, self.cmdsize)?;
-        put_u32(out, self.platform)?;
-        put_u32(out, self.minos)?;
-        put_u32(out, self.sdk)?;
-        put_u32(out, self.ntools)?;
+        out.reserve(Self::SIZE)?;
+        put_u32(out, self.cmd);
+        put_u32(out, self.cmdsize);
+        put_u32(out, self.platform);
+        put_u32(out, self.minos);
+        put_u32(out, self.sdk);
+        put_u32(out, self.ntools);
         Ok(())
     }
 }
@@ -99,20 +106,21 @@ impl BuildVersionCommand {
 pub struct EntryPointCommand {
     /// `LC_MAIN`, 0x80000028.
     pub cmd: u32,
-    /// 24.
+    /// In bytes: 24.
     pub cmdsize: u32,
-    /// The offset of the entry from the start of `__TEXT`.
+    /// The offset of the first instruction from the start of `__TEXT`.
     pub entryoff: u64,
+    /// The bytes of the first thread's stack, or 0 for as many as is usual.
     pub stacksize: u64,
 }
 
 impl EntryPointCommand {
-    /// Its bytes in a file.
+    /// How many bytes it has in a file.
     pub const SIZE: usize = 24;
 
-    /// The one that stands at `at`.
+    /// Reads the command whose first byte stands at the offset `at`.
     pub fn read(bytes: &[u8], at: usize) -> EntryPointCommand
-        requires { at + 24 ≤ length bytes.now }
+        requires { at + Self.SIZE ≤ length bytes.now }
         ensures { result ≡ entry_point_command_at bytes.now at }
     {
         EntryPointCommand {
@@ -123,15 +131,18 @@ impl EntryPointCommand {
         }
     }
 
-    /// Appends its bytes.
+    /// Appends the bytes of the command, or leaves `out` as it was.
     pub fn write(self, out: &mut Vec<u8>) -> Result<(), AllocError>
         ensures ok { OnOk result (out.new.items ≡ out.old.items ++ entry_point_command_bytes self) }
-        ensures read_back { OnOk result ((rest : List ℕ) → entry_point_command_at (out.new.items ++ rest) (length out.old.items) ≡ self) }
+        ensures size { OnOk result (length out.new.items ≡ length out.old.items + Self.SIZE) }
+        ensures read_back { OnOk result (ReadsBack entry_point_command_at out.old.items out.new.items self) }
+        ensures err { OnErr result (out.new.items ≡ out.old.items) }
     {
-        put_u32(out, self.cmd)?;
-        put_u32(out, self.cmdsize)?;
-        put_u64(out, self.entryoff)?;
-        put_u64(out, self.stacksize)?;
+        out.reserve(Self::SIZE)?;
+        put_u32(out, self.cmd);
+        put_u32(out, self.cmdsize);
+        put_u64(out, self.entryoff);
+        put_u64(out, self.stacksize);
         Ok(())
     }
 }

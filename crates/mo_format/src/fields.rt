@@ -1,9 +1,9 @@
-ghost use Rattle.std.specs.Prelude.{◌≡◌, ◌+◌, ◌≤◌, ◌++◌, ◌∷◌, [], length, OnOk};
+//! The fields of a structure: little-endian numbers, and names of 16 bytes.
+ghost use Rattle.std.specs.Prelude.{◌≡◌, ◌+◌, ◌^◌, ◌<◌, ◌≤◌, ◌++◌, length, vec_len, vec_capacity};
 ghost use Rattle.mo_bytes.specs.Number.{number, number_bytes};
 ghost use Rattle.mo_format.specs.Fields as fields;
 
 use byteorder::{ByteOrder, LittleEndian};
-use std::alloc::AllocError;
 
 #[tactic(auto, unfolding(mo_bytes::specs::Number::number))]
 pub(crate) fn u8_at(bytes: &[u8], at: usize) -> u8
@@ -48,35 +48,55 @@ pub(crate) fn name_at(bytes: &[u8], at: usize) -> [u8; 16]
 }
 
 #[tactic(auto, unfolding(mo_bytes::specs::Number::number_bytes))]
-pub(crate) fn put_u8(out: &mut Vec<u8>, value: u8) -> Result<(), AllocError>
-    ensures { OnOk result (out.new.items ≡ out.old.items ++ number_bytes 1 value) }
+pub(crate) fn put_u8(out: &mut Vec<u8>, value: u8)
+    requires { vec_len out.old + 1 ≤ vec_capacity out.old }
+    ensures items { out.new.items ≡ out.old.items ++ number_bytes 1 value }
+    ensures fits { value < 256 ^ 1 }
+    ensures len { vec_len out.new ≡ vec_len out.old + 1 }
+    ensures capacity { vec_capacity out.old ≤ vec_capacity out.new }
 {
-    out.extend_from_slice(&value.to_le_bytes())
+    out.extend_from_slice(&value.to_le_bytes()).unwrap();
 }
 
 #[tactic(auto, unfolding(mo_bytes::specs::Number::number_bytes))]
-pub(crate) fn put_u16(out: &mut Vec<u8>, value: u16) -> Result<(), AllocError>
-    ensures { OnOk result (out.new.items ≡ out.old.items ++ number_bytes 2 value) }
+pub(crate) fn put_u16(out: &mut Vec<u8>, value: u16)
+    requires { vec_len out.old + 2 ≤ vec_capacity out.old }
+    ensures items { out.new.items ≡ out.old.items ++ number_bytes 2 value }
+    ensures fits { value < 256 ^ 2 }
+    ensures len { vec_len out.new ≡ vec_len out.old + 2 }
+    ensures capacity { vec_capacity out.old ≤ vec_capacity out.new }
 {
-    out.extend_from_slice(&value.to_le_bytes())
+    out.extend_from_slice(&value.to_le_bytes()).unwrap();
 }
 
 #[tactic(auto, unfolding(mo_bytes::specs::Number::number_bytes))]
-pub(crate) fn put_u32(out: &mut Vec<u8>, value: u32) -> Result<(), AllocError>
-    ensures { OnOk result (out.new.items ≡ out.old.items ++ number_bytes 4 value) }
+pub(crate) fn put_u32(out: &mut Vec<u8>, value: u32)
+    requires { vec_len out.old + 4 ≤ vec_capacity out.old }
+    ensures items { out.new.items ≡ out.old.items ++ number_bytes 4 value }
+    ensures fits { value < 256 ^ 4 }
+    ensures len { vec_len out.new ≡ vec_len out.old + 4 }
+    ensures capacity { vec_capacity out.old ≤ vec_capacity out.new }
 {
-    out.extend_from_slice(&value.to_le_bytes())
+    out.extend_from_slice(&value.to_le_bytes()).unwrap();
 }
 
 #[tactic(auto, unfolding(mo_bytes::specs::Number::number_bytes))]
-pub(crate) fn put_u64(out: &mut Vec<u8>, value: u64) -> Result<(), AllocError>
-    ensures { OnOk result (out.new.items ≡ out.old.items ++ number_bytes 8 value) }
+pub(crate) fn put_u64(out: &mut Vec<u8>, value: u64)
+    requires { vec_len out.old + 8 ≤ vec_capacity out.old }
+    ensures items { out.new.items ≡ out.old.items ++ number_bytes 8 value }
+    ensures fits { value < 256 ^ 8 }
+    ensures len { vec_len out.new ≡ vec_len out.old + 8 }
+    ensures capacity { vec_capacity out.old ≤ vec_capacity out.new }
 {
-    out.extend_from_slice(&value.to_le_bytes())
+    out.extend_from_slice(&value.to_le_bytes()).unwrap();
 }
 
-pub(crate) fn put_name(out: &mut Vec<u8>, name: &[u8; 16]) -> Result<(), AllocError>
-    ensures { OnOk result (out.new.items ≡ out.old.items ++ name.now) }
+pub(crate) fn put_name(out: &mut Vec<u8>, name: &[u8; 16])
+    requires { vec_len out.old + 16 ≤ vec_capacity out.old }
+    ensures items { out.new.items ≡ out.old.items ++ name.now }
+    ensures fits { length name.now ≡ 16 }
+    ensures len { vec_len out.new ≡ vec_len out.old + 16 }
+    ensures capacity { vec_capacity out.old ≤ vec_capacity out.new }
 {
-    out.extend_from_slice(name)
+    out.extend_from_slice(name).unwrap();
 }

@@ -1,4 +1,5 @@
-ghost use Rattle.std.specs.Prelude.{◌≡◌, ◌+◌, ◌≤◌, ◌<◌, ◌^◌, ◌++◌, ℕ, List, length, OnOk};
+ghost use Rattle.std.specs.Prelude.{◌≡◌, ◌+◌, ◌≤◌, ◌++◌, length, OnOk, OnErr};
+ghost use Rattle.mo_format.specs.Fields.{ReadsBack};
 ghost use Rattle.mo_format.specs.Relocation.{IsPackable, relocation_info_at, relocation_info_bytes, packed};
 
 use crate::fields::{put_u32, u32_at};
@@ -7,9 +8,9 @@ use std::alloc::AllocError;
 /// A relocation (`reloc.h`: `relocation_info`).
 #[derive(Clone, Copy, Debug, PartialEq, Eq)]
 pub struct RelocationInfo {
-    /// The offset in the section, as 32 bits in two's complement.
+    /// The offset of the field in the section, as 32 bits in two's complement.
     pub r_address: u32,
-    /// The number of a symbol or of a section, of 24 bits.
+    /// The index of a symbol from 0, or the number of a section from 1; 24 bits.
     pub r_symbolnum: u32,
     /// Whether the value counts from the field's place.
     pub r_pcrel: bool,
@@ -17,11 +18,11 @@ pub struct RelocationInfo {
     pub r_length: u8,
     /// Whether `r_symbolnum` is that of a symbol.
     pub r_extern: bool,
-    /// From 0 to 15.
+    /// The machine's kind of relocation, from 0 to 15 (`arm64/reloc.h`: `reloc_type_arm64`).
     pub r_type: u8,
 }
 
-// The bit fields in one number.
+// The bit fields as one number, which `reloc.h` leaves to the compiler: the first field has the low bits.
 fn pack(info: RelocationInfo) -> u32
     requires { IsPackable info }
     ensures { result ≡ packed info }
@@ -34,13 +35,13 @@ fn pack(info: RelocationInfo) -> u32
 }
 
 impl RelocationInfo {
-    /// Its bytes in a file.
+    /// How many bytes it has in a file.
     pub const SIZE: usize = 8;
 
-    /// The one that stands at `at`.
+    /// Reads the relocation whose first byte stands at the offset `at`.
     #[tactic(auto, unfolding(crate::specs::Relocation::unpacked))]
     pub fn read(bytes: &[u8], at: usize) -> RelocationInfo
-        requires { at + 8 ≤ length bytes.now }
+        requires { at + Self.SIZE ≤ length bytes.now }
         ensures exact { result ≡ relocation_info_at bytes.now at }
         ensures packable { IsPackable result }
     {
@@ -55,14 +56,17 @@ impl RelocationInfo {
         }
     }
 
-    /// Appends its bytes.
+    /// Appends the bytes of the relocation, or leaves `out` as it was.
     pub fn write(self, out: &mut Vec<u8>) -> Result<(), AllocError>
         requires { IsPackable self }
         ensures ok { OnOk result (out.new.items ≡ out.old.items ++ relocation_info_bytes self) }
-        ensures read_back { OnOk result ((rest : List ℕ) → relocation_info_at (out.new.items ++ rest) (length out.old.items) ≡ self) }
+        ensures size { OnOk result (length out.new.items ≡ length out.old.items + Self.SIZE) }
+        ensures read_back { OnOk result (ReadsBack relocation_info_at out.old.items out.new.items self) }
+        ensures err { OnErr result (out.new.items ≡ out.old.items) }
     {
-        put_u32(out, self.r_address)?;
-        put_u32(out, pack(self))?;
+        out.reserve(Self::SIZE)?;
+        put_u32(out, self.r_address);
+        put_u32(out, pack(self));
         Ok(())
     }
 }

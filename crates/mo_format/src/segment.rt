@@ -1,4 +1,5 @@
-ghost use Rattle.std.specs.Prelude.{◌≡◌, ◌+◌, ◌≤◌, ◌++◌, ℕ, List, length, OnOk};
+ghost use Rattle.std.specs.Prelude.{◌≡◌, ◌+◌, ◌≤◌, ◌++◌, length, OnOk, OnErr};
+ghost use Rattle.mo_format.specs.Fields.{ReadsBack};
 ghost use Rattle.mo_format.specs.Segment.{segment_command_at, segment_command_bytes, section_header_at, section_header_bytes};
 
 use crate::fields::{name_at, put_name, put_u32, put_u64, u32_at, u64_at};
@@ -9,33 +10,35 @@ use std::alloc::AllocError;
 pub struct SegmentCommand {
     /// `LC_SEGMENT_64`, 0x19.
     pub cmd: u32,
-    /// 72, and 80 for each section.
+    /// In bytes: 72, and 80 for each section.
     pub cmdsize: u32,
     /// The name, with zeros after it.
     pub segname: [u8; 16],
     /// The address in memory.
     pub vmaddr: u64,
-    /// The bytes in memory.
+    /// How many bytes it has in memory.
     pub vmsize: u64,
     /// The offset in the file.
     pub fileoff: u64,
-    /// The bytes in the file.
+    /// How many bytes it has in the file.
     pub filesize: u64,
-    /// `VM_PROT_READ` 1, `VM_PROT_WRITE` 2, `VM_PROT_EXECUTE` 4.
+    /// What its memory may ever allow: `VM_PROT_READ` 1, `VM_PROT_WRITE` 2, `VM_PROT_EXECUTE` 4.
     pub maxprot: u32,
+    /// What its memory allows at first, in those bits.
     pub initprot: u32,
     /// How many sections it has.
     pub nsects: u32,
+    /// Bits that are named `SG_`, such as `SG_READ_ONLY` 0x10.
     pub flags: u32,
 }
 
 impl SegmentCommand {
-    /// Its bytes in a file.
+    /// How many bytes it has in a file.
     pub const SIZE: usize = 72;
 
-    /// The one that stands at `at`.
+    /// Reads the command whose first byte stands at the offset `at`.
     pub fn read(bytes: &[u8], at: usize) -> SegmentCommand
-        requires { at + 72 ≤ length bytes.now }
+        requires { at + Self.SIZE ≤ length bytes.now }
         ensures { result ≡ segment_command_at bytes.now at }
     {
         SegmentCommand {
@@ -53,27 +56,30 @@ impl SegmentCommand {
         }
     }
 
-    /// Appends its bytes.
+    /// Appends the bytes of the command, or leaves `out` as it was.
     pub fn write(self, out: &mut Vec<u8>) -> Result<(), AllocError>
         ensures ok { OnOk result (out.new.items ≡ out.old.items ++ segment_command_bytes self) }
-        ensures read_back { OnOk result ((rest : List ℕ) → segment_command_at (out.new.items ++ rest) (length out.old.items) ≡ self) }
+        ensures size { OnOk result (length out.new.items ≡ length out.old.items + Self.SIZE) }
+        ensures read_back { OnOk result (ReadsBack segment_command_at out.old.items out.new.items self) }
+        ensures err { OnErr result (out.new.items ≡ out.old.items) }
     {
-        put_u32(out, self.cmd)?;
-        put_u32(out, self.cmdsize)?;
-        put_name(out, &self.segname)?;
-        put_u64(out, self.vmaddr)?;
-        put_u64(out, self.vmsize)?;
-        put_u64(out, self.fileoff)?;
-        put_u64(out, self.filesize)?;
-        put_u32(out, self.maxprot)?;
-        put_u32(out, self.initprot)?;
-        put_u32(out, self.nsects)?;
-        put_u32(out, self.flags)?;
+        out.reserve(Self::SIZE)?;
+        put_u32(out, self.cmd);
+        put_u32(out, self.cmdsize);
+        put_name(out, &self.segname);
+        put_u64(out, self.vmaddr);
+        put_u64(out, self.vmsize);
+        put_u64(out, self.fileoff);
+        put_u64(out, self.filesize);
+        put_u32(out, self.maxprot);
+        put_u32(out, self.initprot);
+        put_u32(out, self.nsects);
+        put_u32(out, self.flags);
         Ok(())
     }
 }
 
-/// A section's header (`loader.h`: `section_64`).
+/// The header of a section (`loader.h`: `section_64`).
 #[derive(Clone, Copy, Debug, PartialEq, Eq)]
 pub struct SectionHeader {
     /// The name, with zeros after it.
@@ -82,7 +88,7 @@ pub struct SectionHeader {
     pub segname: [u8; 16],
     /// The address in memory.
     pub addr: u64,
-    /// In bytes.
+    /// How many bytes it has in memory.
     pub size: u64,
     /// The offset of the contents in the file.
     pub offset: u32,
@@ -92,20 +98,23 @@ pub struct SectionHeader {
     pub reloff: u32,
     /// How many relocations there are.
     pub nreloc: u32,
-    /// The type in the low 8 bits, and the attributes above.
+    /// The type, as `S_REGULAR` 0, in the low 8 bits, and above them the attributes, named `S_ATTR_`.
     pub flags: u32,
+    /// Of stubs and of pointers to symbols, the first one's index in the indirect symbol table; else 0.
     pub reserved1: u32,
+    /// Of stubs, the bytes of one; else 0.
     pub reserved2: u32,
+    /// Without a meaning; 0.
     pub reserved3: u32,
 }
 
 impl SectionHeader {
-    /// Its bytes in a file.
+    /// How many bytes it has in a file.
     pub const SIZE: usize = 80;
 
-    /// The one that stands at `at`.
+    /// Reads the header whose first byte stands at the offset `at`.
     pub fn read(bytes: &[u8], at: usize) -> SectionHeader
-        requires { at + 80 ≤ length bytes.now }
+        requires { at + Self.SIZE ≤ length bytes.now }
         ensures { result ≡ section_header_at bytes.now at }
     {
         SectionHeader {
@@ -124,23 +133,26 @@ impl SectionHeader {
         }
     }
 
-    /// Appends its bytes.
+    /// Appends the bytes of the header, or leaves `out` as it was.
     pub fn write(self, out: &mut Vec<u8>) -> Result<(), AllocError>
         ensures ok { OnOk result (out.new.items ≡ out.old.items ++ section_header_bytes self) }
-        ensures read_back { OnOk result ((rest : List ℕ) → section_header_at (out.new.items ++ rest) (length out.old.items) ≡ self) }
+        ensures size { OnOk result (length out.new.items ≡ length out.old.items + Self.SIZE) }
+        ensures read_back { OnOk result (ReadsBack section_header_at out.old.items out.new.items self) }
+        ensures err { OnErr result (out.new.items ≡ out.old.items) }
     {
-        put_name(out, &self.sectname)?;
-        put_name(out, &self.segname)?;
-        put_u64(out, self.addr)?;
-        put_u64(out, self.size)?;
-        put_u32(out, self.offset)?;
-        put_u32(out, self.align)?;
-        put_u32(out, self.reloff)?;
-        put_u32(out, self.nreloc)?;
-        put_u32(out, self.flags)?;
-        put_u32(out, self.reserved1)?;
-        put_u32(out, self.reserved2)?;
-        put_u32(out, self.reserved3)?;
+        out.reserve(Self::SIZE)?;
+        put_name(out, &self.sectname);
+        put_name(out, &self.segname);
+        put_u64(out, self.addr);
+        put_u64(out, self.size);
+        put_u32(out, self.offset);
+        put_u32(out, self.align);
+        put_u32(out, self.reloff);
+        put_u32(out, self.nreloc);
+        put_u32(out, self.flags);
+        put_u32(out, self.reserved1);
+        put_u32(out, self.reserved2);
+        put_u32(out, self.reserved3);
         Ok(())
     }
 }

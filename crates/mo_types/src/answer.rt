@@ -8,7 +8,7 @@ use crate::memory::OutOfMemory;
 use std::alloc::{AllocError, AllocFailed};
 
 /// Why a command line that is well written gets no image. A file is a path, or `path(member)` for an
-/// archive's member; a place is an offset in its bytes.
+/// archive's member; a place is an offset in its bytes, or in a text the number of a line or document.
 #[derive(Debug, PartialEq, Eq, Drop)]
 pub enum Refusal {
     /// A file that is needed isn't there.

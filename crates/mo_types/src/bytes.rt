@@ -55,18 +55,21 @@ impl Bytes {
         bytes
     }
 
+    /// All of its bytes.
     pub fn as_slice(&self) -> &[u8]
         ensures { result.now ≡ self.now }
     {
         self.0.as_slice()
     }
 
+    /// How many bytes it has.
     pub fn len(&self) -> usize
         ensures { result ≡ length self.now }
     {
         self.0.len()
     }
 
+    /// Whether it has no byte.
     pub fn is_empty(&self) -> bool
         ensures { IsTrue result ↔ (self.now ≡ []) }
     {
@@ -153,6 +156,7 @@ impl Arg {
         Arg(word)
     }
 
+    /// The word's bytes, which are UTF-8.
     pub fn as_bytes(&self) -> &[u8]
         ensures { result.now ≡ self.now }
     {

@@ -8,6 +8,8 @@ mod items;
 mod key;
 mod memory;
 mod object;
+#[cfg(test)]
+mod tests;
 
 pub use answer::{Refusal, Status};
 pub use bytes::{Arg, ArgList, Bytes};

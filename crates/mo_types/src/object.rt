@@ -16,20 +16,22 @@ pub enum SymbolKind {
     Passed,
 }
 
-/// A symbol of an object.
+/// A symbol of an object (`nlist.h`: `nlist_64`).
 #[derive(Debug, Drop)]
 pub struct Symbol {
+    /// The name, without the NUL that ends it.
     pub name: Bytes,
+    /// What it stands for.
     pub kind: SymbolKind,
     /// `N_EXT`: other files see it.
     pub external: bool,
     /// `N_PEXT`: other images don't see it.
     pub hidden: bool,
-    /// `N_WEAK_DEF`.
+    /// `N_WEAK_DEF`: a definition without this bit wins over it.
     pub weak_def: bool,
-    /// `N_WEAK_REF`.
+    /// `N_WEAK_REF`: it may be undefined when the image runs.
     pub weak_ref: bool,
-    /// `N_NO_DEAD_STRIP`.
+    /// `N_NO_DEAD_STRIP`: it is kept even where nothing refers to it.
     pub no_strip: bool,
     /// `N_ALT_ENTRY`: it doesn't begin an atom.
     pub alt: bool,
@@ -43,13 +45,13 @@ pub type SymbolList = Items<Symbol>;
 pub struct RawReloc {
     /// `r_address`, the offset in the section, as 32 bits in two's complement.
     pub address: u32,
-    /// `r_symbolnum`, of 24 bits.
+    /// `r_symbolnum`, of 24 bits: the index of a symbol from 0, or the number of a section from 1.
     pub number: u32,
-    /// `r_pcrel`.
+    /// `r_pcrel`: whether the value counts from the field's place.
     pub pcrel: bool,
     /// `r_length`, from 0 to 3: the field has 2 to that power bytes.
     pub length: u8,
-    /// `r_extern`.
+    /// `r_extern`: whether `number` is that of a symbol.
     pub external: bool,
     /// `r_type`, from 0 to 15.
     pub kind: u8,
@@ -61,11 +63,13 @@ pub type RelocList = Items<RawReloc>;
 /// A section of an object (`loader.h`: `section_64`).
 #[derive(Debug, Drop)]
 pub struct Section {
+    /// The name of its segment, without the zeros after it.
     pub segment: Bytes,
+    /// Its name, without the zeros after it.
     pub name: Bytes,
     /// The address in the object.
     pub address: u64,
-    /// In bytes.
+    /// How many bytes it has in memory.
     pub size: u64,
     /// The alignment is 2 to this power.
     pub align: u8,
@@ -79,17 +83,20 @@ pub struct Section {
     pub reloc_offset: u64,
     /// The contents; empty for a zerofill section.
     pub bytes: Bytes,
+    /// The relocations of the contents.
     pub relocs: RelocList,
 }
 
 /// The sections of an object, in its order.
 pub type SectionList = Items<Section>;
 
-/// A relocatable object.
+/// A relocatable object (`loader.h`: `MH_OBJECT`).
 #[derive(Debug, Drop)]
 pub struct Object {
     /// `MH_SUBSECTIONS_VIA_SYMBOLS`: sections may be cut into atoms at their symbols.
     pub subsections: bool,
+    /// Its sections; others name them by their numbers from 1.
     pub sections: SectionList,
+    /// Its symbols; others name them by their indices from 0.
     pub symbols: SymbolList,
 }

@@ -1,12 +1,12 @@
-use Rattle.std.proofs.Common.{append_assoc, append-nil, arith}
+use Rattle.std.proofs.Common.{append_assoc, append-nil}
 use Rattle.mo_format.proofs.StructureLemmas.{entry_point_command_read}
 use Rattle.mo_format.proofs.command.EntryPointCommand.write.Goals as goal
 
 pub returns-clause-ok : goal.returns-clause-ok
 returns-clause-ok c =
-    rw (c.in_ok-put_u64-2.ensures, c.in_ok-put_u64.ensures, c.in_ok-put_u32-2.ensures, c.in_ok-put_u32.ensures)
+    rw (c.put_u64-2.ensures.items, c.put_u64.ensures.items, c.put_u32-2.ensures.items, c.put_u32.ensures.items, c.reserve.ensures.items)
     (simp (append_assoc, append-nil))
 
 pub returns-clause-read_back : goal.returns-clause-read_back
 returns-clause-read_back c rest =
-    rw (returns-clause-ok c) (entry_point_command_read c.args.self c.args.out.now.items rest (omega arith, (omega arith, (omega arith, (omega arith, tt)))))
+    rw (returns-clause-ok c) (entry_point_command_read c.args.self c.args.out.now.items rest (c.put_u32.ensures.fits, (c.put_u32-2.ensures.fits, (c.put_u64.ensures.fits, (c.put_u64-2.ensures.fits, tt)))))

@@ -3,7 +3,9 @@ use Rattle.mo_format.proofs.RelocationLemmas.{relocation_info_read}
 use Rattle.mo_format.proofs.relocation.RelocationInfo.write.Goals as goal
 
 pub returns-clause-ok : goal.returns-clause-ok
-returns-clause-ok c = rw (c.in_ok-put_u32-2.ensures, c.pack.ensures, c.in_ok-put_u32.ensures) (simp (append_assoc, append-nil))
+returns-clause-ok c =
+    rw (c.put_u32-2.ensures.items, c.pack.ensures, c.put_u32.ensures.items, c.reserve.ensures.items)
+    (simp (append_assoc, append-nil))
 
 pub returns-clause-read_back : goal.returns-clause-read_back
 returns-clause-read_back c rest =

@@ -1,12 +1,12 @@
-use Rattle.std.proofs.Common.{append_assoc, append-nil, arith}
+use Rattle.std.proofs.Common.{append_assoc, append-nil}
 use Rattle.mo_format.proofs.StructureLemmas.{section_header_read}
 use Rattle.mo_format.proofs.segment.SectionHeader.write.Goals as goal
 
 pub returns-clause-ok : goal.returns-clause-ok
 returns-clause-ok c =
-    rw (c.in_ok-put_u32-8.ensures, c.in_ok-put_u32-7.ensures, c.in_ok-put_u32-6.ensures, c.in_ok-put_u32-5.ensures, c.in_ok-put_u32-4.ensures, c.in_ok-put_u32-3.ensures, c.in_ok-put_u32-2.ensures, c.in_ok-put_u32.ensures, c.in_ok-put_u64-2.ensures, c.in_ok-put_u64.ensures, c.in_ok-put_name-2.ensures, c.in_ok-put_name.ensures)
+    rw (c.put_u32-8.ensures.items, c.put_u32-7.ensures.items, c.put_u32-6.ensures.items, c.put_u32-5.ensures.items, c.put_u32-4.ensures.items, c.put_u32-3.ensures.items, c.put_u32-2.ensures.items, c.put_u32.ensures.items, c.put_u64-2.ensures.items, c.put_u64.ensures.items, c.put_name-2.ensures.items, c.put_name.ensures.items, c.reserve.ensures.items)
     (simp (append_assoc, append-nil))
 
 pub returns-clause-read_back : goal.returns-clause-read_back
 returns-clause-read_back c rest =
-    rw (returns-clause-ok c) (section_header_read c.args.self c.args.out.now.items rest (omega arith, (omega arith, (omega arith, (omega arith, (omega arith, (omega arith, (omega arith, (omega arith, (omega arith, (omega arith, (omega arith, (omega arith, tt)))))))))))))
+    rw (returns-clause-ok c) (section_header_read c.args.self c.args.out.now.items rest (c.put_name.ensures.fits, (c.put_name-2.ensures.fits, (c.put_u64.ensures.fits, (c.put_u64-2.ensures.fits, (c.put_u32.ensures.fits, (c.put_u32-2.ensures.fits, (c.put_u32-3.ensures.fits, (c.put_u32-4.ensures.fits, (c.put_u32-5.ensures.fits, (c.put_u32-6.ensures.fits, (c.put_u32-7.ensures.fits, (c.put_u32-8.ensures.fits, tt)))))))))))))

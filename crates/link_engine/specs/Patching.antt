@@ -1,0 +1,32 @@
+-- The section's bytes with the distances of its branches (Arm Architecture Reference Manual, "BL").
+use Rattle.std.specs.Prelude.{ℕ, ◌+◌, ◌++◌, ℤ, pos, ◌-ℤ◌, List, [], ◌∷◌, take, drop, unwrap_or}
+use Rattle.arm64_insn.specs.Branch.{branch_word}
+use Rattle.mo_bytes.specs.Number.{number, number_bytes}
+use Rattle.mo_types.specs.declared.object.RawReloc.{RawReloc}
+use Rattle.mo_types.specs.declared.object.Section.{Section}
+use Rattle.mo_types.specs.declared.object.Symbol.{Symbol}
+use Rattle.link_engine.specs.Branches.{target_of}
+
+-- bytes with a number of four bytes at a place
+abbrev pub with_word : ℕ → ℕ → List ℕ → List ℕ
+with_word at word bytes = take at bytes ++ (number_bytes 4 word ++ drop 4 (drop at bytes))
+
+-- bytes whose branch at a place goes a distance in bytes
+abbrev pub branch_at : ℕ → ℤ → List ℕ → List ℕ
+branch_at at delta bytes = with_word at (branch_word (number 4 bytes at) delta) bytes
+
+-- the distance in bytes from a relocation's place to its symbol
+unfoldable pub distance_of : Section → List Symbol → RawReloc → ℤ
+distance_of text symbols reloc = pos (unwrap_or (target_of text symbols reloc) 0) -ℤ pos reloc.address
+
+-- bytes in which the section begins at a place, with the branch of each relocation at its distance
+unfoldable pub patched_by : Section → List Symbol → ℕ → RawReloc → List ℕ → List ℕ
+patched_by text symbols start reloc bytes = branch_at (start + reloc.address) (distance_of text symbols reloc) bytes
+
+abbrev pub patched : Section → List Symbol → ℕ → List RawReloc → List ℕ → List ℕ
+patched text symbols start [] bytes = bytes
+patched text symbols start (reloc ∷ relocs) bytes = patched text symbols start relocs (patched_by text symbols start reloc bytes)
+
+-- the section's contents in the image
+unfoldable pub contents_of : Section → List Symbol → List ℕ
+contents_of text symbols = patched text symbols 0 text.relocs text.bytes
