@@ -1,7 +1,8 @@
 //! Files of the file system.
 
-ghost use Rattle.std.specs.Prelude.{◌≡◌, ◌+◌, ◌<◌, ◌≤◌, ◌^◌, [], length, take, drop, vec_len, false, None, IfOk, IfSome, IsErrOf, OnOk, OnErr};
+ghost use Rattle.std.specs.Prelude.{◌≡◌, ◌+◌, ◌<◌, ◌≤◌, ◌^◌, [], length, take, drop, ◌≢◌, vec_len, false, None, IfErr, IfOk, IfSome, IsErrOf, OnOk, OnErr};
 ghost use Rattle.std.specs.Io.KnownBytes.{Consumes, IsAtEnd};
+ghost use Rattle.std.specs.IoError.{error_kind};
 ghost use Rattle.atomld.specs.Faults.{counted, is_unread};
 ghost use Rattle.mo_outside.specs.Faults.{Rises};
 ghost use Rattle.mo_outside.specs.Files.{fetch_limit};
@@ -12,7 +13,7 @@ use mo_outside::{FetchFault, Files};
 use std::alloc::Global;
 use std::fs::OpenFile;
 use std::io::{ErrorKind, Read};
-use std::{fs, rt};
+use std::{fs, io, rt};
 
 // The most bytes that are fetched of one file.
 const FETCH_LIMIT: usize = 1 << 30;
@@ -107,23 +108,31 @@ where
     read_whole(&mut file, into)
 }
 
+// The file that was opened, or `None` where no file has the path.
+fn found<F: Drop>(opened: io::Result<F>) -> Result<Option<F>, FetchFault>
+    ensures there { IfOk opened (λ file. result ≡ Ok (Some file)) }
+    ensures absent { IfErr opened (λ e. error_kind e ≡ ErrorKind.NotFound → result ≡ Ok None) }
+    ensures failed { IfErr opened (λ e. error_kind e ≢ ErrorKind.NotFound → result ≡ Err FetchFault.Failed) }
+{
+    match opened {
+        Ok(file) => Ok(Some(file)),
+        Err(e) if e.kind() == ErrorKind::NotFound => Ok(None),
+        Err(_) => Err(FetchFault::Failed),
+    }
+}
+
 fn fetch_from<R: rt::Files>(rt: &R, path: &[u8], into: &mut Vec<u8>) -> Result<bool, FetchFault>
     requires { into.old.items ≡ [] }
     ensures absent { result ≡ Ok false → into.new.items ≡ [] }
     ensures size { length into.new.items ≤ 2 ^ 30 }
     ensures err { OnErr result (into.new.items ≡ []) }
 {
-    let Ok(path) = str::from_utf8(path) else {
-        return Err(FetchFault::Failed);
+    let path = str::from_utf8(path).map_err(|_| FetchFault::Failed)?;
+    let Some(file) = found(fs::open(rt, path))? else {
+        return Ok(false);
     };
-    match fs::open(rt, path) {
-        Ok(file) => {
-            read_file(file, into)?;
-            Ok(true)
-        }
-        Err(e) if e.kind() == ErrorKind::NotFound => Ok(false),
-        Err(_) => Err(FetchFault::Failed),
-    }
+    read_file(file, into)?;
+    Ok(true)
 }
 
 impl<R: rt::Files> Files for DiskFiles<R> {
