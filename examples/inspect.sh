@@ -1,0 +1,24 @@
+#!/usr/bin/env bash
+# Links main.o by the built program and has llvm-objdump read the image: where it is entered, and what it calls.
+set -euo pipefail
+examples=$(cd "$(dirname "$0")" && pwd)
+program=$examples/../crates/atomld/out/atomld
+[ -x "$program" ] || { echo "build the program first: (cd crates/atomld && rt run)"; exit 1; }
+
+objdump=$(compgen -c llvm-objdump | sort -Vu | head -n 1 || true)
+[ -n "$objdump" ] || { echo "skipped: llvm-objdump isn't there"; exit 0; }
+
+folder=$(mktemp -d)
+trap 'rm -rf "$folder"' EXIT
+"$program" -o "$folder/main" "$examples/main.o"
+"$objdump" --macho --all-headers -d "$folder/main" | tee "$folder/dump"
+
+expect() {
+    grep -Eq "$1" "$folder/dump" || { echo "missing: $2"; exit 1; }
+}
+# 440 is 0x1b8, the distance of __text from the image's start
+expect '^ *entryoff 440$' 'LC_MAIN at the start of __text'
+expect '^ *addr 0x00000001000001b8$' '__text at 0x1000001b8'
+expect '^ *1000001b8:.*\bbl\b.*0x1000001c0$' 'the call of the function at 0x1000001c0'
+[ "$(stat -c %s "$folder/main")" = 16384 ] || { echo "missing: a file of one page"; exit 1; }
+echo "as it should be: entered at __text's start, and the call reaches the function behind it"

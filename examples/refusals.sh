@@ -1,0 +1,55 @@
+#!/usr/bin/env bash
+# Runs the built program where files can't be read or written and where words aren't good, and compares the exit
+# status and the line on standard error with those that it promises. Standard output stays empty.
+set -euo pipefail
+examples=$(cd "$(dirname "$0")" && pwd)
+program=$(cd "$examples/.." && pwd)/crates/atomld/out/atomld
+[ -x "$program" ] || { echo "build the program first: (cd crates/atomld && rt run)"; exit 1; }
+
+folder=$(mktemp -d)
+trap 'rm -rf "$folder"' EXIT
+cd "$folder"
+cp "$examples/main.o" main.o
+mkdir folder
+cp main.o locked.o
+chmod 000 locked.o
+failures=0
+
+# try STATUS LINE WORD..
+try() {
+    local status=0
+    "$program" "${@:3}" >out.txt 2>err.txt || status=$?
+    if [ "$status" != "$1" ] || [ "$(cat err.txt)" != "$2" ] || [ -s out.txt ]; then
+        echo "words ${*:3}: status $status, wanted $1"
+        echo "  line: $(cat err.txt)"
+        echo "  wanted: $2"
+        failures=$((failures + 1))
+    fi
+}
+
+try 0 '' -o image main.o
+[ -x image ] || { echo "the image can't be run"; failures=$((failures + 1)); }
+try 0 '' main.o
+cmp image a.out || failures=$((failures + 1))
+try 0 '' -o /dev/null main.o
+try 1 'atomld: not found: none.o' none.o
+try 2 'atomld: usage: word 0: noinput'
+try 2 'atomld: usage: word 2: novalue' main.o -o
+try 2 'atomld: usage: word 2: unknown' main.o $'\xff'
+try 3 'atomld: cannot read folder' folder
+[ "$(id -u)" = 0 ] || try 3 'atomld: cannot read locked.o' locked.o
+try 3 'atomld: cannot write folder' -o folder main.o
+try 3 'atomld: cannot write none/image' -o none/image main.o
+[ ! -c /dev/full ] || try 3 'atomld: cannot write /dev/full' -o /dev/full main.o
+
+# where standard error is closed or full, the answer is the same
+status=0; "$program" none.o 2>&- || status=$?
+[ "$status" = 1 ] || { echo "closed standard error: status $status"; failures=$((failures + 1)); }
+
+# words longer than a line, and where memory ends
+try 1 "atomld: not found: $(printf 'x%.0s' $(seq 250)).o" "$(printf 'x%.0s' $(seq 250)).o"
+status=0; (ulimit -v 40000; head -c 60000000 /dev/zero >large.o; "$program" large.o 2>err.txt) || status=$?
+[ "$status:$(cat err.txt)" = '4:atomld: out of memory' ] || { echo "no memory: status $status, $(cat err.txt)"; failures=$((failures + 1)); }
+
+[ "$failures" = 0 ] || { echo "$failures failed"; exit 1; }
+echo "all as promised"
