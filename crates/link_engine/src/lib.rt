@@ -89,3 +89,6 @@ pub fn link<F: Files, O: Out, D: Diag, G: Gate + Sync>(
     tell(diag, path.as_slice(), &status);
     status
 }
+
+#[cfg(test)]
+mod tests;

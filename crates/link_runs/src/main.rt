@@ -1,4 +1,4 @@
-//! Runs of the linker on stored inputs, for which independent tools gave the answers.
+//! Runs of the linker on stored inputs, for which another program gave the answers.
 //!
 //! `cases.tsv` has a row for each case after its heading: the case's name, the words of its command line
 //! with one space between any two, and what is expected, which this program doesn't read. The name is the
