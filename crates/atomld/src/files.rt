@@ -98,6 +98,7 @@ where
     F: Drop,
     requires { into.old.items ≡ [] }
     ensures size { length into.new.items ≤ 2 ^ 30 }
+    ensures bytes { OnOk result (IfSome (F.remaining file) (λ held. into.new.items ≡ take fetch_limit held)) }
     ensures err { OnErr result (into.new.items ≡ []) }
 {
     if let Ok(metadata) = file.metadata() {

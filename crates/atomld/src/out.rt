@@ -1,6 +1,7 @@
 //! The image as a file of the file system.
 
-ghost use Rattle.std.specs.Prelude.{◌≡◌, ◌<◌, ◌≤◌, length, is_err, None, IfOk, OnErr};
+ghost use Rattle.std.specs.Prelude.{◌≡◌, ◌<◌, ◌≤◌, length, take, is_err, None, IfOk, IfSome, IsSome, OnOk, OnErr};
+ghost use Rattle.std.specs.Io.KnownBytes.{Appends};
 ghost use Rattle.atomld.specs.Faults.{counted};
 ghost use Rattle.mo_outside.specs.Faults.{Rises};
 
@@ -62,6 +63,8 @@ impl<R: rt::Files> Out for DiskOut<R> {
         ensures counts { self.new.faults ≡ counted (is_err result) self.old.faults }
         ensures faults { self.old.faults ≤ self.new.faults }
         ensures failed { OnErr result (Rises self.old.faults self.new.faults) }
+        ensures open { OnOk result (IsSome self.new.file) }
+        ensures err { OnErr result (self.new.file ≡ self.old.file) }
     {
         match create(&self.rt, path) {
             Ok(file) => {
@@ -82,6 +85,9 @@ impl<R: rt::Files> Out for DiskOut<R> {
         ensures failed { OnErr result (Rises self.old.faults self.new.faults) }
         ensures within { IfOk result (λ count. count ≤ length bytes.now) }
         ensures some { IfOk result (λ count. 0 < length bytes.now → 0 < count) }
+        ensures open { OnOk result (IsSome self.old.file) }
+        ensures reaches { IfOk result (λ count. IfSome self.old.file (λ old. IfSome self.new.file (λ new.
+            Appends (R.File.contents old) (R.File.contents new) (take count bytes.now)))) }
     {
         let written = match &mut self.file {
             Some(file) => write_piece(file, bytes),
@@ -98,6 +104,8 @@ impl<R: rt::Files> Out for DiskOut<R> {
         ensures counts { self.new.faults ≡ counted (is_err result) self.old.faults }
         ensures faults { self.old.faults ≤ self.new.faults }
         ensures failed { OnErr result (Rises self.old.faults self.new.faults) }
+        ensures open { OnOk result (IsSome self.old.file) }
+        ensures closed { self.new.file ≡ None }
     {
         let finished = match self.file.take() {
             Some(file) => make_executable(&file).map_err(|_| Failed),
