@@ -3,6 +3,8 @@
 
 mod fields;
 mod rounding;
+#[cfg(test)]
+mod tests;
 
 pub use fields::{read_u16, read_u32, read_u64};
 pub use rounding::round_up;
