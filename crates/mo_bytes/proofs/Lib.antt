@@ -1,2 +1,3 @@
 pub mod Multiples
 pub mod Numbers
+pub mod Ulebs
