@@ -1,0 +1,6 @@
+//! The export trie of a Mach-O image: written for a list of exports, and searched for a name.
+#![tactic(auto)]
+
+mod lookup;
+
+pub use lookup::{Found, find};
