@@ -1,2 +1,3 @@
 pub mod Strings
 pub mod Lookup
+pub mod Trie
