@@ -68,8 +68,8 @@ node_stands spell place at (first ∷ nodes) node e (inr h) =
       rest = later.rest;
       from = omega (arith, later.from);
       read =
-        let split : place node - at ≡ length (spell first) + (place node - (at + length (spell first))) = omega (arith, later.from) in
-        rw (split) (sym (drop-drop (place node - (at + length (spell first))) (length (spell first)) (spell first ++ flat_map spell nodes))
+          let split : place node - at ≡ length (spell first) + (place node - (at + length (spell first))) = omega (arith, later.from) in
+          rw (split) (sym (drop-drop (place node - (at + length (spell first))) (length (spell first)) (spell first ++ flat_map spell nodes))
           ∙ ap (drop (place node - (at + length (spell first)))) (drop_at (spell first) (flat_map spell nodes) (length (spell first)) refl) ∙ later.read);
     }
 
@@ -114,8 +114,8 @@ edge_reads : (bytes edge more : List ℕ) (at child : ℕ) → (In 0 edge → �
 edge_reads bytes edge more at child clean small e =
     let text : drop at bytes ≡ edge ++ (0 ∷ (uleb child ++ more)) = e ∙ append_assoc edge (0 ∷ uleb child) more in
     let behind : drop (at + length edge + 1) bytes ≡ uleb child ++ more =
-        let split : at + length edge + 1 ≡ at + (length edge + 1) = omega arith in
-        rw split (sym (drop-drop (length edge + 1) at bytes) ∙ ap (drop (length edge + 1)) text ∙ past edge (uleb child ++ more)) in
+    let split : at + length edge + 1 ≡ at + (length edge + 1) = omega arith in
+    rw split (sym (drop-drop (length edge + 1) at bytes) ∙ ap (drop (length edge + 1)) text ∙ past edge (uleb child ++ more)) in
     record {
       edge' = ap before_nul text ∙ edge_is edge (uleb child ++ more) clean;
       number = uleb_stands bytes more (at + length edge + 1) child small behind;
@@ -131,15 +131,15 @@ unfolding child_at child_bytes
 child_scan bytes place node [] at rest tail all e = refl
 child_scan bytes place node (kid ∷ kids) at rest tail all e =
     let reads = edge_reads bytes (drop (length node) kid) (flat_map (child_bytes place node) kids ++ tail) at (place kid)
-        (λ nul. all.0.clean (nul_drop (length node) kid nul)) all.0.small (e ∙ append_assoc (drop (length node) kid ++ 0 ∷ uleb (place kid)) _ tail) in
+    (λ nul. all.0.clean (nul_drop (length node) kid nul)) all.0.small (e ∙ append_assoc (drop (length node) kid ++ 0 ∷ uleb (place kid)) _ tail) in
     let same : begins (drop (length node) kid) rest ≡ begins kid (node ++ rest) = begins_edge node kid rest all.0.below in
     elim (cases_Bool (begins kid (node ++ rest))) [
       | inl here ↦
           rw here (child_found bytes (place node) (suc (length kids)) at rest (drop (length node) kid) (place kid) _ (length kids) refl reads.edge' reads.number (same ∙ here)
-            ∙ rw (lt-ltb (place node) (place kid) all.0.later) refl)
+          ∙ rw (lt-ltb (place node) (place kid) all.0.later) refl)
       | inr away ↦
           rw away (child_more bytes (place node) (suc (length kids)) at rest (drop (length node) kid) (place kid) _ (length kids) refl reads.edge' reads.number (same ∙ away)
-            ∙ child_scan bytes place node kids _ rest tail all.1 reads.next)
+          ∙ child_scan bytes place node kids _ rest tail all.1 reads.next)
     ]
 
 -- ---- a node
@@ -168,14 +168,14 @@ node_reads : (bytes info kids rest : List ℕ) (at count : ℕ) → length bytes
 node_reads bytes info kids rest at count short e =
     let size = uleb (length info) in
     let text : drop at bytes ≡ size ++ (info ++ (count ∷ (kids ++ rest))) =
-        e ∙ append_assoc (size ++ info) (count ∷ kids) rest ∙ append_assoc size info (count ∷ (kids ++ rest)) in
+    e ∙ append_assoc (size ++ info) (count ∷ kids) rest ∙ append_assoc size info (count ∷ (kids ++ rest)) in
     let lens : length (drop at bytes) ≡ length size + (length info + suc (length (kids ++ rest))) =
-        ap length text ∙ length-append size (info ++ (count ∷ (kids ++ rest))) ∙ ap (λ (n : ℕ). length size + n) (length-append info (count ∷ (kids ++ rest))) in
+    ap length text ∙ length-append size (info ++ (count ∷ (kids ++ rest))) ∙ ap (λ (n : ℕ). length size + n) (length-append info (count ∷ (kids ++ rest))) in
     let few : length info < 2 ^ 64 = omega (arith, length-drop at bytes) in
     let behind : drop (at + length size) bytes ≡ info ++ (count ∷ (kids ++ rest)) =
-        sym (drop-drop (length size) at bytes) ∙ ap (drop (length size)) text ∙ drop_at size _ (length size) refl in
+    sym (drop-drop (length size) at bytes) ∙ ap (drop (length size)) text ∙ drop_at size _ (length size) refl in
     let counted : drop (at + length size + length info) bytes ≡ count ∷ (kids ++ rest) =
-        sym (drop-drop (length info) (at + length size) bytes) ∙ ap (drop (length info)) behind ∙ drop_at info _ (length info) refl in
+    sym (drop-drop (length info) (at + length size) bytes) ∙ ap (drop (length info)) behind ∙ drop_at info _ (length info) refl in
     record {
       size = uleb_stands bytes (info ++ (count ∷ (kids ++ rest))) at (length info) few text;
       tail = rest;
@@ -204,10 +204,10 @@ data_some : (bytes : List ℕ) (at flags address : ℕ) (rest : List ℕ) → fl
 unfolding data_at
 data_some bytes at flags address rest f a e =
     let some : eqb (length (uleb flags ++ uleb address)) 0 ≡ false =
-        ne_eqb _ 0 (λ (none : length (uleb flags ++ uleb address) ≡ 0). omega (arith, length-append (uleb flags) (uleb address), length-uleb_pos flags)) in
+    ne_eqb _ 0 (λ (none : length (uleb flags ++ uleb address) ≡ 0). omega (arith, length-append (uleb flags) (uleb address), length-uleb_pos flags)) in
     let text : drop at bytes ≡ uleb flags ++ (uleb address ++ rest) = e ∙ append_assoc (uleb flags) (uleb address) rest in
     let behind : drop (at + length (uleb flags)) bytes ≡ uleb address ++ rest =
-        sym (drop-drop (length (uleb flags)) at bytes) ∙ ap (drop (length (uleb flags))) text ∙ drop_at (uleb flags) _ (length (uleb flags)) refl in
+    sym (drop-drop (length (uleb flags)) at bytes) ∙ ap (drop (length (uleb flags))) text ∙ drop_at (uleb flags) _ (length (uleb flags)) refl in
     rw (some, uleb_stands bytes (uleb address ++ rest) at flags f text, uleb_stands bytes rest (at + length (uleb flags)) address a behind) refl
 
 -- ---- the walk
@@ -309,9 +309,9 @@ missing exports nodes place bytes node rest s more none = by (export_at exports 
         let held = find_some _ exports export is in
         let same : export.name ≡ node ++ rest = (bytes_eq-Decides export.name (node ++ rest)).0 held.1 in
         let name : Contains (names exports) (node ++ rest) =
-            Contains_from_in (names exports) (node ++ rest) (subst (λ (text : List ℕ). In text (names exports)) same (in_map (λ (export : ExportAddress). export.name) exports export held.0)) in
+        Contains_from_in (names exports) (node ++ rest) (subst (λ (text : List ℕ). In text (names exports)) same (in_map (λ (export : ExportAddress). export.name) exports export held.0)) in
         let placed : In (node ++ rest) nodes =
-            in_from_Contains nodes (node ++ rest) (s.all.all (node ++ rest) (inr (node ++ rest, node ++ rest, name, name, sym (common_self (node ++ rest))))) in
+        in_from_Contains nodes (node ++ rest) (s.all.all (node ++ rest) (inr (node ++ rest, node ++ rest, name, name, sym (common_self (node ++ rest))))) in
         let above : is_above node (node ++ rest) ≡ true = above_from node (node ++ rest) (begins_append node rest) (omega (arith, length-append node rest)) in
         let kid = nearest (length (node ++ rest)) nodes node (node ++ rest) (node ++ rest) (omega arith) placed above (begins_self (node ++ rest)) in
         absurd (true≢false (sym kid.2 ∙ find_none _ (children nodes node) kid.0 none kid.1))
@@ -322,7 +322,7 @@ behind_kid node kid rest below front =
     let split : node ++ rest ≡ kid ++ drop (length kid) (node ++ rest) = begins_split kid (node ++ rest) front in
     let lens : length kid ≡ length node + length (drop (length node) kid) = omega (arith, length-drop (length node) kid, begins_short node kid below) in
     let dropped : drop (length kid) (node ++ rest) ≡ drop (length (drop (length node) kid)) rest =
-        ap (λ (n : ℕ). drop n (node ++ rest)) lens ∙ drop-append-add node rest (length (drop (length node) kid)) in
+    ap (λ (n : ℕ). drop n (node ++ rest)) lens ∙ drop-append-add node rest (length (drop (length node) kid)) in
     split ∙ ap (λ (text : List ℕ). kid ++ text) dropped
 
 walked : (left : ℕ) (exports : List ExportAddress) (nodes : List (List ℕ)) (place : List ℕ → ℕ) (bytes node rest : List ℕ) → IsSpelled exports nodes place bytes → In node nodes → length bytes ≤ place node + left → walk left bytes (place node) rest ≡ answer exports (node ++ rest)
@@ -334,9 +334,9 @@ walked (suc left) exports nodes place bytes node [] s h enough =
 walked (suc left) exports nodes place bytes node (x ∷ rest) s h enough =
     let here = reads exports nodes place bytes node s h in
     let kids : AllByRecursion (IsKid place node) (children nodes node) =
-        all_from_in (IsKid place node) (children nodes node) (λ kid k. is_kid exports nodes place bytes node kid s h k) in
+    all_from_in (IsKid place node) (children nodes node) (λ kid k. is_kid exports nodes place bytes node kid s h k) in
     let stepped : step bytes (place node) (x ∷ rest) ≡ chosen place node (find (λ kid. begins kid (node ++ x ∷ rest)) (children nodes node)) =
-        step_on bytes (place node) _ _ _ x rest here ∙ child_scan bytes place node (children nodes node) _ (x ∷ rest) here.tail kids here.first in
+    step_on bytes (place node) _ _ _ x rest here ∙ child_scan bytes place node (children nodes node) _ (x ∷ rest) here.tail kids here.first in
     by (find (λ kid. begins kid (node ++ x ∷ rest)) (children nodes node)) refl stepped kids
     (λ kid rest k near. walked left exports nodes place bytes kid rest s (in_nodes kid k) near)
   where
@@ -351,7 +351,7 @@ walked (suc left) exports nodes place bytes node (x ∷ rest) s h enough =
         let good = all_in (IsKid place node) (children nodes node) kid kids held.0 in
         walk_more bytes (suc left) (place node) (place kid) (length (drop (length node) kid)) left (x ∷ rest) refl stepped
         ∙ (further kid (drop (length (drop (length node) kid)) (x ∷ rest)) held.0 (omega (arith, good.later))
-          ∙ ap (answer exports) (sym (behind_kid node kid (x ∷ rest) good.below held.1)))
+        ∙ ap (answer exports) (sym (behind_kid node kid (x ∷ rest) good.below held.1)))
 
 below_nil : (a : List ℕ) → Below a [] → ⊥
 below_nil [] h = h

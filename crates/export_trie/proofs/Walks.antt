@@ -26,7 +26,7 @@ before_some (b ∷ bytes) zero h = let yes : eqb b 0 ≡ true = h.1 in rw yes re
 before_some (b ∷ bytes) (suc n) h =
     let no : eqb b 0 ≡ false = false_from_ne_true (eqb b 0) (h.0.before 0 (omega arith) (omega arith)) in
     let rest : before_nul bytes ≡ Some (take n bytes) =
-        before_some bytes n (record { low = omega arith; high = omega (arith, h.0.high); before = λ k low high. h.0.before (suc k) (omega arith) (omega arith) }, h.1) in
+    before_some bytes n (record { low = omega arith; high = omega (arith, h.0.high); before = λ k low high. h.0.before (suc k) (omega arith) (omega arith) }, h.1) in
     rw (no, rest) refl
 
 pub begins_is : (front text : List ℕ) → starts_with nat_eq text front ≡ begins front text

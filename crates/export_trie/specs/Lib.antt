@@ -1,3 +1,4 @@
 pub mod Strings
 pub mod Lookup
 pub mod Trie
+pub mod Held

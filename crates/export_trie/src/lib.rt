@@ -2,7 +2,16 @@
 #![tactic(auto)]
 
 mod export;
+mod family;
 mod lookup;
+mod nodes;
+mod order;
+mod places;
+mod spell;
+#[cfg(test)]
+mod tests;
+mod write;
 
 pub use export::{ExportAddress, ExportAddresses};
 pub use lookup::{Found, find};
+pub use write::write_trie;

@@ -7,7 +7,7 @@ returns-then-starts_with-clause-exact c =
     let some : c.args.count - c.loop.counter ≡ suc (c.args.count - (c.loop.counter + 1)) = omega arith in
     c.step_down.ensures
     ∙ sym (c.loop.invariant
-      ∙ child_found _ _ _ _ _ _ _ _ _ some (sym c.in-Some.ensures.exact) (sym c.in-Some-uleb_read.ensures.exact) (sym (begins_is c.in-Some.edge.now c.args.rest.now) ∙ sym c.if-starts_with.ensures.value))
+    ∙ child_found _ _ _ _ _ _ _ _ _ some (sym c.in-Some.ensures.exact) (sym c.in-Some-uleb_read.ensures.exact) (sym (begins_is c.in-Some.edge.now c.args.rest.now) ∙ sym c.if-starts_with.ensures.value))
 
 pub loop-preserved : goal.loop-preserved
 loop-preserved c =
