@@ -1,3 +1,4 @@
 pub mod Walks
 pub mod Strings
 pub mod Answers
+pub mod Entering
