@@ -271,7 +271,7 @@ entered name strings fronts new backs cut enters = record {
     across (later ∷ rest) same order b (inr i) =
         let here : In (common name later) ((fronts ++ new) ++ backs) = subst (λ (texts : List (List ℕ)). In (common name (first_of texts)) ((fronts ++ new) ++ backs)) (sym same) has_shared in
         let past : In (common later b) ((fronts ++ new) ++ backs) =
-            old (common later b) (subst (λ (texts : List (List ℕ)). IsNodeIn texts (common later b)) same (inr (later, b, inl refl, inr i, refl))) in
+        old (common later b) (subst (λ (texts : List (List ℕ)). IsNodeIn texts (common later b)) same (inr (later, b, inl refl, inr i, refl))) in
         by (common_three name later b order.0.0 (all_in (Below later) rest b order.1.0 i)) here past
       where
         by : (common name b ≡ common name later) ⊎ (common name b ≡ common later b) → In (common name later) ((fronts ++ new) ++ backs) → In (common later b) ((fronts ++ new) ++ backs) → In (common name b) ((fronts ++ new) ++ backs)

@@ -2,3 +2,5 @@ pub mod Walks
 pub mod Strings
 pub mod Answers
 pub mod Entering
+pub mod Reading
+pub mod Building

@@ -1,10 +1,63 @@
 -- How the code holds the exports and the nodes of a trie.
-use Rattle.std.specs.Prelude.{ℕ, ◌≡◌, ◌≤◌, List, [], length, take, map, Contains, slice_index_or}
+use Rattle.std.specs.Prelude.{ℕ, ◌≡◌, ◌-◌, ◌<◌, ◌≤◌, ◌==◌, ◌&&◌, nat_lt, if◌then◌else◌, List, [], ◌∷◌, ◌++◌, length, take, map, reverse, Contains, All, slice_index_or, Option, Some, None, slice_get}
+use Rattle.std.specs.List.{AllByRecursion}
+use Rattle.std.specs.Option.{option_and_then}
 use Rattle.std.specs.Borrow.{Bor}
 use Rattle.export_trie.specs.declared.export.ExportAddress.{ExportAddress}
 use Rattle.export_trie.specs.declared.nodes.Node.{Node}
 use Rattle.export_trie.specs.Trie.{AreNodes, names}
 
--- the exports behind some references
+-- the exports behind some references, and their names
 abbrev pub held : List (Bor ExportAddress) → List ExportAddress
 held references = map (λ reference. reference.now) references
+
+abbrev pub held_names : List (Bor ExportAddress) → List (List ℕ)
+held_names references = names (held references)
+
+-- ---- nodes
+
+-- the name that a node's string begins
+abbrev pub name_of : List (List ℕ) → Node → List ℕ
+name_of strings node = slice_index_or strings node.name []
+
+-- the node's string
+unfoldable pub text : List (List ℕ) → Node → List ℕ
+text strings node = take node.len (name_of strings node)
+
+abbrev pub texts : List (List ℕ) → List Node → List (List ℕ)
+texts strings nodes = map (text strings) nodes
+
+-- the node's string isn't longer than the name
+abbrev pub Fits : List (List ℕ) → Node → Type 0
+Fits strings node = node.len ≤ length (name_of strings node)
+
+-- the nodes of the strings, in order; where a node's string is one of them, it's the whole name
+pub record AreHeld (strings : List (List ℕ)) (nodes : List Node) : Type 0 where
+  pub all : AreNodes strings (texts strings nodes)
+  pub fits : All (Fits strings) nodes
+  pub whole : All (λ node. Contains strings (text strings node) → node.len ≡ length (name_of strings node)) nodes
+
+-- the node whose string is the first bytes of the name at a place
+abbrev pub node_at : ℕ → ℕ → Node
+node_at place bytes = record { name = place; len = bytes }
+
+-- the bytes of the last node's string, or 0
+abbrev pub last_bytes : List Node → ℕ
+last_bytes nodes = (slice_index_or nodes (length nodes - 1) (node_at 0 0)).len
+
+-- all but the last node
+abbrev pub without_last : List Node → List Node
+without_last nodes = take (length nodes - 1) nodes
+
+-- some nodes at the end are gone, each of more bytes than are shared
+pub record Closes (shared : ℕ) (old new : List Node) : Type 0 where
+  pub gone : List Node
+  pub split : old ≡ new ++ gone
+  pub long : AllByRecursion (λ node. shared < node.len) gone
+
+-- the nodes on the way to a name of so many bytes, from those on the way to what it shares with the later ones
+abbrev pub entered : List Node → ℕ → ℕ → ℕ → List Node
+entered path place shared bytes =
+    if last_bytes path == shared && shared == bytes then without_last path ++ node_at place bytes ∷ []
+    else if nat_lt (last_bytes path) shared && nat_lt shared bytes then path ++ node_at place shared ∷ [] ++ node_at place bytes ∷ []
+    else path ++ node_at place bytes ∷ []

@@ -34,5 +34,5 @@ pub returns-clause-sorted : goal.returns-clause-sorted
 returns-clause-sorted c =
     sorted_held c.sort_unstable_by.new.self.items
     (c.sort_unstable_by.ensures.sorted (λ (a : Bor ExportAddress) (b : Bor ExportAddress). is_lt (slice_cmp nat_cmp a.now.name b.now.name))
-      (ranks_by nat_list_cmp_total (λ (a : Bor ExportAddress). a.now.name))
-      (answers_always _ _ _ (λ f a r f' k. search rules)))
+    (ranks_by nat_list_cmp_total (λ (a : Bor ExportAddress). a.now.name))
+    (answers_always _ _ _ (λ f a r f' k. search rules)))

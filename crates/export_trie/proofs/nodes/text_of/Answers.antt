@@ -1,0 +1,15 @@
+use Rattle.std.proofs.Common.{◌≡◌, ◌≤◌, length, [], ◌∙◌, sym, get_or, subst, ℕ, List, ap, arith}
+use Rattle.std.proofs.lemmas.List.{length-take-le}
+use Rattle.export_trie.specs.Held.{held_names}
+use Rattle.export_trie.proofs.Reading.{name_at, text_is}
+use Rattle.export_trie.proofs.nodes.text_of.Goals as goal
+
+pub slice_bounds-result-end : goal.slice_bounds-result-end
+slice_bounds-result-end c =
+    let same = name_at c.args.exports.now c.args.node.name c.in-Some.export.now c.in-Some.ensures.lookup.3.0 c.in-Some.ensures.lookup.3.1 ∙ sym c.as_slice.ensures in
+    sym (length-take-le c.args.node.len c.as_slice.result.now (subst (λ (name : List ℕ). c.args.node.len ≤ length name) same c.requires))
+
+pub returns-in-Some : goal.returns-in-Some
+returns-in-Some c =
+    text_is (held_names c.args.exports.now) c.args.node c.as_slice.result.now
+    (name_at c.args.exports.now c.args.node.name c.in-Some.export.now c.in-Some.ensures.lookup.3.0 c.in-Some.ensures.lookup.3.1 ∙ sym c.as_slice.ensures)
