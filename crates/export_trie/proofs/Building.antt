@@ -14,7 +14,7 @@ use Rattle.export_trie.proofs.Entering.{order_cases, begins_order, in_append_lef
 
 -- ---- strings that begin one string
 
-same_front : (a b c : List ℕ) → begins a c ≡ true → begins b c ≡ true → length a ≡ length b → a ≡ b
+pub same_front : (a b c : List ℕ) → begins a c ≡ true → begins b c ≡ true → length a ≡ length b → a ≡ b
 same_front a b c p q e = by (begins_order a b (begins_shorter a b c p q (omega arith))) (begins_order b a (begins_shorter b a c q p (omega arith)))
   where
     by : (a ≡ b) ⊎ Below a b → (b ≡ a) ⊎ Below b a → a ≡ b
@@ -22,7 +22,7 @@ same_front a b c p q e = by (begins_order a b (begins_shorter a b c p q (omega a
     by (inr less) (inl same) = sym same
     by (inr less) (inr more) = absurd (below_asym a b less more)
 
-shorter_front : (a b c : List ℕ) → begins a c ≡ true → begins b c ≡ true → Below a b → length a < length b
+pub shorter_front : (a b c : List ℕ) → begins a c ≡ true → begins b c ≡ true → Below a b → length a < length b
 shorter_front a b c p q less =
     elim (cases_lt (length a) (length b)) [
       | inl short ↦ short
@@ -205,11 +205,13 @@ module _ (strings : List (List ℕ)) (left : ℕ) (name : List ℕ) (rest : List
       by : (nodes : List Node) → nodes ≡ path → In [] (texts strings nodes) → (last : Node) × IsLast last
       by [] same h = absurd h
       by (node ∷ nodes) same h =
-          let parts = last_split node nodes in
-          (parts.0, record {
-            split = sym same ∙ (parts.1 ∙ ap (λ (ns : List Node). without_last ns ++ parts.0 ∷ []) same);
-            bytes = parts.2 ∙ ap last_bytes same;
-          })
+          let parts = last_split node nodes in (
+            parts.0,
+            record {
+              split = sym same ∙ (parts.1 ∙ ap (λ (ns : List Node). without_last ns ++ parts.0 ∷ []) same);
+              bytes = parts.2 ∙ ap last_bytes same;
+            },
+          )
 
   last_in : (last : Node) → IsLast last → In last path
   last_in last is = subst (In last) (sym is.split) (in_append_right last (without_last path) (last ∷ []) (inl refl))
@@ -274,9 +276,9 @@ module _ (strings : List (List ℕ)) (left : ℕ) (name : List ℕ) (rest : List
       let last = last_is in
       let last_text : text strings last.0 ≡ name = is_shared last.0 (last_in last.0 last.1) (last.1.bytes ∙ e) ∙ name_shared f in
       let fronts : texts strings path ≡ texts strings (without_last path) ++ name ∷ [] =
-          ap (texts strings) last.1.split ∙ (map-append (text strings) (without_last path) (last.0 ∷ []) ∙ ap (λ (t : List ℕ). texts strings (without_last path) ++ t ∷ []) last_text) in
+      ap (texts strings) last.1.split ∙ (map-append (text strings) (without_last path) (last.0 ∷ []) ∙ ap (λ (t : List ℕ). texts strings (without_last path) ++ t ∷ []) last_text) in
       let new : texts strings (without_last path ++ node_at left (length name) ∷ []) ≡ texts strings (without_last path) ++ name ∷ [] =
-          map-append (text strings) (without_last path) (node_at left (length name) ∷ []) ∙ ap (λ (t : List ℕ). texts strings (without_last path) ++ t ∷ []) name_text in
+      map-append (text strings) (without_last path) (node_at left (length name) ∷ []) ∙ ap (λ (t : List ℕ). texts strings (without_last path) ++ t ∷ []) name_text in
       let fits_front : AllByRecursion (Fits strings) (without_last path) = all_left (Fits strings) (without_last path) (last.0 ∷ []) (subst (AllByRecursion (Fits strings)) last.1.split path_fits) in
       record {
         add = [];
@@ -289,14 +291,14 @@ module _ (strings : List (List ℕ)) (left : ℕ) (name : List ℕ) (rest : List
         };
         fits = all_append (Fits strings) (without_last path) (node_at left (length name) ∷ []) fits_front (subst (λ (t : List ℕ). length name ≤ length t) entry.name' (omega arith), tt);
         whole = all_append _ (without_last path) (node_at left (length name) ∷ [])
-          (all_from_in _ (without_last path) (λ node h i. apart last fronts node h i))
-          ((λ i. whole_node (node_at left (length name)) refl), tt);
+            (all_from_in _ (without_last path) (λ node h i. apart last fronts node h i))
+            ((λ i. whole_node (node_at left (length name)) refl), tt);
       }
     where
       apart : (last : (last : Node) × IsLast last) → texts strings path ≡ texts strings (without_last path) ++ name ∷ [] → (node : Node) → In node (without_last path) → In (text strings node) (name ∷ rest) → node.len ≡ length (name_of strings node)
       apart last fronts node h (inl same) =
           absurd (below_irrefl name (subst (λ (t : List ℕ). Below t name) (sym same)
-            (rising_cross (texts strings (without_last path)) (name ∷ []) (text strings node) name (subst Rising fronts path_rises) (in_map (text strings) (without_last path) node h) (inl refl))))
+          (rising_cross (texts strings (without_last path)) (name ∷ []) (text strings node) name (subst Rising fronts path_rises) (in_map (text strings) (without_last path) node h) (inl refl))))
       apart last fronts node h (inr i) =
           all_in _ (path ++ reverse done) node entry.state.whole (in_append_left node path (reverse done) (subst (In node) (sym last.1.split) (in_append_left node (without_last path) (last.0 ∷ []) h))) i
 
@@ -323,8 +325,8 @@ module _ (strings : List (List ℕ)) (left : ℕ) (name : List ℕ) (rest : List
     };
     fits = all_append (Fits strings) path (node_at left (length name) ∷ []) path_fits (fits_name, tt);
     whole = all_append _ path (node_at left (length name) ∷ [])
-      (all_from_in _ path (λ node h i. kept_whole node h (omega (arith, path_few node h)) i))
-      ((λ i. whole_node (node_at left (length name)) refl), tt);
+        (all_from_in _ path (λ node h i. kept_whole node h (omega (arith, path_few node h)) i))
+        ((λ i. whole_node (node_at left (length name)) refl), tt);
   }
     where
       sole : (node : List ℕ) → In node (name ∷ []) → node ≡ name
@@ -341,8 +343,8 @@ module _ (strings : List (List ℕ)) (left : ℕ) (name : List ℕ) (rest : List
     add = shared_text ∷ name ∷ [];
     spelled = rw (append_assoc path (node_at left shared ∷ []) (node_at left (length name) ∷ []))
         (map-append (text strings) path (node_at left shared ∷ node_at left (length name) ∷ [])
-         ∙ (ap (λ (t : List ℕ). texts strings path ++ t ∷ text strings (node_at left (length name)) ∷ []) shared_node_text
-            ∙ ap (λ (t : List ℕ). texts strings path ++ shared_text ∷ t ∷ []) name_text));
+        ∙ (ap (λ (t : List ℕ). texts strings path ++ t ∷ text strings (node_at left (length name)) ∷ []) shared_node_text
+        ∙ ap (λ (t : List ℕ). texts strings path ++ shared_text ∷ t ∷ []) name_text));
     enters = record {
       only = only;
       shared = in_append_right shared_text (texts strings path) (shared_text ∷ name ∷ []) (inl refl);
@@ -353,8 +355,8 @@ module _ (strings : List (List ℕ)) (left : ℕ) (name : List ℕ) (rest : List
         (all_append (Fits strings) path (node_at left shared ∷ node_at left (length name) ∷ []) path_fits (fits_shared, (fits_name, tt)));
     whole = rw (append_assoc path (node_at left shared ∷ []) (node_at left (length name) ∷ []))
         (all_append _ path (node_at left shared ∷ node_at left (length name) ∷ [])
-          (all_from_in _ path (λ node h i. kept_whole node h (omega (arith, path_few node h)) i))
-          ((λ i. absurd (shared_new fewer more (subst (λ (t : List ℕ). In t (name ∷ rest)) shared_node_text i))), ((λ i. whole_node (node_at left (length name)) refl), tt)));
+        (all_from_in _ path (λ node h i. kept_whole node h (omega (arith, path_few node h)) i))
+        ((λ i. absurd (shared_new fewer more (subst (λ (t : List ℕ). In t (name ∷ rest)) shared_node_text i))), ((λ i. whole_node (node_at left (length name)) refl), tt)));
   }
     where
       shared_below : Below shared_text name
@@ -400,24 +402,24 @@ built strings left later name shared path done path' done' path'' rise within na
     let order : Rising (name ∷ drop (left + 1) strings) = subst Rising here (rising_drop left strings rise) in
     let shared-is : shared ≡ length (common name (first_of (drop (left + 1) strings))) = rw (← later') shared' in
     let state : IsCut strings name (drop (left + 1) strings) path' done' =
-        is_cut strings (left + 1) name path done path' done' order b same (subst (λ (n : ℕ). Closes n path path') shared-is closes) (rw (← shared-is) short) in
+    is_cut strings (left + 1) name path done path' done' order b same (subst (λ (n : ℕ). Closes n path path') shared-is closes) (rw (← shared-is) short) in
     let entry : Entry strings left name (drop (left + 1) strings) path' done' shared = record { state = state; name' = name'; shared' = shared-is } in
     let new : IsEntered strings name (drop (left + 1) strings) path' path'' =
-        subst (IsEntered strings name (drop (left + 1) strings) path') (sym path''') (is_entered strings left name (drop (left + 1) strings) path' done' shared entry) in
+    subst (IsEntered strings name (drop (left + 1) strings) path') (sym path''') (is_entered strings left name (drop (left + 1) strings) path' done' shared entry) in
     let nodes : NodesIn (name ∷ drop (left + 1) strings) ((texts strings path' ++ new.add) ++ texts strings (reverse done')) =
-        entered_nodes name (drop (left + 1) strings) (texts strings path') new.add (texts strings (reverse done')) state.cut new.enters in
+    entered_nodes name (drop (left + 1) strings) (texts strings path') new.add (texts strings (reverse done')) state.cut new.enters in
     let parts : (texts strings path' ++ new.add) ++ texts strings (reverse done') ≡ texts strings (path'' ++ reverse done') =
-        ap (λ (ts : List (List ℕ)). ts ++ texts strings (reverse done')) (sym new.spelled) ∙ sym (map-append (text strings) path'' (reverse done')) in
+    ap (λ (ts : List (List ℕ)). ts ++ texts strings (reverse done')) (sym new.spelled) ∙ sym (map-append (text strings) path'' (reverse done')) in
     record {
       all = subst (λ (names : List (List ℕ)). NodesIn names (texts strings (path'' ++ reverse done'))) (sym here) (subst (NodesIn (name ∷ drop (left + 1) strings)) parts nodes);
       fits = all_append (Fits strings) path'' (reverse done') new.fits (all_right (Fits strings) path' (reverse done') state.fits);
       whole = subst (λ (names : List (List ℕ)). AllByRecursion (λ node. In (text strings node) names → node.len ≡ length (name_of strings node)) (path'' ++ reverse done')) (sym here)
-        (all_append _ path'' (reverse done') new.whole (all_from_in _ (reverse done') (λ node h i. kept state node h i)));
+          (all_append _ path'' (reverse done') new.whole (all_from_in _ (reverse done') (λ node h i. kept state node h i)));
       begin = all_from_in _ path'' (λ node h. subst (λ (names : List (List ℕ)). begins (text strings node) (first_of names) ≡ true) (sym here)
-        (entered_begin name (drop (left + 1) strings) (texts strings path') new.add (texts strings (reverse done')) (text strings node) state.cut new.enters
+          (entered_begin name (drop (left + 1) strings) (texts strings path') new.add (texts strings (reverse done')) (text strings node) state.cut new.enters
           (subst (In (text strings node)) new.spelled (in_map (text strings) path'' node h))));
       apart = all_from_in _ (reverse done') (λ node h. subst (λ (names : List (List ℕ)). begins (text strings node) (first_of names) ≡ false) (sym here)
-        (entered_apart name (drop (left + 1) strings) (texts strings path') (texts strings (reverse done')) (text strings node) state.cut (in_map (text strings) (reverse done') node h)));
+          (entered_apart name (drop (left + 1) strings) (texts strings path') (texts strings (reverse done')) (text strings node) state.cut (in_map (text strings) (reverse done') node h)));
     }
   where
     kept : IsCut strings name (drop (left + 1) strings) path' done' → (node : Node) → In node (reverse done') → In (text strings node) (name ∷ drop (left + 1) strings) → node.len ≡ length (name_of strings node)
@@ -465,5 +467,5 @@ finished strings path done b = record {
   };
   fits = All-from_recursion (Fits strings) (path ++ reverse done) b.fits;
   whole = All-from_recursion (λ node. Contains strings (text strings node) → node.len ≡ length (name_of strings node)) (path ++ reverse done)
-    (all_from_in _ (path ++ reverse done) (λ node h i. all_in _ (path ++ reverse done) node b.whole h (in_from_Contains strings (text strings node) i)));
+      (all_from_in _ (path ++ reverse done) (λ node h i. all_in _ (path ++ reverse done) node b.whole h (in_from_Contains strings (text strings node) i)));
 }

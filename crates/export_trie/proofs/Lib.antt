@@ -4,3 +4,4 @@ pub mod Answers
 pub mod Entering
 pub mod Reading
 pub mod Building
+pub mod Parents

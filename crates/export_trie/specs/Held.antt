@@ -1,11 +1,13 @@
 -- How the code holds the exports and the nodes of a trie.
-use Rattle.std.specs.Prelude.{ℕ, ◌≡◌, ◌-◌, ◌<◌, ◌≤◌, ◌==◌, ◌&&◌, nat_lt, if◌then◌else◌, List, [], ◌∷◌, ◌++◌, length, take, map, reverse, Contains, All, slice_index_or, Option, Some, None, slice_get}
+use Rattle.std.specs.Prelude.{ℕ, ◌≡◌, ◌-◌, ◌<◌, ◌≤◌, ◌==◌, ◌&&◌, nat_lt, if◌then◌else◌, List, [], ◌∷◌, ◌++◌, length, take, map, reverse, Contains, All, slice_index_or, Bool, true, Option, Some, None, slice_get, Vec}
+use Rattle.std.specs.Global.{Global}
 use Rattle.std.specs.List.{AllByRecursion}
 use Rattle.std.specs.Option.{option_and_then}
 use Rattle.std.specs.Borrow.{Bor}
 use Rattle.export_trie.specs.declared.export.ExportAddress.{ExportAddress}
 use Rattle.export_trie.specs.declared.nodes.Node.{Node}
-use Rattle.export_trie.specs.Trie.{AreNodes, names}
+use Rattle.export_trie.specs.Strings.{begins}
+use Rattle.export_trie.specs.Trie.{AreNodes, children, names}
 
 -- the exports behind some references, and their names
 abbrev pub held : List (Bor ExportAddress) → List ExportAddress
@@ -61,3 +63,28 @@ entered path place shared bytes =
     if last_bytes path == shared && shared == bytes then without_last path ++ node_at place bytes ∷ []
     else if nat_lt (last_bytes path) shared && nat_lt shared bytes then path ++ node_at place shared ∷ [] ++ node_at place bytes ∷ []
     else path ++ node_at place bytes ∷ []
+
+-- ---- children
+
+-- the parent of a node, by its place: the last node before it whose string begins its string
+pub record IsParent (nodes : List (List ℕ)) (place parent : ℕ) : Type 0 where
+  pub before : parent < place
+  pub begin : begins (slice_index_or nodes parent []) (slice_index_or nodes place []) ≡ true
+  pub last : (other : ℕ) → other < place → begins (slice_index_or nodes other []) (slice_index_or nodes place []) ≡ true → other ≤ parent
+
+-- each node below a place, but the first, has its parent in the list
+abbrev pub AreParents : List (List ℕ) → ℕ → List ℕ → Type 0
+AreParents nodes high parents = (place : ℕ) → 0 < place → place < high → IsParent nodes place (slice_index_or parents place 0)
+
+abbrev pub rows_of : List (Vec ℕ Global) → List (List ℕ)
+rows_of rows = map (λ row. row.items) rows
+
+-- the nodes at some places
+abbrev pub at_places : List (List ℕ) → List ℕ → List (List ℕ)
+at_places nodes places = map (λ place. slice_index_or nodes place []) places
+
+-- the places of each node's children, in order
+pub record HoldsChildren (nodes rows : List (List ℕ)) : Type 0 where
+  pub long : length rows ≡ length nodes
+  pub each : (place : ℕ) → place < length nodes → at_places nodes (slice_index_or rows place []) ≡ children nodes (slice_index_or nodes place [])
+  pub within : (place : ℕ) → place < length nodes → AllByRecursion (λ child. child < length nodes) (slice_index_or rows place [])

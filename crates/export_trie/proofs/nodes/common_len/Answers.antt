@@ -8,5 +8,5 @@ pub returns-else-len-b : goal.returns-else-len-b
 returns-else-len-b c =
     let shared = c.loop-len.invariant.shared in
     let ended : length (common (drop c.loop-len.len c.args.a.now) (drop c.loop-len.len c.args.b.now)) ≡ 0 =
-        rw (drop_all c.loop-len.len c.args.b.now c.if-len-b.false, common_nil (drop c.loop-len.len c.args.a.now)) refl in
+    rw (drop_all c.loop-len.len c.args.b.now c.if-len-b.false, common_nil (drop c.loop-len.len c.args.a.now)) refl in
     omega arith

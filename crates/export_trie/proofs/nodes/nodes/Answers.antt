@@ -30,9 +30,9 @@ loop-left-preserved c =
       within = omega (arith, c.loop-left.invariant.within);
       later = name ∙ sym (ap first_of (drop_more strings (c.loop-left.left - 1) [] (omega arith)));
       building = built strings (c.loop-left.left - 1) _ _ _ _ _ _ _ _ (rising_from_sorted strings c.requires) (omega arith) name
-        (subst (λ (n : ℕ). c.loop-left.later.now ≡ first_of (drop n strings)) some c.loop-left.invariant.later) c.common_len-shared.ensures
-        (subst (λ (n : ℕ). IsBuilding strings n c.loop-left.path.items c.loop-left.done.items) some c.loop-left.invariant.building)
-        c.in_ok-close.ensures.same c.in_ok-close.ensures.closed c.in_ok-close.ensures.short c.in_ok-enter.ensures;
+          (subst (λ (n : ℕ). c.loop-left.later.now ≡ first_of (drop n strings)) some c.loop-left.invariant.later) c.common_len-shared.ensures
+          (subst (λ (n : ℕ). IsBuilding strings n c.loop-left.path.items c.loop-left.done.items) some c.loop-left.invariant.building)
+          c.in_ok-close.ensures.same c.in_ok-close.ensures.closed c.in_ok-close.ensures.short c.in_ok-enter.ensures;
     }
 
 pub loop-node-init : goal.loop-node-init
