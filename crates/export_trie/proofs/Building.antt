@@ -1,5 +1,5 @@
 -- The nodes that the code builds, from the last name to the first.
-use Rattle.std.proofs.Common.{◌≡◌, ◌≢◌, ℕ, zero, suc, ◌+◌, ◌-◌, ◌<◌, ◌≤◌, ◌⊎◌, Bool, true, false, cond, ◌&&◌, eqb, ltb, List, [], ◌∷◌, ◌++◌, length, take, drop, map, reverse, get_or, refl, sym, ◌∙◌, ap, subst, inl, inr, arith, Contains, All, length-append, append_assoc, append-nil}
+use Rattle.std.proofs.Common.{◌≡◌, ◌≢◌, ℕ, zero, suc, ◌+◌, ◌-◌, ◌<◌, ◌≤◌, ◌⊎◌, Bool, true, false, cond, ◌&&◌, eqb, ltb, List, [], ◌∷◌, ◌++◌, length, take, drop, map, reverse, get_or, refl, sym, ◌∙◌, ap, subst, inl, inr, arith, Contains, All, Some, slice_get, length-append, append_assoc, append-nil}
 use Rattle.std.specs.List.{AllByRecursion}
 use Rattle.std.proofs.lemmas.Bool.{cases_Bool, cases_order, cases_lt, lt-ltb, le-ltb, eq-eqb, ne_eqb, false≢true, true≢false}
 use Rattle.std.proofs.lemmas.List.{map-append, append_cancel_left, length-take-le, take_all, take_at, drop_more, drop_all}
@@ -84,7 +84,7 @@ path_short strings later (first ∷ next ∷ path) rise fits front node (inr h) 
 pub record IsBuilding (strings : List (List ℕ)) (left : ℕ) (path done : List Node) : Type 0 where
   pub all : NodesIn (drop left strings) (texts strings (path ++ reverse done))
   pub fits : AllByRecursion (Fits strings) (path ++ reverse done)
-  pub whole : AllByRecursion (λ node. In (text strings node) (drop left strings) → node.len ≡ length (name_of strings node)) (path ++ reverse done)
+  pub whole : AllByRecursion (λ node. In (text strings node) (drop left strings) → slice_get strings node.name ≡ Some (text strings node)) (path ++ reverse done)
   pub begin : AllByRecursion (λ node. begins (text strings node) (first_of (drop left strings)) ≡ true) path
   pub apart : AllByRecursion (λ node. begins (text strings node) (first_of (drop left strings)) ≡ false) (reverse done)
 
@@ -104,7 +104,7 @@ all_append P (x ∷ xs) ys p q = (p.0, all_append P xs ys p.1 q)
 record IsCut (strings : List (List ℕ)) (name : List ℕ) (rest : List (List ℕ)) (path done : List Node) : Type 0 where
   cut : Cut name rest (texts strings path) (texts strings (reverse done))
   fits : AllByRecursion (Fits strings) (path ++ reverse done)
-  whole : AllByRecursion (λ node. In (text strings node) rest → node.len ≡ length (name_of strings node)) (path ++ reverse done)
+  whole : AllByRecursion (λ node. In (text strings node) rest → slice_get strings node.name ≡ Some (text strings node)) (path ++ reverse done)
   begin : AllByRecursion (λ node. begins (text strings node) (first_of rest) ≡ true) path
   short : last_bytes path ≤ length (common name (first_of rest))
 
@@ -118,7 +118,7 @@ is_cut strings left name path done path' done' order b same closes short = recor
     long = λ node h front. long_done node (from_map (text strings) (reverse done') node h) front;
   };
   fits = subst (AllByRecursion (Fits strings)) (sym same) b.fits;
-  whole = subst (AllByRecursion (λ node. In (text strings node) (drop left strings) → node.len ≡ length (name_of strings node))) (sym same) b.whole;
+  whole = subst (AllByRecursion (λ node. In (text strings node) (drop left strings) → slice_get strings node.name ≡ Some (text strings node))) (sym same) b.whole;
   begin = begin';
   short = short;
 }
@@ -165,11 +165,17 @@ record IsEntered (strings : List (List ℕ)) (name : List ℕ) (rest : List (Lis
   spelled : texts strings new ≡ texts strings old ++ add
   enters : Enters name rest (texts strings old) add
   fits : AllByRecursion (Fits strings) new
-  whole : AllByRecursion (λ node. In (text strings node) (name ∷ rest) → node.len ≡ length (name_of strings node)) new
+  whole : AllByRecursion (λ node. In (text strings node) (name ∷ rest) → slice_get strings node.name ≡ Some (text strings node)) new
+
+get_some : {X : Type 0} (xs : List X) (i : ℕ) (d : X) → i < length xs → slice_get xs i ≡ Some (get_or xs i d)
+get_some [] i d h = absurd (omega arith)
+get_some (x ∷ xs) zero d h = refl
+get_some (x ∷ xs) (suc i) d h = get_some xs i d (omega arith)
 
 -- what each of the cases knows
 record Entry (strings : List (List ℕ)) (left : ℕ) (name : List ℕ) (rest : List (List ℕ)) (path done : List Node) (shared : ℕ) : Type 0 where
   state : IsCut strings name rest path done
+  within : left < length strings
   name' : name ≡ get_or strings left []
   shared' : shared ≡ length (common name (first_of rest))
 
@@ -256,15 +262,15 @@ module _ (strings : List (List ℕ)) (left : ℕ) (name : List ℕ) (rest : List
       by (inr h) = omega (arith, entry.state.cut.long shared_text h (common_right name (first_of rest)))
 
   -- a node of the path isn't the name, where it has fewer bytes
-  kept_whole : (node : Node) → In node path → node.len < length name → In (text strings node) (name ∷ rest) → node.len ≡ length (name_of strings node)
+  kept_whole : (node : Node) → In node path → node.len < length name → In (text strings node) (name ∷ rest) → slice_get strings node.name ≡ Some (text strings node)
   kept_whole node h fewer (inl e) = absurd (omega (arith, ap length e, length-text strings node (all_in (Fits strings) path node path_fits h)))
   kept_whole node h fewer (inr i) = all_in _ (path ++ reverse done) node entry.state.whole (in_append_left node path (reverse done) h) i
 
-  whole_node : (node : Node) → node ≡ node_at left (length name) → node.len ≡ length (name_of strings node)
-  whole_node node e = rw e (ap length entry.name')
-
   name_text : text strings (node_at left (length name)) ≡ name
   name_text = text-node_at strings left (length name) name (subst (λ (t : List ℕ). begins name t ≡ true) entry.name' (begins_self name)) refl
+
+  whole_node : slice_get strings left ≡ Some (text strings (node_at left (length name)))
+  whole_node = get_some strings left [] entry.within ∙ ap Some (sym entry.name' ∙ sym name_text)
 
   shared_node_text : text strings (node_at left shared) ≡ shared_text
   shared_node_text =
@@ -292,10 +298,10 @@ module _ (strings : List (List ℕ)) (left : ℕ) (name : List ℕ) (rest : List
         fits = all_append (Fits strings) (without_last path) (node_at left (length name) ∷ []) fits_front (subst (λ (t : List ℕ). length name ≤ length t) entry.name' (omega arith), tt);
         whole = all_append _ (without_last path) (node_at left (length name) ∷ [])
             (all_from_in _ (without_last path) (λ node h i. apart last fronts node h i))
-            ((λ i. whole_node (node_at left (length name)) refl), tt);
+            ((λ i. whole_node), tt);
       }
     where
-      apart : (last : (last : Node) × IsLast last) → texts strings path ≡ texts strings (without_last path) ++ name ∷ [] → (node : Node) → In node (without_last path) → In (text strings node) (name ∷ rest) → node.len ≡ length (name_of strings node)
+      apart : (last : (last : Node) × IsLast last) → texts strings path ≡ texts strings (without_last path) ++ name ∷ [] → (node : Node) → In node (without_last path) → In (text strings node) (name ∷ rest) → slice_get strings node.name ≡ Some (text strings node)
       apart last fronts node h (inl same) =
           absurd (below_irrefl name (subst (λ (t : List ℕ). Below t name) (sym same)
           (rising_cross (texts strings (without_last path)) (name ∷ []) (text strings node) name (subst Rising fronts path_rises) (in_map (text strings) (without_last path) node h) (inl refl))))
@@ -326,7 +332,7 @@ module _ (strings : List (List ℕ)) (left : ℕ) (name : List ℕ) (rest : List
     fits = all_append (Fits strings) path (node_at left (length name) ∷ []) path_fits (fits_name, tt);
     whole = all_append _ path (node_at left (length name) ∷ [])
         (all_from_in _ path (λ node h i. kept_whole node h (omega (arith, path_few node h)) i))
-        ((λ i. whole_node (node_at left (length name)) refl), tt);
+        ((λ i. whole_node), tt);
   }
     where
       sole : (node : List ℕ) → In node (name ∷ []) → node ≡ name
@@ -356,7 +362,7 @@ module _ (strings : List (List ℕ)) (left : ℕ) (name : List ℕ) (rest : List
     whole = rw (append_assoc path (node_at left shared ∷ []) (node_at left (length name) ∷ []))
         (all_append _ path (node_at left shared ∷ node_at left (length name) ∷ [])
         (all_from_in _ path (λ node h i. kept_whole node h (omega (arith, path_few node h)) i))
-        ((λ i. absurd (shared_new fewer more (subst (λ (t : List ℕ). In t (name ∷ rest)) shared_node_text i))), ((λ i. whole_node (node_at left (length name)) refl), tt)));
+        ((λ i. absurd (shared_new fewer more (subst (λ (t : List ℕ). In t (name ∷ rest)) shared_node_text i))), ((λ i. whole_node), tt)));
   }
     where
       shared_below : Below shared_text name
@@ -403,7 +409,7 @@ built strings left later name shared path done path' done' path'' rise within na
     let shared-is : shared ≡ length (common name (first_of (drop (left + 1) strings))) = rw (← later') shared' in
     let state : IsCut strings name (drop (left + 1) strings) path' done' =
     is_cut strings (left + 1) name path done path' done' order b same (subst (λ (n : ℕ). Closes n path path') shared-is closes) (rw (← shared-is) short) in
-    let entry : Entry strings left name (drop (left + 1) strings) path' done' shared = record { state = state; name' = name'; shared' = shared-is } in
+    let entry : Entry strings left name (drop (left + 1) strings) path' done' shared = record { state = state; within = within; name' = name'; shared' = shared-is } in
     let new : IsEntered strings name (drop (left + 1) strings) path' path'' =
     subst (IsEntered strings name (drop (left + 1) strings) path') (sym path''') (is_entered strings left name (drop (left + 1) strings) path' done' shared entry) in
     let nodes : NodesIn (name ∷ drop (left + 1) strings) ((texts strings path' ++ new.add) ++ texts strings (reverse done')) =
@@ -413,7 +419,7 @@ built strings left later name shared path done path' done' path'' rise within na
     record {
       all = subst (λ (names : List (List ℕ)). NodesIn names (texts strings (path'' ++ reverse done'))) (sym here) (subst (NodesIn (name ∷ drop (left + 1) strings)) parts nodes);
       fits = all_append (Fits strings) path'' (reverse done') new.fits (all_right (Fits strings) path' (reverse done') state.fits);
-      whole = subst (λ (names : List (List ℕ)). AllByRecursion (λ node. In (text strings node) names → node.len ≡ length (name_of strings node)) (path'' ++ reverse done')) (sym here)
+      whole = subst (λ (names : List (List ℕ)). AllByRecursion (λ node. In (text strings node) names → slice_get strings node.name ≡ Some (text strings node)) (path'' ++ reverse done')) (sym here)
           (all_append _ path'' (reverse done') new.whole (all_from_in _ (reverse done') (λ node h i. kept state node h i)));
       begin = all_from_in _ path'' (λ node h. subst (λ (names : List (List ℕ)). begins (text strings node) (first_of names) ≡ true) (sym here)
           (entered_begin name (drop (left + 1) strings) (texts strings path') new.add (texts strings (reverse done')) (text strings node) state.cut new.enters
@@ -422,7 +428,7 @@ built strings left later name shared path done path' done' path'' rise within na
           (entered_apart name (drop (left + 1) strings) (texts strings path') (texts strings (reverse done')) (text strings node) state.cut (in_map (text strings) (reverse done') node h)));
     }
   where
-    kept : IsCut strings name (drop (left + 1) strings) path' done' → (node : Node) → In node (reverse done') → In (text strings node) (name ∷ drop (left + 1) strings) → node.len ≡ length (name_of strings node)
+    kept : IsCut strings name (drop (left + 1) strings) path' done' → (node : Node) → In node (reverse done') → In (text strings node) (name ∷ drop (left + 1) strings) → slice_get strings node.name ≡ Some (text strings node)
     kept state node h (inl e) =
         let apart = entered_apart name (drop (left + 1) strings) (texts strings path') (texts strings (reverse done')) (text strings node) state.cut (in_map (text strings) (reverse done') node h) in
         absurd (true≢false (sym (subst (λ (t : List ℕ). begins t name ≡ true) e (begins_self name)) ∙ apart))
@@ -466,6 +472,6 @@ finished strings path done b = record {
     all = λ node h. Contains_from_in (texts strings (path ++ reverse done)) node (b.all.all node (node_to strings node h));
   };
   fits = All-from_recursion (Fits strings) (path ++ reverse done) b.fits;
-  whole = All-from_recursion (λ node. Contains strings (text strings node) → node.len ≡ length (name_of strings node)) (path ++ reverse done)
+  whole = All-from_recursion (λ node. Contains strings (text strings node) → slice_get strings node.name ≡ Some (text strings node)) (path ++ reverse done)
       (all_from_in _ (path ++ reverse done) (λ node h i. all_in _ (path ++ reverse done) node b.whole h (in_from_Contains strings (text strings node) i)));
 }

@@ -5,3 +5,4 @@ pub mod Entering
 pub mod Reading
 pub mod Building
 pub mod Parents
+pub mod Lengths

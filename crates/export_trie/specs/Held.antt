@@ -33,11 +33,11 @@ texts strings nodes = map (text strings) nodes
 abbrev pub Fits : List (List ℕ) → Node → Type 0
 Fits strings node = node.len ≤ length (name_of strings node)
 
--- the nodes of the strings, in order; where a node's string is one of them, it's the whole name
+-- the nodes of the strings, in order; where a node's string is one of them, it's the one that the node begins
 pub record AreHeld (strings : List (List ℕ)) (nodes : List Node) : Type 0 where
   pub all : AreNodes strings (texts strings nodes)
   pub fits : All (Fits strings) nodes
-  pub whole : All (λ node. Contains strings (text strings node) → node.len ≡ length (name_of strings node)) nodes
+  pub whole : All (λ node. Contains strings (text strings node) → slice_get strings node.name ≡ Some (text strings node)) nodes
 
 -- the node whose string is the first bytes of the name at a place
 abbrev pub node_at : ℕ → ℕ → Node

@@ -2,3 +2,4 @@ pub mod Strings
 pub mod Lookup
 pub mod Trie
 pub mod Held
+pub mod Sizes

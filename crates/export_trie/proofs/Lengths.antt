@@ -1,0 +1,131 @@
+-- The sizes of nodes, and the least places that agree with them.
+use Rattle.std.proofs.Common.{◌≡◌, ◌≢◌, ℕ, zero, suc, ◌+◌, ◌-◌, ◌*◌, ◌^◌, ◌<◌, ◌≤◌, ◌⊎◌, Bool, true, false, List, [], ◌∷◌, ◌++◌, length, take, drop, map, get_or, replicate, refl, sym, ◌∙◌, ap, subst, inl, inr, arith, Option, Some, None, append_assoc, append-nil}
+use Rattle.std.specs.List.{AllByRecursion}
+use Rattle.std.proofs.lemmas.Bool.{cases_lt, cases_order}
+use Rattle.std.proofs.lemmas.List.{drop_more, drop_all}
+use Rattle.mo_bytes.specs.Uleb.{uleb}
+use Rattle.mo_bytes.proofs.Ulebs.{length-uleb_mono}
+use Rattle.export_trie.specs.declared.export.ExportAddress.{ExportAddress}
+use Rattle.export_trie.specs.declared.nodes.Node.{Node}
+use Rattle.export_trie.specs.Trie.{data_of, starts}
+use Rattle.export_trie.specs.Held.{node_at}
+use Rattle.export_trie.specs.Sizes.{export_held, child_len, children_len, node_len, node_lens, next_starts, IsBelow, AreBelow, AreLeast}
+
+-- ---- the loops
+
+pub all_at : {X : Type 0} (P : X → Type 0) (xs : List X) (i : ℕ) (d : X) → AllByRecursion P xs → i < length xs → P (get_or xs i d)
+all_at P [] i d all within = absurd (omega arith)
+all_at P (x ∷ xs) zero d all within = all.0
+all_at P (x ∷ xs) (suc i) d all within = all_at P xs i d all.1 (omega arith)
+
+pub children_more : (nodes : List Node) (places : List ℕ) (above : ℕ) (row : List ℕ) (i size edge number total : ℕ) → i < length row → size + children_len nodes places above (drop i row) ≡ children_len nodes places above row → edge ≡ (get_or nodes (get_or row i 0) (node_at 0 0)).len - above → number ≡ length (uleb (get_or places (get_or row i 0) 0)) → total ≡ size + edge + (1 + number) → total + children_len nodes places above (drop (i + 1) row) ≡ children_len nodes places above row
+unfolding children_len child_len
+children_more nodes places above row i size edge number total within e edge' number' total' =
+    let here : drop i row ≡ get_or row i 0 ∷ drop (i + 1) row = drop_more row i 0 within in
+    let split : children_len nodes places above (drop i row) ≡ (get_or nodes (get_or row i 0) (node_at 0 0)).len - above + (1 + length (uleb (get_or places (get_or row i 0) 0))) + children_len nodes places above (drop (i + 1) row) =
+        ap (children_len nodes places above) here in
+    omega arith
+
+pub children_all : (nodes : List Node) (places : List ℕ) (above : ℕ) (row : List ℕ) (i size : ℕ) → length row ≤ i → size + children_len nodes places above (drop i row) ≡ children_len nodes places above row → size ≡ children_len nodes places above row
+unfolding children_len
+children_all nodes places above row i size past e =
+    let none : children_len nodes places above (drop i row) ≡ 0 = ap (children_len nodes places above) (drop_all i row past) in
+    omega arith
+
+pub starts_more : (exports : List ExportAddress) (nodes : List Node) (places : List ℕ) (rows : List (List ℕ)) (next : List ℕ) (i place size end : ℕ) (d : Node) → i < length nodes → length rows ≡ length nodes → next ++ starts place (node_lens exports nodes places (drop i nodes) (drop i rows)) ≡ next_starts exports nodes rows places → size ≡ node_len exports nodes places (get_or nodes i d) (get_or rows i []) → end ≡ place + size → (next ++ place ∷ []) ++ starts end (node_lens exports nodes places (drop (i + 1) nodes) (drop (i + 1) rows)) ≡ next_starts exports nodes rows places
+unfolding node_lens
+starts_more exports nodes places rows next i place size end d within long e size' end' =
+    let node = drop_more nodes i d within in
+    let row : drop i rows ≡ get_or rows i [] ∷ drop (i + 1) rows = drop_more rows i [] (omega arith) in
+    let lens : node_lens exports nodes places (drop i nodes) (drop i rows) ≡ size ∷ node_lens exports nodes places (drop (i + 1) nodes) (drop (i + 1) rows) = rw (node, row, size') refl in
+    append_assoc next (place ∷ []) _ ∙ (ap (λ (n : ℕ). next ++ place ∷ starts n (node_lens exports nodes places (drop (i + 1) nodes) (drop (i + 1) rows))) end'
+      ∙ (ap (λ (ns : List ℕ). next ++ starts place ns) (sym lens) ∙ e))
+
+pub starts_all : (exports : List ExportAddress) (nodes : List Node) (places : List ℕ) (rows : List (List ℕ)) (next : List ℕ) (i place : ℕ) → length nodes ≤ i → next ++ starts place (node_lens exports nodes places (drop i nodes) (drop i rows)) ≡ next_starts exports nodes rows places → next ≡ next_starts exports nodes rows places
+unfolding node_lens
+starts_all exports nodes places rows next i place past e =
+    sym (append-nil next) ∙ (ap (λ (ns : List ℕ). next ++ starts place ns) (none (drop i nodes) (drop_all i nodes past)) ∙ e)
+  where
+    none : (rest : List Node) → rest ≡ [] → [] ≡ node_lens exports nodes places rest (drop i rows)
+    none rest h = rw h refl
+
+-- ---- places in order
+
+-- each number is at most the one at its place
+abbrev pub Leq : List ℕ → List ℕ → Type 0
+Leq [] [] = Unit {0}
+Leq [] (y ∷ ys) = ⊥
+Leq (x ∷ xs) [] = ⊥
+Leq (x ∷ xs) (y ∷ ys) = (x ≤ y) × Leq xs ys
+
+pub leq_length : (xs ys : List ℕ) → Leq xs ys → length xs ≡ length ys
+leq_length [] [] h = refl
+leq_length [] (y ∷ ys) h = absurd h
+leq_length (x ∷ xs) [] h = absurd h
+leq_length (x ∷ xs) (y ∷ ys) h = ap suc (leq_length xs ys h.1)
+
+pub leq_at : (xs ys : List ℕ) (i : ℕ) → Leq xs ys → get_or xs i 0 ≤ get_or ys i 0
+leq_at [] [] i h = omega arith
+leq_at [] (y ∷ ys) i h = absurd h
+leq_at (x ∷ xs) [] i h = absurd h
+leq_at (x ∷ xs) (y ∷ ys) zero h = h.0
+leq_at (x ∷ xs) (y ∷ ys) (suc i) h = leq_at xs ys i h.1
+
+pub leq_zeros : (ys : List ℕ) → Leq (replicate (length ys) 0) ys
+leq_zeros [] = tt
+leq_zeros (y ∷ ys) = (omega arith, leq_zeros ys)
+
+leq_starts : (a b : ℕ) (xs ys : List ℕ) → a ≤ b → Leq xs ys → Leq (starts a xs) (starts b ys)
+leq_starts a b [] [] p h = tt
+leq_starts a b [] (y ∷ ys) p h = absurd h
+leq_starts a b (x ∷ xs) [] p h = absurd h
+leq_starts a b (x ∷ xs) (y ∷ ys) p h = (p, leq_starts (a + x) (b + y) xs ys (omega (arith, h.0)) h.1)
+
+leq_children : (nodes : List Node) (places others : List ℕ) (above : ℕ) (row : List ℕ) → Leq places others → children_len nodes places above row ≤ children_len nodes others above row
+unfolding children_len child_len
+leq_children nodes places others above [] h = omega arith
+leq_children nodes places others above (child ∷ row) h =
+    omega (arith, leq_children nodes places others above row h, length-uleb_mono (get_or places child 0) (get_or others child 0) (leq_at places others child h))
+
+leq_lens : (exports : List ExportAddress) (nodes : List Node) (places others : List ℕ) (rest : List Node) (rows : List (List ℕ)) → Leq places others → Leq (node_lens exports nodes places rest rows) (node_lens exports nodes others rest rows)
+unfolding node_lens node_len
+leq_lens exports nodes places others [] rows h = tt
+leq_lens exports nodes places others (node ∷ rest) [] h = tt
+leq_lens exports nodes places others (node ∷ rest) (row ∷ rows) h =
+    (omega (arith, leq_children nodes places others node.len row h), leq_lens exports nodes places others rest rows h)
+
+pub leq_next : (exports : List ExportAddress) (nodes : List Node) (rows : List (List ℕ)) (places others : List ℕ) → Leq places others → Leq (next_starts exports nodes rows places) (next_starts exports nodes rows others)
+leq_next exports nodes rows places others h = leq_starts 0 0 _ _ (omega arith) (leq_lens exports nodes places others nodes rows h)
+
+pub total : List ℕ → ℕ
+total [] = 0
+total (x ∷ xs) = x + total xs
+
+pub total_less : (xs ys : List ℕ) → Leq xs ys → (ys ≡ xs → ⊥) → total xs < total ys
+unfolding total
+total_less [] [] h apart = absurd (apart refl)
+total_less [] (y ∷ ys) h apart = absurd h
+total_less (x ∷ xs) [] h apart = absurd h
+total_less (x ∷ xs) (y ∷ ys) h apart =
+    elim (cases_order x y) [
+      | inl same ↦ omega (arith, total_less xs ys h.1 (λ e. apart (rw (same, e) refl)))
+      | inr other ↦ elim other [
+        | inl less ↦ omega (arith, total_leq xs ys h.1)
+        | inr more ↦ absurd (omega (arith, h.0))
+      ]
+    ]
+  where
+    total_leq : (xs ys : List ℕ) → Leq xs ys → total xs ≤ total ys
+    total_leq [] [] h = omega arith
+    total_leq [] (y ∷ ys) h = absurd h
+    total_leq (x ∷ xs) [] h = absurd h
+    total_leq (x ∷ xs) (y ∷ ys) h = omega (arith, h.0, total_leq xs ys h.1)
+
+pub total_most : (xs : List ℕ) (most : ℕ) → ((i : ℕ) → i < length xs → get_or xs i 0 < most) → total xs ≤ length xs * most
+unfolding total
+total_most [] most small = omega arith
+total_most (x ∷ xs) most small =
+    let first : x < most = small 0 (omega arith) in
+    let rest : total xs ≤ length xs * most = total_most xs most (λ i h. small (suc i) (omega arith)) in
+    let split : suc (length xs) * most ≡ most + length xs * most = omega arith in
+    omega arith
