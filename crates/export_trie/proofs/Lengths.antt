@@ -1,5 +1,5 @@
 -- The sizes of nodes, and the least places that agree with them.
-use Rattle.std.proofs.Common.{◌≡◌, ◌≢◌, ℕ, zero, suc, ◌+◌, ◌-◌, ◌*◌, ◌^◌, ◌<◌, ◌≤◌, ◌⊎◌, Bool, true, false, List, [], ◌∷◌, ◌++◌, length, take, drop, map, get_or, replicate, refl, sym, ◌∙◌, ap, subst, inl, inr, arith, Option, Some, None, append_assoc, append-nil}
+use Rattle.std.proofs.Common.{◌≡◌, ◌≢◌, ℕ, zero, suc, ◌+◌, ◌-◌, ◌*◌, ◌^◌, ◌<◌, ◌≤◌, ◌⊎◌, Bool, true, false, List, [], ◌∷◌, ◌++◌, length, take, drop, map, get_or, replicate, refl, sym, ◌∙◌, ap, subst, inl, inr, arith, Option, Some, None, append_assoc, append-nil, All}
 use Rattle.std.specs.List.{AllByRecursion}
 use Rattle.std.proofs.lemmas.Bool.{cases_lt, cases_order}
 use Rattle.std.proofs.lemmas.List.{drop_more, drop_all}
@@ -23,7 +23,7 @@ unfolding children_len child_len
 children_more nodes places above row i size edge number total within e edge' number' total' =
     let here : drop i row ≡ get_or row i 0 ∷ drop (i + 1) row = drop_more row i 0 within in
     let split : children_len nodes places above (drop i row) ≡ (get_or nodes (get_or row i 0) (node_at 0 0)).len - above + (1 + length (uleb (get_or places (get_or row i 0) 0))) + children_len nodes places above (drop (i + 1) row) =
-        ap (children_len nodes places above) here in
+    ap (children_len nodes places above) here in
     omega arith
 
 pub children_all : (nodes : List Node) (places : List ℕ) (above : ℕ) (row : List ℕ) (i size : ℕ) → length row ≤ i → size + children_len nodes places above (drop i row) ≡ children_len nodes places above row → size ≡ children_len nodes places above row
@@ -39,7 +39,7 @@ starts_more exports nodes places rows next i place size end d within long e size
     let row : drop i rows ≡ get_or rows i [] ∷ drop (i + 1) rows = drop_more rows i [] (omega arith) in
     let lens : node_lens exports nodes places (drop i nodes) (drop i rows) ≡ size ∷ node_lens exports nodes places (drop (i + 1) nodes) (drop (i + 1) rows) = rw (node, row, size') refl in
     append_assoc next (place ∷ []) _ ∙ (ap (λ (n : ℕ). next ++ place ∷ starts n (node_lens exports nodes places (drop (i + 1) nodes) (drop (i + 1) rows))) end'
-      ∙ (ap (λ (ns : List ℕ). next ++ starts place ns) (sym lens) ∙ e))
+    ∙ (ap (λ (ns : List ℕ). next ++ starts place ns) (sym lens) ∙ e))
 
 pub starts_all : (exports : List ExportAddress) (nodes : List Node) (places : List ℕ) (rows : List (List ℕ)) (next : List ℕ) (i place : ℕ) → length nodes ≤ i → next ++ starts place (node_lens exports nodes places (drop i nodes) (drop i rows)) ≡ next_starts exports nodes rows places → next ≡ next_starts exports nodes rows places
 unfolding node_lens
@@ -129,3 +129,30 @@ total_most (x ∷ xs) most small =
     let rest : total xs ≤ length xs * most = total_most xs most (λ i h. small (suc i) (omega arith)) in
     let split : suc (length xs) * most ≡ most + length xs * most = omega arith in
     omega arith
+
+pub places_long : (exports : List ExportAddress) (nodes : List Node) (rows : List (List ℕ)) (places : List ℕ) → length places ≡ length nodes → Leq places (next_starts exports nodes rows places) → length (next_starts exports nodes rows places) ≡ length nodes
+places_long exports nodes rows places long rise = sym (leq_length places (next_starts exports nodes rows places) rise) ∙ long
+
+-- one more round brings the places nearer to their bound
+pub nearer : (places next : List ℕ) (count : ℕ) → Leq places next → length next ≡ count → All (λ place. place < 2 ^ 64) next → (next ≡ places → ⊥) → count * 2 ^ 64 - total next < count * 2 ^ 64 - total places
+nearer places next count rise long small apart =
+    let less : total places < total next = total_less places next rise apart in
+    let most : total next ≤ length next * 2 ^ 64 = total_most next (2 ^ 64) (λ i h. small i 0 h) in
+    let same : length next * 2 ^ 64 ≡ count * 2 ^ 64 = ap (λ (n : ℕ). n * 2 ^ 64) long in
+    omega arith
+
+length_starts : (at : ℕ) (sizes : List ℕ) → length (starts at sizes) ≡ length sizes
+length_starts at [] = refl
+length_starts at (size ∷ sizes) = ap suc (length_starts (at + size) sizes)
+
+length_lens : (exports : List ExportAddress) (nodes : List Node) (places : List ℕ) (rest : List Node) (rows : List (List ℕ)) → length rows ≡ length rest → length (node_lens exports nodes places rest rows) ≡ length rest
+unfolding node_lens
+length_lens exports nodes places [] rows e = refl
+length_lens exports nodes places (node ∷ rest) [] e = absurd (omega arith)
+length_lens exports nodes places (node ∷ rest) (row ∷ rows) e = ap suc (length_lens exports nodes places rest rows (omega arith))
+
+pub length-next_starts : (exports : List ExportAddress) (nodes : List Node) (rows : List (List ℕ)) (places : List ℕ) → length rows ≡ length nodes → length (next_starts exports nodes rows places) ≡ length nodes
+length-next_starts exports nodes rows places e = length_starts 0 _ ∙ length_lens exports nodes places nodes rows e
+
+pub zeros_rise : (exports : List ExportAddress) (nodes : List Node) (rows : List (List ℕ)) (zeros others : List ℕ) → zeros ≡ replicate (length nodes) 0 → length others ≡ length nodes → Leq zeros others
+zeros_rise exports nodes rows zeros others e long = subst (λ (ns : List ℕ). Leq ns others) (ap (λ (n : ℕ). replicate n 0) long ∙ sym e) (leq_zeros others)

@@ -72,3 +72,6 @@ pub rows_push : (rows : List (Vec ℕ Global)) (i : ℕ) (old new : Vec ℕ Glob
 rows_push rows i old new place within is items =
     rows_set rows i new
     ∙ ap (set (rows_of rows) i) (items ∙ ap (λ (row : List ℕ). row ++ place ∷ []) (ap (λ (row : Vec ℕ Global). row.items) is ∙ sym (row_read rows i old within)))
+
+pub row_is : (rows : List (Vec ℕ Global)) (i : ℕ) (row : Vec ℕ Global) (items : List ℕ) → i < length rows → row ≡ get_or rows i row → items ≡ row.items → items ≡ get_or (rows_of rows) i []
+row_is rows i row items within is same = same ∙ (ap (λ (r : Vec ℕ Global). r.items) is ∙ sym (row_read rows i row within))

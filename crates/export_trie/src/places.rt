@@ -1,4 +1,4 @@
-ghost use Rattle.std.specs.Prelude.{◌≡◌, ◌+◌, ◌≤◌, ◌<◌, ℕ, length, IfOk, IfSome, slice_index};
+ghost use Rattle.std.specs.Prelude.{◌≡◌, ◌+◌, ◌≤◌, ◌<◌, ◌^◌, ℕ, All, length, IfOk, IfSome, slice_index};
 ghost use Rattle.std.specs.List.{AllByRecursion};
 ghost use Rattle.std.specs.Option.{option_copied};
 ghost use Rattle.export_trie.specs.Trie.{data_of};
@@ -46,6 +46,7 @@ fn children_len(nodes: &[Node], places: &[usize], above: usize, row: &[usize]) -
     Some(size)
 }
 
+#[tactic(auto, unfolding(crate::specs::Sizes::node_len))]
 fn node_len(
     exports: &[&ExportAddress],
     nodes: &[Node],
@@ -73,7 +74,8 @@ fn next_places(
     requires long { length places.now ≡ length nodes.now }
     requires rows { length rows.now ≡ length nodes.now }
     requires below { AreBelow nodes.now (rows_of rows.now) }
-    ensures { IfOk result (λ next. next.items ≡ next_starts (held exports.now) nodes.now (rows_of rows.now) places.now) }
+    ensures exact { IfOk result (λ next. next.items ≡ next_starts (held exports.now) nodes.now (rows_of rows.now) places.now) }
+    ensures small { IfOk result (λ next. All (λ place. place < 2 ^ 64) next.items) }
 {
     let mut next = Vec::with_capacity(alloc, nodes.len())?;
     let mut place = 0usize;
