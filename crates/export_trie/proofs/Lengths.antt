@@ -8,8 +8,8 @@ use Rattle.mo_bytes.proofs.Ulebs.{length-uleb_mono}
 use Rattle.export_trie.specs.declared.export.ExportAddress.{ExportAddress}
 use Rattle.export_trie.specs.declared.nodes.Node.{Node}
 use Rattle.export_trie.specs.Trie.{data_of, starts}
-use Rattle.export_trie.specs.Held.{node_at}
-use Rattle.export_trie.specs.Sizes.{export_held, child_len, children_len, node_len, node_lens, next_starts, IsBelow, AreBelow, AreLeast}
+use Rattle.export_trie.specs.Held.{node_at, text}
+use Rattle.export_trie.specs.Sizes.{export_held, child_len, children_len, node_len, node_lens, next_starts, IsBelow, AreBelow, AreLeast, held_child, row_bytes, held_node, held_bytes}
 
 -- ---- the loops
 
@@ -156,3 +156,34 @@ length-next_starts exports nodes rows places e = length_starts 0 _ ∙ length_le
 
 pub zeros_rise : (exports : List ExportAddress) (nodes : List Node) (rows : List (List ℕ)) (zeros others : List ℕ) → zeros ≡ replicate (length nodes) 0 → length others ≡ length nodes → Leq zeros others
 zeros_rise exports nodes rows zeros others e long = subst (λ (ns : List ℕ). Leq ns others) (ap (λ (n : ℕ). replicate n 0) long ∙ sym e) (leq_zeros others)
+
+-- ---- the loops that write
+
+pub row_more : (strings : List (List ℕ)) (nodes : List Node) (places : List ℕ) (above : ℕ) (row : List ℕ) (i : ℕ) (old whole new edge : List ℕ) → i < length row → old ++ row_bytes strings nodes places above (drop i row) ≡ whole → edge ≡ drop above (text strings (get_or nodes (get_or row i 0) (node_at 0 0))) → new ≡ old ++ (edge ++ 0 ∷ uleb (get_or places (get_or row i 0) 0)) → new ++ row_bytes strings nodes places above (drop (i + 1) row) ≡ whole
+unfolding row_bytes held_child
+row_more strings nodes places above row i old whole new edge within e edge' new' =
+    let here : drop i row ≡ get_or row i 0 ∷ drop (i + 1) row = drop_more row i 0 within in
+    let split : row_bytes strings nodes places above (drop i row) ≡ (drop above (text strings (get_or nodes (get_or row i 0) (node_at 0 0))) ++ 0 ∷ uleb (get_or places (get_or row i 0) 0)) ++ row_bytes strings nodes places above (drop (i + 1) row) =
+        ap (row_bytes strings nodes places above) here in
+    rw (new', edge') (append_assoc old _ _ ∙ (ap (λ (bs : List ℕ). old ++ bs) (sym split) ∙ e))
+
+pub row_all : (strings : List (List ℕ)) (nodes : List Node) (places : List ℕ) (above : ℕ) (row : List ℕ) (i : ℕ) (old whole : List ℕ) → length row ≤ i → old ++ row_bytes strings nodes places above (drop i row) ≡ whole → old ≡ whole
+unfolding row_bytes
+row_all strings nodes places above row i old whole past e =
+    sym (append-nil old) ∙ (ap (λ (rest : List ℕ). old ++ row_bytes strings nodes places above rest) (sym (drop_all i row past)) ∙ e)
+
+pub bytes_more : (exports : List ExportAddress) (nodes : List Node) (places : List ℕ) (rows : List (List ℕ)) (i : ℕ) (old whole new row : List ℕ) (d : Node) → i < length nodes → length rows ≡ length nodes → old ++ held_bytes exports nodes places (drop i nodes) (drop i rows) ≡ whole → row ≡ get_or rows i [] → new ≡ old ++ held_node exports nodes places (get_or nodes i d) row → new ++ held_bytes exports nodes places (drop (i + 1) nodes) (drop (i + 1) rows) ≡ whole
+unfolding held_bytes
+bytes_more exports nodes places rows i old whole new row d within long e row' new' =
+    let node = drop_more nodes i d within in
+    let below : drop i rows ≡ get_or rows i [] ∷ drop (i + 1) rows = drop_more rows i [] (omega arith) in
+    let split : held_bytes exports nodes places (drop i nodes) (drop i rows) ≡ held_node exports nodes places (get_or nodes i d) row ++ held_bytes exports nodes places (drop (i + 1) nodes) (drop (i + 1) rows) = rw (node, below, row') refl in
+    rw new' (append_assoc old _ _ ∙ (ap (λ (bs : List ℕ). old ++ bs) (sym split) ∙ e))
+
+pub bytes_all : (exports : List ExportAddress) (nodes : List Node) (places : List ℕ) (rows : List (List ℕ)) (i : ℕ) (old whole : List ℕ) → length nodes ≤ i → old ++ held_bytes exports nodes places (drop i nodes) (drop i rows) ≡ whole → old ≡ whole
+unfolding held_bytes
+bytes_all exports nodes places rows i old whole past e =
+    sym (append-nil old) ∙ (ap (λ (bs : List ℕ). old ++ bs) (none (drop i nodes) (drop_all i nodes past)) ∙ e)
+  where
+    none : (rest : List Node) → rest ≡ [] → [] ≡ held_bytes exports nodes places rest (drop i rows)
+    none rest h = rw h refl

@@ -1,12 +1,12 @@
--- The sizes of the nodes that the code holds, and the places that agree with them.
-use Rattle.std.specs.Prelude.{ℕ, ◌≡◌, ◌+◌, ◌-◌, ◌≤◌, ◌<◌, ◌==◌, if◌then◌else◌, List, [], ◌∷◌, length, Option, Some, None, slice_get, slice_index, slice_index_or}
-use Rattle.std.specs.List.{AllByRecursion}
+-- The sizes of the nodes that the code holds, the places that agree with them, and their bytes.
+use Rattle.std.specs.Prelude.{ℕ, ◌≡◌, ◌+◌, ◌-◌, ◌≤◌, ◌<◌, ◌==◌, if◌then◌else◌, List, [], ◌∷◌, ◌++◌, ◌^◌, length, drop, Option, Some, None, IfSome, slice_get, slice_index, slice_index_or}
+use Rattle.std.specs.List.{AllByRecursion, flat_map}
 use Rattle.std.specs.Option.{option_and_then}
 use Rattle.mo_bytes.specs.Uleb.{uleb}
 use Rattle.export_trie.specs.declared.export.ExportAddress.{ExportAddress}
 use Rattle.export_trie.specs.declared.nodes.Node.{Node}
-use Rattle.export_trie.specs.Trie.{data_of, starts}
-use Rattle.export_trie.specs.Held.{node_at}
+use Rattle.export_trie.specs.Trie.{data_of, names, starts}
+use Rattle.export_trie.specs.Held.{node_at, text}
 
 -- the export whose name is the node's string
 abbrev pub export_held : List ExportAddress → Node → Option ExportAddress
@@ -50,3 +50,29 @@ pub record AreLeast (exports : List ExportAddress) (nodes : List Node) (rows : L
   pub long : length places ≡ length nodes
   pub agree : places ≡ next_starts exports nodes rows places
   pub least : (other : List ℕ) → length other ≡ length nodes → other ≡ next_starts exports nodes rows other → (place : ℕ) → slice_index places place ≤ slice_index other place
+
+-- ---- bytes
+
+unfoldable pub held_child : List (List ℕ) → List Node → List ℕ → ℕ → ℕ → List ℕ
+held_child strings nodes places above child =
+    drop above (text strings (slice_index_or nodes child (node_at 0 0))) ++ 0 ∷ uleb (slice_index places child)
+
+unfoldable pub row_bytes : List (List ℕ) → List Node → List ℕ → ℕ → List ℕ → List ℕ
+row_bytes strings nodes places above row = flat_map (held_child strings nodes places above) row
+
+abbrev pub sized : List ℕ → List ℕ
+sized info = uleb (length info) ++ info
+
+unfoldable pub held_node : List ExportAddress → List Node → List ℕ → Node → List ℕ → List ℕ
+held_node exports nodes places node row =
+    sized (data_of (export_held exports node)) ++ length row ∷ row_bytes (names exports) nodes places node.len row
+
+unfoldable pub held_bytes : List ExportAddress → List Node → List ℕ → List Node → List (List ℕ) → List ℕ
+held_bytes exports nodes places [] rows = []
+held_bytes exports nodes places (node ∷ rest) [] = []
+held_bytes exports nodes places (node ∷ rest) (row ∷ rows) =
+    held_node exports nodes places node row ++ held_bytes exports nodes places rest rows
+
+-- an export's numbers are below 2^64
+abbrev pub IsSmall : Option ExportAddress → Type 0
+IsSmall export = IfSome export (λ e. (e.flags < 2 ^ 64) × (e.address < 2 ^ 64))

@@ -1,6 +1,6 @@
 -- The export trie of a list of exports: a tree of strings, in which each node's edge is as long as it can be
 -- (`loader.h`: LC_DYLD_EXPORTS_TRIE).
-use Rattle.std.specs.Prelude.{ℕ, zero, suc, ◌≡◌, ◌+◌, ◌≤◌, ◌⊎◌, Bool, not, ◌&&◌, List, [], ◌∷◌, ◌++◌, length, drop, map, Option, Some, None, Contains}
+use Rattle.std.specs.Prelude.{ℕ, zero, suc, ◌≡◌, ◌+◌, ◌-◌, ◌%◌, ◌≤◌, ◌⊎◌, Bool, not, ◌&&◌, List, [], ◌∷◌, ◌++◌, length, drop, map, replicate, Option, Some, None, Contains}
 use Rattle.std.specs.List.{filter, find, flat_map, list_any}
 use Rattle.std.specs.List.Sorted.{IsStrictlySortedBy}
 use Rattle.std.specs.Option.{option_map_or}
@@ -69,11 +69,15 @@ starts at (size ∷ sizes) = at ∷ starts (at + size) sizes
 abbrev pub Agrees : List ExportAddress → List (List ℕ) → (List ℕ → ℕ) → Type 0
 Agrees exports nodes place = map place nodes ≡ starts 0 (map (λ node. length (node_bytes exports nodes place node)) nodes)
 
--- the bytes are the trie of the exports: its nodes at the least places that agree with their sizes
+-- the bytes, with zeros up to a multiple of eight
+abbrev pub padded : List ℕ → List ℕ
+padded bytes = bytes ++ replicate ((8 - length bytes % 8) % 8) 0
+
+-- the bytes are the trie of the exports: its nodes at the least places that agree with their sizes, and then zeros
 pub record IsTrie (exports : List ExportAddress) (bytes : List ℕ) : Type 0 where
   pub nodes : List (List ℕ)
   pub all : AreNodes (names exports) nodes
   pub place : List ℕ → ℕ
   pub agree : Agrees exports nodes place
   pub least : (other : List ℕ → ℕ) → Agrees exports nodes other → (node : List ℕ) → Contains nodes node → place node ≤ other node
-  pub spelled : bytes ≡ flat_map (node_bytes exports nodes place) nodes
+  pub spelled : bytes ≡ padded (flat_map (node_bytes exports nodes place) nodes)

@@ -20,7 +20,8 @@ pub struct Node {
 #[tactic(auto, unfolding(crate::specs::Held::text))]
 pub fn text_of<'a>(exports: &[&'a ExportAddress], node: Node) -> &'a [u8]
     requires { Fits (held_names exports.now) node }
-    ensures { result.now ≡ text (held_names exports.now) node }
+    ensures value { result.now ≡ text (held_names exports.now) node }
+    ensures len { length result.now ≡ node.len }
 {
     match exports.get(node.name) {
         Some(export) => &export.name.as_slice()[..node.len],

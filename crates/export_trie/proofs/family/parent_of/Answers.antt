@@ -11,7 +11,7 @@ loop-text-smaller c =
     let nodes = texts strings c.args.nodes.now in
     let within : c.loop-text.above < length c.args.nodes.now = omega (arith, c.loop-text.invariant.before, c.requires.within) in
     let away : begins (get_or nodes c.loop-text.above []) (get_or nodes c.args.at []) ≡ false =
-    tested strings c.args.nodes.now c.args.at c.loop-text.above _ _ _ _ _ c.requires.within within c.text_of-text.ensures c.text_of.ensures c.loop-text-test.ensures.value in
+    tested strings c.args.nodes.now c.args.at c.loop-text.above _ _ _ _ _ c.requires.within within c.text_of-text.ensures.value c.text_of.ensures.value c.loop-text-test.ensures.value in
     let some : 0 < c.loop-text.above = seeks_some nodes c.args.at c.loop-text.above (held_rising strings c.args.nodes.now c.requires.held) (held_root strings c.args.nodes.now c.requires.held) away in
     (c.requires.before c.loop-text.above some c.loop-text.invariant.before).before
 
@@ -21,7 +21,7 @@ loop-text-preserved c =
     let nodes = texts strings c.args.nodes.now in
     let within : c.loop-text.above < length c.args.nodes.now = omega (arith, c.loop-text.invariant.before, c.requires.within) in
     let away : begins (get_or nodes c.loop-text.above []) (get_or nodes c.args.at []) ≡ false =
-    tested strings c.args.nodes.now c.args.at c.loop-text.above _ _ _ _ _ c.requires.within within c.text_of-text.ensures c.text_of.ensures c.loop-text-test.ensures.value in
+    tested strings c.args.nodes.now c.args.at c.loop-text.above _ _ _ _ _ c.requires.within within c.text_of-text.ensures.value c.text_of.ensures.value c.loop-text-test.ensures.value in
     let some : 0 < c.loop-text.above = seeks_some nodes c.args.at c.loop-text.above (held_rising strings c.args.nodes.now c.requires.held) (held_root strings c.args.nodes.now c.requires.held) away in
     let long : length nodes ≡ length c.args.nodes.now = length-texts strings c.args.nodes.now in
     seeks_more nodes c.args.at c.loop-text.above _ (held_rising strings c.args.nodes.now c.requires.held) (omega (arith, c.requires.within)) c.loop-text.invariant away
@@ -32,4 +32,4 @@ returns c =
     let strings = held_names c.args.exports.now in
     let within : c.loop-text.above < length c.args.nodes.now = omega (arith, c.loop-text.invariant.before, c.requires.within) in
     seeks_found (texts strings c.args.nodes.now) c.args.at c.loop-text.above c.loop-text.invariant
-    (tested strings c.args.nodes.now c.args.at c.loop-text.above _ _ _ _ _ c.requires.within within c.text_of-text.ensures c.text_of.ensures c.loop-text-test.ensures.value)
+    (tested strings c.args.nodes.now c.args.at c.loop-text.above _ _ _ _ _ c.requires.within within c.text_of-text.ensures.value c.text_of.ensures.value c.loop-text-test.ensures.value)

@@ -47,6 +47,6 @@ loop-places-preserved c =
       long = ap length next ∙ places_long exports c.args.nodes.now rows c.loop-places.places.items c.loop-places.invariant.long c.loop-places.invariant.rise;
       rise = subst (λ (ns : List ℕ). Leq ns (next_starts exports c.args.nodes.now rows c.in_ok-next.next.items)) (sym next) (leq_next exports c.args.nodes.now rows _ _ rise);
       least = λ other long is.
-        subst (λ (ns : List ℕ). Leq ns other) (sym next)
-        (subst (Leq (next_starts exports c.args.nodes.now rows c.loop-places.places.items)) (sym is) (leq_next exports c.args.nodes.now rows _ _ (c.loop-places.invariant.least other long is)));
+          subst (λ (ns : List ℕ). Leq ns other) (sym next)
+          (subst (Leq (next_starts exports c.args.nodes.now rows c.loop-places.places.items)) (sym is) (leq_next exports c.args.nodes.now rows _ _ (c.loop-places.invariant.least other long is)));
     }
