@@ -16,6 +16,10 @@ held references = map (λ reference. reference.now) references
 abbrev pub held_names : List (Bor ExportAddress) → List (List ℕ)
 held_names references = names (held references)
 
+-- each number of the string is a byte
+abbrev pub AreBytes : List ℕ → Type 0
+AreBytes string = All (λ byte. byte < 256) string
+
 -- ---- nodes
 
 -- the name that a node's string begins

@@ -1,9 +1,9 @@
-ghost use Rattle.std.specs.Prelude.{◌≡◌, ◌≤◌, ◌<◌, ◌++◌, length, reverse, IfOk, OnOk};
+ghost use Rattle.std.specs.Prelude.{◌≡◌, ◌≤◌, ◌<◌, ◌++◌, length, reverse, All, IfOk, OnOk};
 ghost use Rattle.std.specs.List.Sorted.{IsStrictlySortedBy};
 ghost use Rattle.std.specs.Ordering.{nat_cmp};
 ghost use Rattle.std.specs.Cmp.Lexicographic.{slice_cmp};
 ghost use Rattle.export_trie.specs.Strings.{common};
-ghost use Rattle.export_trie.specs.Held.{held_names, text, Fits, AreHeld, Closes, last_bytes, entered};
+ghost use Rattle.export_trie.specs.Held.{AreBytes, held_names, text, Fits, AreHeld, Closes, last_bytes, entered};
 
 use crate::export::ExportAddress;
 use mo_types::OutOfMemory;
@@ -30,7 +30,8 @@ pub fn text_of<'a>(exports: &[&'a ExportAddress], node: Node) -> &'a [u8]
 }
 
 fn common_len(a: &[u8], b: &[u8]) -> usize
-    ensures { result ≡ length (common a.now b.now) }
+    ensures len { result ≡ length (common a.now b.now) }
+    ensures bytes { AreBytes a.now }
 {
     let mut len = 0;
     while len < a.len() && len < b.len() && a[len] == b[len] {
@@ -79,7 +80,8 @@ fn enter(path: &mut Vec<Node>, name: usize, shared: usize, len: usize) -> Result
 /// The nodes of exports in order, in byte order.
 pub fn nodes(alloc: Global, exports: &[&ExportAddress]) -> Result<Vec<Node>, OutOfMemory>
     requires { IsStrictlySortedBy (slice_cmp nat_cmp) (held_names exports.now) }
-    ensures { IfOk result (λ nodes. AreHeld (held_names exports.now) nodes.items) }
+    ensures held { IfOk result (λ nodes. AreHeld (held_names exports.now) nodes.items) }
+    ensures bytes { OnOk result (All AreBytes (held_names exports.now)) }
 {
     let mut done = Vec::new(alloc);
     // The nodes that begin the last name that was entered, the root first.

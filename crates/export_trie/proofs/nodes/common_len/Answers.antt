@@ -4,8 +4,8 @@ use Rattle.export_trie.specs.Strings.{common}
 use Rattle.export_trie.proofs.Entering.{common_nil}
 use Rattle.export_trie.proofs.nodes.common_len.Goals as goal
 
-pub returns-else-len-b : goal.returns-else-len-b
-returns-else-len-b c =
+pub returns-else-len-b-clause-len : goal.returns-else-len-b-clause-len
+returns-else-len-b-clause-len c =
     let shared = c.loop-len.invariant.shared in
     let ended : length (common (drop c.loop-len.len c.args.a.now) (drop c.loop-len.len c.args.b.now)) ≡ 0 =
     rw (drop_all c.loop-len.len c.args.b.now c.if-len-b.false, common_nil (drop c.loop-len.len c.args.a.now)) refl in

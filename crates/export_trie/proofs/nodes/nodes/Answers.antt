@@ -1,7 +1,9 @@
-use Rattle.std.proofs.Common.{◌≡◌, ◌+◌, ◌-◌, ◌≤◌, ◌<◌, ℕ, List, [], ◌∷◌, length, drop, get_or, refl, sym, subst, ap, ◌∙◌, arith}
+use Rattle.std.proofs.Common.{◌≡◌, ◌+◌, ◌-◌, ◌≤◌, ◌<◌, ℕ, List, [], ◌∷◌, length, drop, get_or, refl, sym, subst, ap, ◌∙◌, inl, inr, arith}
+use Rattle.std.proofs.lemmas.Bool.{cases_order}
 use Rattle.std.proofs.lemmas.List.{drop_all, drop_more}
+use Rattle.std.proofs.lemmas.List.Elements.{All-from_get_or}
 use Rattle.export_trie.specs.declared.nodes.Node.{Node}
-use Rattle.export_trie.specs.Held.{held_names, AreHeld}
+use Rattle.export_trie.specs.Held.{AreBytes, held_names, AreHeld}
 use Rattle.export_trie.proofs.Strings.{Rising, rising_from_sorted}
 use Rattle.export_trie.proofs.Entering.{first_of}
 use Rattle.export_trie.proofs.Reading.{name_read, length-held_names}
@@ -17,6 +19,7 @@ loop-left-init c =
       within = omega arith;
       later = rw none refl;
       building = rw (c.in_ok-path.ensures.items, c.new-done.ensures.items) (subst (λ (n : ℕ). IsBuilding strings n (record { name = 0; len = 0 } ∷ []) []) long (begun strings));
+      bytes = λ k low high. absurd (omega arith);
     }
 
 pub loop-left-preserved : goal.loop-left-preserved
@@ -30,13 +33,21 @@ loop-left-preserved c =
       within = omega (arith, c.loop-left.invariant.within);
       later = name ∙ sym (ap first_of (drop_more strings (c.loop-left.left - 1) [] (omega arith)));
       building = built strings (c.loop-left.left - 1) _ _ _ _ _ _ _ _ (rising_from_sorted strings c.requires) (omega arith) name
-          (subst (λ (n : ℕ). c.loop-left.later.now ≡ first_of (drop n strings)) some c.loop-left.invariant.later) c.common_len-shared.ensures
+          (subst (λ (n : ℕ). c.loop-left.later.now ≡ first_of (drop n strings)) some c.loop-left.invariant.later) c.common_len-shared.ensures.len
           (subst (λ (n : ℕ). IsBuilding strings n c.loop-left.path.items c.loop-left.done.items) some c.loop-left.invariant.building)
           c.in_ok-close.ensures.same c.in_ok-close.ensures.closed c.in_ok-close.ensures.short c.in_ok-enter.ensures;
+      bytes = λ k low high.
+        elim (cases_order k (c.loop-left.left - 1)) [
+          | inl same ↦ subst AreBytes (name ∙ ap (λ (n : ℕ). get_or strings n []) (sym same)) c.common_len-shared.ensures.bytes
+          | inr apart ↦ c.loop-left.invariant.bytes k (elim apart [ | inl before ↦ absurd (omega arith) | inr after ↦ omega arith ]) high
+        ];
     }
 
 pub loop-node-init : goal.loop-node-init
 loop-node-init c =
     let none : c.loop-left.left ≡ 0 = omega arith in
-    finished (held_names c.args.exports.now) c.loop-left.path.items c.loop-left.done.items
-    (subst (λ (n : ℕ). IsBuilding (held_names c.args.exports.now) n c.loop-left.path.items c.loop-left.done.items) none c.loop-left.invariant.building)
+    record {
+      held = finished (held_names c.args.exports.now) c.loop-left.path.items c.loop-left.done.items
+        (subst (λ (n : ℕ). IsBuilding (held_names c.args.exports.now) n c.loop-left.path.items c.loop-left.done.items) none c.loop-left.invariant.building);
+      bytes = All-from_get_or AreBytes (held_names c.args.exports.now) [] (λ k within. c.loop-left.invariant.bytes k (omega arith) (omega (arith, length-held_names c.args.exports.now)));
+    }
