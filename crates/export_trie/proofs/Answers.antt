@@ -4,7 +4,7 @@ use Rattle.std.specs.List.{filter, find, flat_map, list_any, AllByRecursion}
 use Rattle.std.specs.Option.{option_map_or}
 use Rattle.std.specs.Str.{bytes_eq}
 use Rattle.std.proofs.lemmas.Bool.{cases_Bool, cases_lt, and_parts, and_from, not-true, lt-ltb, le-ltb, eq-eqb, ne_eqb, false≢true, true≢false}
-use Rattle.std.proofs.lemmas.List.{drop_at, drop-drop, length-drop}
+use Rattle.std.proofs.lemmas.List.{drop_at, drop-drop, drop-append-le, length-drop}
 use Rattle.std.proofs.Math.Seq.{drop-append-add}
 use Rattle.std.proofs.lemmas.Slice.Eq.{bytes_eq-Decides}
 use Rattle.mo_bytes.specs.Uleb.{uleb, uleb_at}
@@ -212,13 +212,14 @@ data_some bytes at flags address rest f a e =
 
 -- ---- the walk
 
--- bytes that spell the nodes, where they have their places
+-- bytes that begin with the nodes, where they have their places
 pub record IsSpelled (exports : List ExportAddress) (nodes : List (List ℕ)) (place : List ℕ → ℕ) (bytes : List ℕ) : Type 0 where
   pub all : AreNodes (names exports) nodes
   pub agree : Agrees exports nodes place
-  pub spelled : bytes ≡ flat_map (node_bytes exports nodes place) nodes
+  pub tail : List ℕ
+  pub spelled : bytes ≡ flat_map (node_bytes exports nodes place) nodes ++ tail
   pub clean : (export : ExportAddress) → In export exports → In 0 export.name → ⊥
-  pub small : (export : ExportAddress) → In export exports → (export.flags < 2 ^ 64) × (export.address < 2 ^ 64)
+  pub small : (node : List ℕ) → In node nodes → (export : ExportAddress) → export_at exports node ≡ Some export → (export.flags < 2 ^ 64) × (export.address < 2 ^ 64)
   pub short : length bytes < 2 ^ 64
 
 length-node_bytes_pos : (exports : List ExportAddress) (nodes : List (List ℕ)) (place : List ℕ → ℕ) (node : List ℕ) → 0 < length (node_bytes exports nodes place node)
@@ -227,10 +228,21 @@ length-node_bytes_pos exports nodes place node =
     let info = data_of (export_at exports node) in
     omega (arith, length-append (uleb (length info) ++ info) (length (children nodes node) ∷ flat_map (child_bytes place node) (children nodes node)))
 
+drop_before : (n : ℕ) (text tail here rest : List ℕ) → 0 < length here → drop n text ≡ here ++ rest → drop n (text ++ tail) ≡ here ++ (rest ++ tail)
+drop_before n text tail here rest some e =
+    let lens : length (drop n text) ≡ length here + length rest = ap length e ∙ length-append here rest in
+    let within : n ≤ length text = omega (arith, length-drop n text) in
+    drop-append-le n text tail within ∙ (ap (λ (bs : List ℕ). bs ++ tail) e ∙ append_assoc here rest tail)
+
 stands : (exports : List ExportAddress) (nodes : List (List ℕ)) (place : List ℕ → ℕ) (bytes : List ℕ) (node : List ℕ) → IsSpelled exports nodes place bytes → In node nodes → Stands bytes 0 (place node) (node_bytes exports nodes place node)
 stands exports nodes place bytes node s h =
-    subst (λ (text : List ℕ). Stands text 0 (place node) (node_bytes exports nodes place node)) (sym s.spelled)
-    (node_stands (node_bytes exports nodes place) place 0 nodes node s.agree h)
+    let here = node_stands (node_bytes exports nodes place) place 0 nodes node s.agree h in
+    record {
+      rest = here.rest ++ s.tail;
+      from = here.from;
+      read = ap (drop (place node - 0)) s.spelled
+        ∙ drop_before (place node - 0) (flat_map (node_bytes exports nodes place) nodes) s.tail (node_bytes exports nodes place node) here.rest (length-node_bytes_pos exports nodes place node) here.read;
+    }
 
 place_within : (exports : List ExportAddress) (nodes : List (List ℕ)) (place : List ℕ → ℕ) (bytes : List ℕ) (node : List ℕ) → IsSpelled exports nodes place bytes → In node nodes → place node < length bytes
 place_within exports nodes place bytes node s h =
@@ -286,13 +298,13 @@ nearest (suc most) nodes node below name few h above front =
       | inr none ↦ (below, in_filter (is_child nodes node) nodes below h (and_from (is_above node below) _ above (ap not none)), front)
     ]
 
-found_there : (exports : List ExportAddress) (node : List ℕ) (bytes : List ℕ) (at : ℕ) (rest : List ℕ) → ((export : ExportAddress) → In export exports → (export.flags < 2 ^ 64) × (export.address < 2 ^ 64)) → drop at bytes ≡ data_of (export_at exports node) ++ rest → data_at bytes (length (data_of (export_at exports node))) at ≡ answer exports node
+found_there : (exports : List ExportAddress) (node : List ℕ) (bytes : List ℕ) (at : ℕ) (rest : List ℕ) → ((export : ExportAddress) → export_at exports node ≡ Some export → (export.flags < 2 ^ 64) × (export.address < 2 ^ 64)) → drop at bytes ≡ data_of (export_at exports node) ++ rest → data_at bytes (length (data_of (export_at exports node))) at ≡ answer exports node
 found_there exports node bytes at rest small e = by (export_at exports node) refl e
   where
     by : (found : Option ExportAddress) → export_at exports node ≡ found → drop at bytes ≡ data_of found ++ rest → data_at bytes (length (data_of found)) at ≡ option_map_or (λ export. At export.flags export.address) found Absent
     by None is e = data_none bytes at
     by (Some export) is e =
-        let fits = small export (find_some _ exports export is).0 in
+        let fits = small export is in
         data_some bytes at export.flags export.address rest fits.0 fits.1 e
 
 in_children : (nodes : List (List ℕ)) (node kid : List ℕ) → In kid (children nodes node) → In kid nodes
@@ -330,7 +342,7 @@ walked zero exports nodes place bytes node rest s h enough = absurd (omega (arit
 walked (suc left) exports nodes place bytes node [] s h enough =
     let here = reads exports nodes place bytes node s h in
     walk_ends bytes (suc left) (place node) left [] _ refl (step_last bytes (place node) _ _ _ here)
-    ∙ (found_there exports node bytes _ _ s.small here.data' ∙ ap (answer exports) (sym (append-nil node)))
+    ∙ (found_there exports node bytes _ _ (s.small node h) here.data' ∙ ap (answer exports) (sym (append-nil node)))
 walked (suc left) exports nodes place bytes node (x ∷ rest) s h enough =
     let here = reads exports nodes place bytes node s h in
     let kids : AllByRecursion (IsKid place node) (children nodes node) =

@@ -33,7 +33,7 @@ shorter_front a b c p q less =
     by (inl same) = below_irrefl a (subst (Below a) same less)
     by (inr more) = below_asym a b less more
 
-front_take : (front name : List ℕ) → begins front name ≡ true → take (length front) name ≡ front
+pub front_take : (front name : List ℕ) → begins front name ≡ true → take (length front) name ≡ front
 front_take front name h = rw (begins_split front name h) (take_at front (drop (length front) name) (length front) refl)
 
 rising_drop : (n : ℕ) (strings : List (List ℕ)) → Rising strings → Rising (drop n strings)

@@ -6,3 +6,4 @@ pub mod Reading
 pub mod Building
 pub mod Parents
 pub mod Lengths
+pub mod Written
