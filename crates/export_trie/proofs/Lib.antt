@@ -7,3 +7,4 @@ pub mod Building
 pub mod Parents
 pub mod Lengths
 pub mod Written
+pub mod Finished
