@@ -1,24 +1,22 @@
 -- A look-up in the trie of some exports finds each of them, and nothing else.
-use Rattle.std.proofs.Common.{◌≡◌, ◌≢◌, ℕ, zero, suc, ◌+◌, ◌-◌, ◌*◌, ◌^◌, ◌<◌, ◌≤◌, ◌⊎◌, Bool, true, false, not, cond, ◌&&◌, eqb, ltb, List, [], ◌∷◌, ◌++◌, length, take, drop, get_or, refl, sym, ◌∙◌, ap, subst, inl, inr, arith, Option, Some, None, map, Contains, slice_get, length-append, append_assoc, append-nil}
-use Rattle.std.specs.List.{filter, find, flat_map, list_any, AllByRecursion}
+use Rattle.std.proofs.Common.{◌≡◌, ℕ, zero, suc, ◌+◌, ◌-◌, ◌^◌, ◌<◌, ◌≤◌, ◌⊎◌, true, false, not, ◌&&◌, eqb, List, [], ◌∷◌, ◌++◌, length, drop, refl, sym, ◌∙◌, ap, subst, inl, inr, arith, Option, Some, None, map, Contains, slice_get, length-append, append_assoc, append-nil}
+use Rattle.std.specs.List.{find, flat_map, list_any, AllByRecursion}
 use Rattle.std.specs.Option.{option_map_or}
-use Rattle.std.specs.Str.{bytes_eq}
-use Rattle.std.proofs.lemmas.Bool.{cases_Bool, cases_lt, and_parts, and_from, not-true, lt-ltb, le-ltb, eq-eqb, ne_eqb, false≢true, true≢false}
+use Rattle.std.proofs.lemmas.Bool.{cases_Bool, and_parts, and_from, lt-ltb, ne_eqb, false≢true, true≢false}
 use Rattle.std.proofs.lemmas.List.{drop_at, drop-drop, drop-append-le, length-drop}
 use Rattle.std.proofs.Math.Seq.{drop-append-add}
 use Rattle.std.proofs.lemmas.Slice.Eq.{bytes_eq-Decides}
 use Rattle.mo_bytes.specs.Uleb.{uleb, uleb_at}
 use Rattle.mo_bytes.proofs.Ulebs.{uleb_stands, length-uleb_pos}
 use Rattle.export_trie.specs.declared.export.ExportAddress.{ExportAddress}
-use Rattle.export_trie.specs.declared.lookup.Found.{Found}
-use Rattle.export_trie.specs.declared.lookup.Found.TheVariants.{At, Absent, Broken}
+use Rattle.export_trie.specs.declared.lookup.Found.TheVariants.{At, Absent}
 use Rattle.export_trie.specs.declared.lookup.Step.{Step}
 use Rattle.export_trie.specs.declared.lookup.Step.TheVariants.{Ends, Goes}
-use Rattle.export_trie.specs.Strings.{begins, is_above, common, before_nul}
-use Rattle.export_trie.specs.Lookup.{down, data_at, child_at, step, after, walk, lookup}
-use Rattle.export_trie.specs.Trie.{names, export_at, answer, IsNode, AreNodes, is_child, children, data_of, child_bytes, node_bytes, starts, Agrees, IsTrie}
+use Rattle.export_trie.specs.Strings.{begins, is_above, before_nul}
+use Rattle.export_trie.specs.Lookup.{data_at, child_at, step, walk, lookup}
+use Rattle.export_trie.specs.Trie.{names, export_at, answer, IsNode, AreNodes, is_child, children, data_of, child_bytes, node_bytes, starts, Agrees}
 use Rattle.export_trie.proofs.Walks.{begins_split, walk_more, walk_ends, child_found, child_more}
-use Rattle.export_trie.proofs.Strings.{In, in_from_Contains, Contains_from_in, all_in, all_from_in, in_map, from_map, in_filter, from_filter, find_some, find_none, any_true, any_from_in, begins_self, begins_append, begins_trans, begins_short, begins_edge, begins_parts, above_parts, above_from, common_self, common_left, Below, below_irrefl, below_asym, above_below, Rising, rising_from_sorted}
+use Rattle.export_trie.proofs.Strings.{In, in_from_Contains, Contains_from_in, all_in, all_from_in, in_map, from_map, in_filter, from_filter, find_some, find_none, any_true, begins_self, begins_append, begins_trans, begins_short, begins_edge, begins_parts, above_parts, above_from, common_self, common_left, Below, below_irrefl, below_asym, above_below, Rising, rising_from_sorted}
 
 -- ---- edges hold no NUL
 
@@ -241,7 +239,7 @@ stands exports nodes place bytes node s h =
       rest = here.rest ++ s.tail;
       from = here.from;
       read = ap (drop (place node - 0)) s.spelled
-        ∙ drop_before (place node - 0) (flat_map (node_bytes exports nodes place) nodes) s.tail (node_bytes exports nodes place node) here.rest (length-node_bytes_pos exports nodes place node) here.read;
+          ∙ drop_before (place node - 0) (flat_map (node_bytes exports nodes place) nodes) s.tail (node_bytes exports nodes place node) here.rest (length-node_bytes_pos exports nodes place node) here.read;
     }
 
 place_within : (exports : List ExportAddress) (nodes : List (List ℕ)) (place : List ℕ → ℕ) (bytes : List ℕ) (node : List ℕ) → IsSpelled exports nodes place bytes → In node nodes → place node < length bytes

@@ -1,16 +1,16 @@
 -- The nodes that the code builds, from the last name to the first.
-use Rattle.std.proofs.Common.{◌≡◌, ◌≢◌, ℕ, zero, suc, ◌+◌, ◌-◌, ◌<◌, ◌≤◌, ◌⊎◌, Bool, true, false, cond, ◌&&◌, eqb, ltb, List, [], ◌∷◌, ◌++◌, length, take, drop, map, reverse, get_or, refl, sym, ◌∙◌, ap, subst, inl, inr, arith, Contains, All, Some, slice_get, length-append, append_assoc, append-nil}
+use Rattle.std.proofs.Common.{◌≡◌, ℕ, zero, suc, ◌+◌, ◌-◌, ◌<◌, ◌≤◌, ◌⊎◌, true, false, List, [], ◌∷◌, ◌++◌, length, take, drop, reverse, get_or, refl, sym, ◌∙◌, ap, subst, inl, inr, arith, Contains, Some, slice_get, append_assoc, append-nil}
 use Rattle.std.specs.List.{AllByRecursion}
-use Rattle.std.proofs.lemmas.Bool.{cases_Bool, cases_order, cases_lt, lt-ltb, le-ltb, eq-eqb, ne_eqb, false≢true, true≢false}
-use Rattle.std.proofs.lemmas.List.{map-append, append_cancel_left, length-take-le, take_all, take_at, drop_more, drop_all}
+use Rattle.std.proofs.lemmas.Bool.{cases_order, cases_lt, lt-ltb, le-ltb, eq-eqb, ne_eqb, true≢false}
+use Rattle.std.proofs.lemmas.List.{map-append, append_cancel_left, length-take-le, take_at, drop_more, drop_all}
 use Rattle.std.proofs.lemmas.List.Elements.{All-from_recursion}
-use Rattle.export_trie.specs.Trie.{IsNode, AreNodes}
+use Rattle.export_trie.specs.Trie.{IsNode}
 use Rattle.export_trie.specs.declared.nodes.Node.{Node}
 use Rattle.export_trie.specs.Strings.{begins, common}
 use Rattle.export_trie.specs.Held.{text, texts, name_of, Fits, AreHeld, node_at, last_bytes, without_last, Closes, entered}
 use Rattle.export_trie.proofs.Walks.{begins_split}
-use Rattle.export_trie.proofs.Strings.{In, in_from_Contains, Contains_from_in, all_in, all_from_in, in_map, from_map, begins_self, begins_trans, begins_short, begins_shorter, common_self, common_left, common_right, Below, below_irrefl, below_trans, below_asym, above_below, Rising, sorted_from_rising}
-use Rattle.export_trie.proofs.Entering.{order_cases, begins_order, in_append_left, in_append_right, in_append_cases, rising_append, rising_left, rising_right, rising_cross, IsNodeIn, NodesIn, first_of, Cut, Enters, entered as entered_nodes, entered_begin, entered_apart}
+use Rattle.export_trie.proofs.Strings.{In, in_from_Contains, Contains_from_in, all_in, all_from_in, in_map, from_map, begins_self, begins_trans, begins_short, begins_shorter, common_self, common_left, common_right, Below, below_irrefl, below_asym, above_below, Rising, sorted_from_rising}
+use Rattle.export_trie.proofs.Entering.{begins_order, in_append_left, in_append_right, in_append_cases, rising_append, rising_left, rising_cross, IsNodeIn, NodesIn, first_of, Cut, Enters, entered as entered_nodes, entered_begin, entered_apart}
 
 -- ---- strings that begin one string
 

@@ -1,9 +1,8 @@
 -- How the nodes of some names become those of these names and one more, which stands before them.
-use Rattle.std.proofs.Common.{◌≡◌, ◌≢◌, ℕ, zero, suc, ◌+◌, ◌-◌, ◌<◌, ◌≤◌, ◌⊎◌, Bool, true, false, eqb, List, [], ◌∷◌, ◌++◌, length, get_or, refl, sym, ◌∙◌, ap, subst, inl, inr, arith}
-use Rattle.std.specs.List.{AllByRecursion}
-use Rattle.std.proofs.lemmas.Bool.{cases_Bool, cases_order, cases_lt, false_from_ne_true, eqb-true, eq-eqb, ne_eqb, false≢true, true≢false}
+use Rattle.std.proofs.Common.{◌≡◌, ℕ, suc, ◌<◌, ◌≤◌, ◌⊎◌, true, false, eqb, List, [], ◌∷◌, ◌++◌, length, refl, sym, ◌∙◌, ap, subst, inl, inr, arith}
+use Rattle.std.proofs.lemmas.Bool.{cases_Bool, cases_order, false_from_ne_true, eqb-true, eq-eqb, ne_eqb, false≢true, true≢false}
 use Rattle.export_trie.specs.Strings.{begins, common}
-use Rattle.export_trie.proofs.Strings.{In, all_in, all_from_in, begins_self, begins_trans, begins_short, begins_shorter, begins_parts, begins_from, common_self, common_left, common_right, Below, below_irrefl, below_trans, below_asym, above_below, between_begins, Rising}
+use Rattle.export_trie.proofs.Strings.{In, all_in, all_from_in, begins_self, begins_trans, begins_short, begins_shorter, begins_parts, common_self, common_left, common_right, Below, below_irrefl, below_trans, below_asym, between_begins, Rising}
 
 -- ---- byte order
 

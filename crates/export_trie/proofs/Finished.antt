@@ -1,13 +1,13 @@
 -- The bytes that the code writes are the trie of the exports.
-use Rattle.std.proofs.Common.{◌≡◌, ◌≢◌, ℕ, zero, suc, ◌+◌, ◌-◌, ◌%◌, ◌^◌, ◌<◌, ◌≤◌, ◌⊎◌, Bool, true, false, cond, eqb, List, [], ◌∷◌, ◌++◌, length, take, drop, map, get_or, replicate, refl, sym, ◌∙◌, ap, subst, inl, inr, arith, Option, Some, None, IfSome, Contains, All, Vec, Global, IsPermutation, slice_get, length-append, append_assoc}
-use Rattle.std.specs.List.{find, flat_map, AllByRecursion, AllPairs}
+use Rattle.std.proofs.Common.{◌≡◌, ◌≢◌, ℕ, zero, suc, ◌+◌, ◌-◌, ◌%◌, ◌^◌, ◌<◌, ◌≤◌, true, false, cond, eqb, List, [], ◌∷◌, ◌++◌, length, take, drop, map, get_or, replicate, refl, sym, ◌∙◌, ap, subst, inl, inr, arith, Option, Some, None, Contains, All, Vec, Global, IsPermutation, slice_get, length-append}
+use Rattle.std.specs.List.{flat_map, AllByRecursion, AllPairs}
 use Rattle.std.specs.List.Sorted.{IsSortedBy}
 use Rattle.std.specs.Ordering.{nat_cmp, is_lt}
 use Rattle.std.specs.Cmp.Lexicographic.{slice_cmp}
-use Rattle.std.specs.Option.{option_map, option_and_then}
+use Rattle.std.specs.Option.{option_map}
 use Rattle.std.specs.Str.{bytes_eq}
 use Rattle.std.specs.Borrow.{Bor}
-use Rattle.std.proofs.lemmas.Bool.{cases_Bool, cases_eq, eq-eqb, ne_eqb, eqb-true, true≢false, false≢true, false_from_ne_true}
+use Rattle.std.proofs.lemmas.Bool.{eq-eqb, ne_eqb, true≢false, false_from_ne_true}
 use Rattle.std.proofs.lemmas.List.{length-map, length-drop, length-take-le, get_or-map, ext_get_or, take_all, drop_more}
 use Rattle.std.proofs.lemmas.List.Elements.{All-contains}
 use Rattle.std.proofs.lemmas.List.Sorted.{IsPermutation-map, IsPermutation-sym, Contains-permutation}
@@ -19,12 +19,12 @@ use Rattle.export_trie.specs.Lookup.{lookup}
 use Rattle.export_trie.specs.Trie.{names, export_at, answer, IsNode, AreNodes, children, data_of, child_bytes, node_bytes, starts, Agrees, padded, IsTrie}
 use Rattle.export_trie.specs.Held.{AreBytes, held, held_names, rows_of, text, texts, name_of, Fits, AreHeld, at_places, HoldsChildren, node_at}
 use Rattle.export_trie.specs.Sizes.{IsBelow, AreBelow, AreLeast, export_held, IsSmall, child_len, children_len, node_len, node_lens, next_starts, held_child, row_bytes, held_node, held_bytes, sized}
-use Rattle.export_trie.proofs.Strings.{In, in_from_Contains, Contains_from_in, all_in, all_from_in, in_map, from_map, find_some, find_none, Below, below_irrefl, Rising, rising_from_sorted}
+use Rattle.export_trie.proofs.Strings.{In, in_from_Contains, Contains_from_in, all_in, in_map, from_map, find_some, find_none, Below, below_irrefl, Rising, rising_from_sorted}
 use Rattle.export_trie.proofs.Reading.{text_read, length-texts}
 use Rattle.export_trie.proofs.Building.{length-text}
 use Rattle.export_trie.proofs.Parents.{in_get, get_in}
 use Rattle.export_trie.proofs.Written.{order_rises, rows_below, few_kids}
-use Rattle.export_trie.proofs.Answers.{IsSpelled, answers}
+use Rattle.export_trie.proofs.Answers.{answers}
 
 -- ---- exports by their names
 
@@ -76,23 +76,23 @@ export_same exports nodes k d rise held within = by (export_at exports (take nod
     by None is (Some e) at =
         let here = get_in_list exports (get_or nodes k d).name e at in
         let away : eqb (length e.name) (get_or nodes k d).len ≡ false = ne_eqb _ _ (λ (whole : length e.name ≡ (get_or nodes k d).len).
-          let t : take (get_or nodes k d).len (name_of (names exports) (get_or nodes k d)) ≡ e.name =
-              ap (take (get_or nodes k d).len) here.1 ∙ take_all (get_or nodes k d).len e.name (omega arith) in
-          true≢false (sym ((bytes_eq-Decides e.name (take (get_or nodes k d).len (name_of (names exports) (get_or nodes k d)))).1 (sym t)) ∙ find_none (λ export. bytes_eq export.name (take (get_or nodes k d).len (name_of (names exports) (get_or nodes k d)))) exports e is here.0)) in
+        let t : take (get_or nodes k d).len (name_of (names exports) (get_or nodes k d)) ≡ e.name =
+        ap (take (get_or nodes k d).len) here.1 ∙ take_all (get_or nodes k d).len e.name (omega arith) in
+        true≢false (sym ((bytes_eq-Decides e.name (take (get_or nodes k d).len (name_of (names exports) (get_or nodes k d)))).1 (sym t)) ∙ find_none (λ export. bytes_eq export.name (take (get_or nodes k d).len (name_of (names exports) (get_or nodes k d)))) exports e is here.0)) in
         rw (at, away) refl
     by (Some e) is None at =
         let name = name_is exports _ e is in
         let held' : Contains (names exports) (take (get_or nodes k d).len (name_of (names exports) (get_or nodes k d))) =
-            Contains_from_in (names exports) _ (subst (λ (t : List ℕ). In t (names exports)) name.1 (in_map (λ (s : ExportAddress). s.name) exports e name.0)) in
+        Contains_from_in (names exports) _ (subst (λ (t : List ℕ). In t (names exports)) name.1 (in_map (λ (s : ExportAddress). s.name) exports e name.0)) in
         absurd (option_none (λ export. export.name) (slice_get exports (get_or nodes k d).name) _ at (sym (get_name exports (get_or nodes k d).name) ∙ held.whole k d within held'))
     by (Some e) is (Some other) at =
         let name = name_is exports _ e is in
         let held' : Contains (names exports) (take (get_or nodes k d).len (name_of (names exports) (get_or nodes k d))) =
-            Contains_from_in (names exports) _ (subst (λ (t : List ℕ). In t (names exports)) name.1 (in_map (λ (s : ExportAddress). s.name) exports e name.0)) in
+        Contains_from_in (names exports) _ (subst (λ (t : List ℕ). In t (names exports)) name.1 (in_map (λ (s : ExportAddress). s.name) exports e name.0)) in
         let whole = held.whole k d within held' in
         let here = get_in_list exports (get_or nodes k d).name other at in
         let other_name : other.name ≡ take (get_or nodes k d).len (name_of (names exports) (get_or nodes k d)) =
-            some_same _ _ (ap (option_map (λ export. export.name)) (sym at) ∙ (sym (get_name exports (get_or nodes k d).name) ∙ whole)) in
+        some_same _ _ (ap (option_map (λ export. export.name)) (sym at) ∙ (sym (get_name exports (get_or nodes k d).name) ∙ whole)) in
         let bytes : eqb (length other.name) (get_or nodes k d).len ≡ true = eq-eqb _ _ (ap length other_name ∙ long) in
         rw (at, bytes) (ap Some (same_export exports other e rise here.0 name.0 (other_name ∙ sym name.1)))
 
@@ -153,15 +153,15 @@ place_get (first ∷ nodes) [] k rise long within = absurd (omega arith)
 place_get (first ∷ nodes) (place ∷ places) zero rise long within = rw ((bytes_eq-Decides first first).1 refl) refl
 place_get (first ∷ nodes) (place ∷ places) (suc k) rise long within =
     let other : bytes_eq first (get_or nodes k []) ≡ false =
-        false_from_ne_true _ (λ (same : bytes_eq first (get_or nodes k []) ≡ true).
-          below_irrefl first (subst (Below first) (sym ((bytes_eq-Decides first (get_or nodes k [])).0 same)) (all_in (Below first) nodes (get_or nodes k []) rise.0 (in_get nodes k [] (omega arith))))) in
+    false_from_ne_true _ (λ (same : bytes_eq first (get_or nodes k []) ≡ true).
+    below_irrefl first (subst (Below first) (sym ((bytes_eq-Decides first (get_or nodes k [])).0 same)) (all_in (Below first) nodes (get_or nodes k []) rise.0 (in_get nodes k [] (omega arith))))) in
     rw other (place_get nodes places k rise.1 (omega arith) (omega arith))
 
 pub map_places : (nodes : List (List ℕ)) (places : List ℕ) → Rising nodes → length places ≡ length nodes → map (place_at nodes places) nodes ≡ places
 map_places nodes places rise long =
     ext_get_or 0 (map (place_at nodes places) nodes) places (length-map nodes (place_at nodes places) ∙ sym long)
     (λ k low. let within : k < length nodes = omega (arith, length-map nodes (place_at nodes places)) in
-      get_or-map (place_at nodes places) nodes k [] 0 within ∙ place_get nodes places k rise long within)
+    get_or-map (place_at nodes places) nodes k [] 0 within ∙ place_get nodes places k rise long within)
 
 -- ---- what is left of a list
 
@@ -222,9 +222,9 @@ module _ (exports order : List ExportAddress) (nodes : List Node) (rows : List (
   row_text places place node above [] same long within = refl
   row_text places place node above (child ∷ row) same long within =
       let edge : drop above (text strings (get_or nodes child (node_at 0 0))) ≡ drop (length node) (get_or ps child []) =
-          ap (λ (n : ℕ). drop n (text strings (get_or nodes child (node_at 0 0)))) (sym long) ∙ ap (drop (length node)) (node_text child within.0) in
+      ap (λ (n : ℕ). drop n (text strings (get_or nodes child (node_at 0 0)))) (sym long) ∙ ap (drop (length node)) (node_text child within.0) in
       let first : drop above (text strings (get_or nodes child (node_at 0 0))) ++ 0 ∷ uleb (get_or places child 0) ≡ drop (length node) (get_or ps child []) ++ 0 ∷ uleb (place (get_or ps child [])) =
-          rw (edge, same child within.0) refl in
+      rw (edge, same child within.0) refl in
       ap (λ (bs : List ℕ). bs ++ row_bytes strings nodes places above row) first
       ∙ ap (λ (bs : List ℕ). (drop (length node) (get_or ps child []) ++ 0 ∷ uleb (place (get_or ps child []))) ++ bs) (row_text places place node above row same long within.1)
 
@@ -233,7 +233,7 @@ module _ (exports order : List ExportAddress) (nodes : List Node) (rows : List (
   row_size places above [] below = refl
   row_size places above (child ∷ row) below =
       let first : length (drop above (text strings (get_or nodes child (node_at 0 0))) ++ 0 ∷ uleb (get_or places child 0)) ≡ (get_or nodes child (node_at 0 0)).len - above + (1 + length (uleb (get_or places child 0))) =
-          omega (arith, length-append (drop above (text strings (get_or nodes child (node_at 0 0)))) (0 ∷ uleb (get_or places child 0)), length-drop above (text strings (get_or nodes child (node_at 0 0))), length-text strings (get_or nodes child (node_at 0 0)) (node_fits child below.0.0)) in
+      omega (arith, length-append (drop above (text strings (get_or nodes child (node_at 0 0)))) (0 ∷ uleb (get_or places child 0)), length-drop above (text strings (get_or nodes child (node_at 0 0))), length-text strings (get_or nodes child (node_at 0 0)) (node_fits child below.0.0)) in
       length-append (drop above (text strings (get_or nodes child (node_at 0 0))) ++ 0 ∷ uleb (get_or places child 0)) (row_bytes strings nodes places above row)
       ∙ omega (arith, first, row_size places above row below.1)
 
@@ -247,13 +247,13 @@ module _ (exports order : List ExportAddress) (nodes : List Node) (rows : List (
   node_is places place k same within =
       let inside : k < length ps = omega (arith, ps_long) in
       let export : export_held order (get_or nodes k (node_at 0 0)) ≡ export_at exports (get_or ps k []) =
-          export_same order nodes k (node_at 0 0) tree.rise tree.held within ∙ (export_permuted exports order _ tree.rise tree.moves ∙ ap (export_at exports) (node_text k within)) in
+      export_same order nodes k (node_at 0 0) tree.rise tree.held within ∙ (export_permuted exports order _ tree.rise tree.moves ∙ ap (export_at exports) (node_text k within)) in
       let long : length (get_or ps k []) ≡ (get_or nodes k (node_at 0 0)).len = ap length (sym (node_text k within)) ∙ length-text strings (get_or nodes k (node_at 0 0)) (node_fits k within) in
       let row : at_places ps (get_or rows k []) ≡ children ps (get_or ps k []) = tree.holds.each k inside in
       let count : length (get_or rows k []) ≡ length (children ps (get_or ps k [])) = sym (length-map (get_or rows k []) (λ (place : ℕ). get_or ps place [])) ∙ ap length row in
       let within' : AllByRecursion (λ child. child < length nodes) (get_or rows k []) = subst (λ (n : ℕ). AllByRecursion (λ child. child < n) (get_or rows k [])) ps_long (tree.holds.within k inside) in
       let kids : row_bytes strings nodes places (get_or nodes k (node_at 0 0)).len (get_or rows k []) ≡ flat_map (child_bytes place (get_or ps k [])) (children ps (get_or ps k [])) =
-          row_text places place (get_or ps k []) (get_or nodes k (node_at 0 0)).len (get_or rows k []) same long within' ∙ ap (flat_map (child_bytes place (get_or ps k []))) row in
+      row_text places place (get_or ps k []) (get_or nodes k (node_at 0 0)).len (get_or rows k []) same long within' ∙ ap (flat_map (child_bytes place (get_or ps k []))) row in
       rw (export, count, kids) refl
 
   -- ---- all nodes
@@ -268,7 +268,7 @@ module _ (exports order : List ExportAddress) (nodes : List Node) (rows : List (
       let here : node ≡ get_or nodes from (node_at 0 0) = drop_head nodes from node (node_at 0 0) rest (sym n) in
       let row' : row ≡ get_or rows from [] = drop_head rows from row [] row_list (sym r) in
       let size : node_len order nodes places node row ≡ length (node_bytes exports ps place (text strings node)) =
-          rw (here, row') (sym (node_size places (get_or nodes from (node_at 0 0)) (get_or rows from []) (tree.below from within)) ∙ (ap length (node_is places place from same within) ∙ ap (λ (t : List ℕ). length (node_bytes exports ps place t)) (sym (node_text from within)))) in
+      rw (here, row') (sym (node_size places (get_or nodes from (node_at 0 0)) (get_or rows from []) (tree.below from within)) ∙ (ap length (node_is places place from same within) ∙ ap (λ (t : List ℕ). length (node_bytes exports ps place t)) (sym (node_text from within)))) in
       let later = sizes_are places place rest row_list (from + 1) same (drop_tail nodes from node rest (sym n)) (drop_tail rows from row row_list (sym r)) (omega arith) in
       rw (size, later) refl
 
@@ -281,7 +281,7 @@ module _ (exports order : List ExportAddress) (nodes : List Node) (rows : List (
       let here : node ≡ get_or nodes from (node_at 0 0) = drop_head nodes from node (node_at 0 0) rest (sym n) in
       let row' : row ≡ get_or rows from [] = drop_head rows from row [] row_list (sym r) in
       let bytes : held_node order nodes places node row ≡ node_bytes exports ps place (text strings node) =
-          rw (here, row') (node_is places place from same within ∙ ap (node_bytes exports ps place) (sym (node_text from within))) in
+      rw (here, row') (node_is places place from same within ∙ ap (node_bytes exports ps place) (sym (node_text from within))) in
       let later = bytes_are places place rest row_list (from + 1) same (drop_tail nodes from node rest (sym n)) (drop_tail rows from row row_list (sym r)) (omega arith) in
       rw (bytes, later) refl
 
@@ -339,8 +339,8 @@ module _ (exports order : List ExportAddress) (nodes : List Node) (rows : List (
           let at = get_in ps node [] h in
           let within : at.0 < length nodes = omega (arith, at.1, ps_long) in
           let same : export_held order (get_or nodes at.0 (node_at 0 0)) ≡ Some export =
-              export_same order nodes at.0 (node_at 0 0) tree.rise tree.held within
-              ∙ (export_permuted exports order _ tree.rise tree.moves ∙ (ap (export_at exports) (node_text at.0 within ∙ at.2) ∙ is)) in
+          export_same order nodes at.0 (node_at 0 0) tree.rise tree.held within
+          ∙ (export_permuted exports order _ tree.rise tree.moves ∙ (ap (export_at exports) (node_text at.0 within ∙ at.2) ∙ is)) in
           subst IsSmall same (small at.0 (node_at 0 0) within)
 
 pub is_tree : (exports order : List ExportAddress) (nodes : List Node) (rows : List (List ℕ)) → AllPairs (λ (a : ExportAddress) (b : ExportAddress). a.name ≢ b.name) exports → IsPermutation exports order → IsSortedBy (λ (a : ExportAddress) (b : ExportAddress). is_lt (slice_cmp nat_cmp a.name b.name)) order → AreHeld (names order) nodes → HoldsChildren (texts (names order) nodes) rows → IsTree exports order nodes rows
@@ -357,7 +357,7 @@ pub rows_few : (exports order : List ExportAddress) (nodes : List Node) (rows : 
 rows_few exports order nodes rows k tree clean bytes within =
     let inside : k < length (texts (names order) nodes) = omega (arith, tree.holds.long) in
     let count : length (get_or rows k []) ≡ length (children (texts (names order) nodes) (get_or (texts (names order) nodes) k [])) =
-        sym (length-map (get_or rows k []) (λ (place : ℕ). get_or (texts (names order) nodes) place [])) ∙ ap length (tree.holds.each k inside) in
+    sym (length-map (get_or rows k []) (λ (place : ℕ). get_or (texts (names order) nodes) place [])) ∙ ap length (tree.holds.each k inside) in
     let few = few_kids (names order) (texts (names order) nodes) tree.held.all (get_or (texts (names order) nodes) k []) (λ name h. (no_nul name h, All-contains AreBytes (names order) name bytes h)) in
     omega arith
   where

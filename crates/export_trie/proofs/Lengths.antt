@@ -1,15 +1,15 @@
 -- The sizes of nodes, and the least places that agree with them.
-use Rattle.std.proofs.Common.{◌≡◌, ◌≢◌, ℕ, zero, suc, ◌+◌, ◌-◌, ◌*◌, ◌^◌, ◌<◌, ◌≤◌, ◌⊎◌, Bool, true, false, List, [], ◌∷◌, ◌++◌, length, take, drop, map, get_or, replicate, refl, sym, ◌∙◌, ap, subst, inl, inr, arith, Option, Some, None, append_assoc, append-nil, All}
+use Rattle.std.proofs.Common.{◌≡◌, ℕ, zero, suc, ◌+◌, ◌-◌, ◌*◌, ◌^◌, ◌<◌, ◌≤◌, List, [], ◌∷◌, ◌++◌, length, drop, get_or, replicate, refl, sym, ◌∙◌, ap, subst, inl, inr, arith, append_assoc, append-nil, All}
 use Rattle.std.specs.List.{AllByRecursion}
-use Rattle.std.proofs.lemmas.Bool.{cases_lt, cases_order}
+use Rattle.std.proofs.lemmas.Bool.{cases_order}
 use Rattle.std.proofs.lemmas.List.{drop_more, drop_all}
 use Rattle.mo_bytes.specs.Uleb.{uleb}
 use Rattle.mo_bytes.proofs.Ulebs.{length-uleb_mono}
 use Rattle.export_trie.specs.declared.export.ExportAddress.{ExportAddress}
 use Rattle.export_trie.specs.declared.nodes.Node.{Node}
-use Rattle.export_trie.specs.Trie.{data_of, starts}
+use Rattle.export_trie.specs.Trie.{starts}
 use Rattle.export_trie.specs.Held.{node_at, text}
-use Rattle.export_trie.specs.Sizes.{export_held, child_len, children_len, node_len, node_lens, next_starts, IsBelow, AreBelow, AreLeast, held_child, row_bytes, held_node, held_bytes}
+use Rattle.export_trie.specs.Sizes.{child_len, children_len, node_len, node_lens, next_starts, held_child, row_bytes, held_node, held_bytes}
 
 -- ---- the loops
 
@@ -164,7 +164,7 @@ unfolding row_bytes held_child
 row_more strings nodes places above row i old whole new edge within e edge' new' =
     let here : drop i row ≡ get_or row i 0 ∷ drop (i + 1) row = drop_more row i 0 within in
     let split : row_bytes strings nodes places above (drop i row) ≡ (drop above (text strings (get_or nodes (get_or row i 0) (node_at 0 0))) ++ 0 ∷ uleb (get_or places (get_or row i 0) 0)) ++ row_bytes strings nodes places above (drop (i + 1) row) =
-        ap (row_bytes strings nodes places above) here in
+    ap (row_bytes strings nodes places above) here in
     rw (new', edge') (append_assoc old _ _ ∙ (ap (λ (bs : List ℕ). old ++ bs) (sym split) ∙ e))
 
 pub row_all : (strings : List (List ℕ)) (nodes : List Node) (places : List ℕ) (above : ℕ) (row : List ℕ) (i : ℕ) (old whole : List ℕ) → length row ≤ i → old ++ row_bytes strings nodes places above (drop i row) ≡ whole → old ≡ whole

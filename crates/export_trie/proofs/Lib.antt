@@ -8,3 +8,4 @@ pub mod Parents
 pub mod Lengths
 pub mod Written
 pub mod Finished
+pub mod Unique

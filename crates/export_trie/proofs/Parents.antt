@@ -1,15 +1,14 @@
 -- Parents and children among strings in order.
-use Rattle.std.proofs.Common.{◌≡◌, ◌≢◌, ℕ, zero, suc, ◌+◌, ◌-◌, ◌<◌, ◌≤◌, ◌⊎◌, Bool, true, false, not, cond, ◌&&◌, List, [], ◌∷◌, ◌++◌, length, take, drop, map, set, get_or, replicate, refl, sym, ◌∙◌, ap, subst, inl, inr, arith, append-nil}
+use Rattle.std.proofs.Common.{◌≡◌, ◌≢◌, ℕ, zero, suc, ◌+◌, ◌<◌, ◌≤◌, ◌⊎◌, Bool, true, false, not, cond, ◌&&◌, List, [], ◌∷◌, ◌++◌, length, take, set, get_or, replicate, refl, sym, ◌∙◌, ap, subst, inl, inr, arith, append-nil}
 use Rattle.std.specs.List.{filter, list_any, AllByRecursion}
-use Rattle.std.proofs.lemmas.Bool.{cases_Bool, cases_order, cases_lt, cases_eq, and_from, and_left, and_parts, not-true, false_from_ne_true, true≢false, false≢true}
-use Rattle.std.proofs.lemmas.List.{take_all, take_more, get_or-set_same, get_or-set_other, length-set, map_push, get_or-replicate, length-replicate}
+use Rattle.std.proofs.lemmas.Bool.{cases_Bool, cases_order, cases_eq, and_from, and_left, and_parts, not-true, false_from_ne_true, true≢false}
+use Rattle.std.proofs.lemmas.List.{take_all, get_or-set_same, get_or-set_other, length-set, map_push, get_or-replicate, length-replicate}
 use Rattle.std.proofs.lemmas.List.Elements.{filter_more}
 use Rattle.export_trie.specs.Strings.{begins, is_above}
 use Rattle.export_trie.specs.Trie.{is_child, children}
 use Rattle.export_trie.specs.Held.{IsParent, at_places, HoldsChildren}
 use Rattle.export_trie.proofs.Strings.{In, all_in, any_true, any_from_in, begins_self, begins_shorter, above_parts, above_from, Below, below_irrefl, below_asym, above_below, between_begins, Rising}
-use Rattle.export_trie.proofs.Entering.{begins_order}
-use Rattle.export_trie.proofs.Building.{same_front, shorter_front, all_append}
+use Rattle.export_trie.proofs.Building.{shorter_front, all_append}
 
 -- ---- places
 

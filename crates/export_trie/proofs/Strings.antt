@@ -1,14 +1,13 @@
 -- Members of a list, and how strings begin one another.
-use Rattle.std.proofs.Common.{◌≡◌, ◌≢◌, ℕ, zero, suc, ◌+◌, ◌-◌, ◌<◌, ◌≤◌, ◌⊎◌, Bool, true, false, not, cond, ◌&&◌, eqb, ltb, List, [], ◌∷◌, ◌++◌, length, take, drop, get_or, refl, sym, ◌∙◌, ap, subst, inl, inr, arith, Option, Some, None, map, Contains, IfSome, IfNone, length-append}
+use Rattle.std.proofs.Common.{◌≡◌, ℕ, zero, suc, ◌<◌, ◌≤◌, ◌⊎◌, Bool, true, false, eqb, ltb, List, [], ◌∷◌, ◌++◌, length, drop, get_or, refl, sym, ◌∙◌, ap, subst, inl, inr, arith, Some, None, map, Contains}
 use Rattle.std.specs.List.{filter, find, list_any, AllByRecursion}
 use Rattle.std.specs.List.Sorted.{IsStrictlySortedBy}
 use Rattle.std.specs.Ordering.{nat_cmp, ordering_then}
 use Rattle.std.specs.Cmp.Lexicographic.{slice_cmp}
 use Rattle.std.specs.declared.cmp.Ordering.{Ordering}
 use Rattle.std.specs.declared.cmp.Ordering.TheVariants.{Less, Equal, Greater}
-use Rattle.std.proofs.lemmas.Bool.{cases_order, ne_eqb, cases_Bool, cases_eq, and_parts, and_from, or_cases, or_parts, lt-ltb, ltb-true, le-ltb, eqb-true, eq-eqb, eqb-false, not-true, false≢true, true≢false}
-use Rattle.export_trie.specs.Strings.{begins, is_above, common, before_nul}
-use Rattle.export_trie.proofs.Walks.{begins_split}
+use Rattle.std.proofs.lemmas.Bool.{cases_order, ne_eqb, cases_Bool, and_parts, and_from, lt-ltb, ltb-true, le-ltb, eqb-true, eq-eqb, false≢true}
+use Rattle.export_trie.specs.Strings.{begins, is_above, common}
 
 -- ---- members
 

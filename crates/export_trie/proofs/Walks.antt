@@ -1,13 +1,11 @@
 -- How the code's reading of a trie meets the definitions.
-use Rattle.std.proofs.Common.{◌≡◌, ℕ, zero, suc, ◌+◌, ◌-◌, ◌<◌, ◌≤◌, Bool, true, false, cond, ◌&&◌, eqb, List, [], ◌∷◌, ◌++◌, length, take, drop, get_or, refl, sym, ◌∙◌, ap, subst, inl, inr, arith, Option, Some, None, nat_eq}
-use Rattle.std.specs.Option.{option_map}
+use Rattle.std.proofs.Common.{◌≡◌, ℕ, zero, suc, ◌+◌, Bool, true, false, ◌&&◌, eqb, List, [], ◌∷◌, ◌++◌, length, take, drop, refl, ap, arith, Some, None, nat_eq}
 use Rattle.std.specs.List.{starts_with}
-use Rattle.std.proofs.lemmas.Bool.{cases_Bool, false_from_ne_true, and_parts, eqb-true, false≢true}
+use Rattle.std.proofs.lemmas.Bool.{false_from_ne_true, and_parts, eqb-true, false≢true}
 use Rattle.memchr.specs.Find.{IsFirstByte, is_byte}
 use Rattle.mo_bytes.specs.Uleb.{uleb_at}
 use Rattle.export_trie.specs.declared.lookup.Found.{Found}
-use Rattle.export_trie.specs.declared.lookup.Found.TheVariants.{At, Absent, Broken}
-use Rattle.export_trie.specs.declared.lookup.Step.{Step}
+use Rattle.export_trie.specs.declared.lookup.Found.TheVariants.{Absent, Broken}
 use Rattle.export_trie.specs.declared.lookup.Step.TheVariants.{Ends, Goes}
 use Rattle.export_trie.specs.Lookup.{down, child_at, step, walk}
 use Rattle.export_trie.specs.Strings.{before_nul, begins}

@@ -1,27 +1,25 @@
 -- What the code has written is the trie of the exports.
-use Rattle.std.proofs.Common.{◌≡◌, ◌≢◌, ℕ, zero, suc, ◌+◌, ◌-◌, ◌*◌, ◌^◌, ◌<◌, ◌≤◌, ◌⊎◌, Bool, true, false, not, cond, ◌&&◌, List, [], ◌∷◌, ◌++◌, length, take, drop, map, get_or, set, replicate, refl, sym, ◌∙◌, ap, subst, inl, inr, arith, Option, Some, None, Contains, All, IsPermutation, slice_get, length-append, append_assoc}
-use Rattle.std.specs.List.{filter, find, list_any, flat_map, AllByRecursion, AllPairs}
+use Rattle.std.proofs.Common.{◌≡◌, ◌≢◌, ℕ, zero, suc, ◌+◌, ◌<◌, ◌≤◌, ◌⊎◌, Bool, true, false, ◌&&◌, List, [], ◌∷◌, length, get_or, refl, sym, ◌∙◌, ap, subst, inl, inr, arith, Contains, IsPermutation}
+use Rattle.std.specs.List.{filter, list_any, AllByRecursion, AllPairs}
 use Rattle.std.specs.List.Sorted.{IsSortedBy, IsStrictlySortedBy}
 use Rattle.std.specs.Ordering.{nat_cmp, is_lt}
 use Rattle.std.specs.Cmp.Lexicographic.{slice_cmp}
-use Rattle.std.specs.Str.{bytes_eq}
 use Rattle.std.specs.List as lists
 use Rattle.std.proofs.lemmas.Bool.{cases_Bool, cases_order, cases_lt, cases_eq, and_parts, and_from, not-true, false_from_ne_true, eq-eqb, ne_eqb, true≢false, false≢true}
-use Rattle.std.proofs.lemmas.List.{length-map, get_or-map, get_or-take, ext_get_or, get_or_default}
+use Rattle.std.proofs.lemmas.List.{length-map, get_or-take}
 use Rattle.std.proofs.lemmas.List.Edits.{Swapped, swapped_from_swap, length-swap}
-use Rattle.std.proofs.lemmas.List.Sorted.{IsPermutation-map, IsPermutation-sym, IsPermutation-keeps, Contains-permutation, length_permutation}
-use Rattle.std.proofs.lemmas.Slice.Eq.{bytes_eq-Decides}
+use Rattle.std.proofs.lemmas.List.Sorted.{IsPermutation-keeps}
 use Rattle.export_trie.specs.declared.export.ExportAddress.{ExportAddress}
 use Rattle.export_trie.specs.declared.nodes.Node.{Node}
 use Rattle.export_trie.specs.Strings.{begins, is_above, common}
-use Rattle.export_trie.specs.Trie.{names, export_at, IsNode, AreNodes, is_child, children, data_of, child_bytes, node_bytes, starts, Agrees, padded, IsTrie}
-use Rattle.export_trie.specs.Sizes.{IsBelow, AreBelow, AreLeast, export_held, IsSmall, child_len, children_len, node_len, node_lens, next_starts, held_child, row_bytes, held_node, held_bytes, sized}
-use Rattle.export_trie.specs.Held.{AreBytes, text, texts, name_of, Fits, AreHeld, at_places, HoldsChildren, node_at}
-use Rattle.export_trie.proofs.Strings.{In, in_from_Contains, Contains_from_in, all_in, all_from_in, in_map, from_map, from_filter, find_some, find_none, Below, below_irrefl, below_trans, above_parts, above_from, any_from_in, begins_parts, begins_self, begins_short, begins_shorter, common_left, common_right, cmp_from_below, Rising, rising_from_sorted, sorted_from_rising}
+use Rattle.export_trie.specs.Trie.{names, IsNode, AreNodes, is_child, children}
+use Rattle.export_trie.specs.Sizes.{IsBelow, AreBelow}
+use Rattle.export_trie.specs.Held.{AreBytes, texts, AreHeld, at_places, HoldsChildren, node_at}
+use Rattle.export_trie.proofs.Strings.{In, in_from_Contains, Contains_from_in, all_in, all_from_in, in_map, from_filter, Below, below_trans, above_parts, above_from, any_from_in, begins_parts, begins_self, begins_short, begins_shorter, common_left, common_right, cmp_from_below, Rising, rising_from_sorted, sorted_from_rising}
 use Rattle.export_trie.proofs.Entering.{order_cases, not_begun}
 use Rattle.export_trie.proofs.Reading.{text_read, length-texts}
 use Rattle.export_trie.proofs.Building.{same_front, shorter_front, length-text, front_take}
-use Rattle.export_trie.proofs.Parents.{in_get, get_in}
+use Rattle.export_trie.proofs.Parents.{in_get}
 
 -- ---- the order of the exports
 
@@ -69,8 +67,8 @@ distinct_swap exports a b p q apart = λ i j d low high same.
     let first = moved exports a b d i p q (omega arith) in
     let second = moved exports a b d j p q (omega arith) in
     let froms : first.from ≡ second.from =
-        apart first.from second.from d first.within second.within
-        (ap (λ (e : ExportAddress). e.name) (sym first.same) ∙ (same ∙ ap (λ (e : ExportAddress). e.name) second.same)) in
+    apart first.from second.from d first.within second.within
+    (ap (λ (e : ExportAddress). e.name) (sym first.same) ∙ (same ∙ ap (λ (e : ExportAddress). e.name) second.same)) in
     one_to_one a b i j first.from second.from froms first.place second.place
 
 distinct_permuted : (exports order : List ExportAddress) → Distinct exports → IsPermutation exports order → Distinct order
@@ -118,7 +116,7 @@ order_rises exports (first ∷ order) apart moves sorted =
         by (inr (inr more)) =
             let less : is_lt (slice_cmp nat_cmp (get_or (names (first ∷ order)) (k + 1) []) (get_or (names (first ∷ order)) k [])) ≡ true = ap is_lt (cmp_from_below _ _ more) in
             let least : is_lt (slice_cmp nat_cmp (get_or (names (first ∷ order)) (k + 1) []) (get_or (names (first ∷ order)) k [])) ≡ false =
-                rw (here, next) (sorted k first (omega arith) within) in
+            rw (here, next) (sorted k first (omega arith) within) in
             absurd (true≢false (sym less ∙ least))
 
 -- ---- what holds of the rows
@@ -133,15 +131,15 @@ rows_below strings nodes rows held holds = λ place low.
     let within : place < length (texts strings nodes) = omega (arith, length-texts strings nodes) in
     let long : length (texts strings nodes) ≡ length nodes = length-texts strings nodes in
     all_from_in (IsBelow nodes (get_or nodes place (node_at 0 0)).len) (get_or rows place []) (λ child h.
-      let inside : child < length (texts strings nodes) = all_in (λ (c : ℕ). c < length (texts strings nodes)) (get_or rows place []) child (holds.within place within) h in
-      let kid : In (get_or (texts strings nodes) child []) (at_places (texts strings nodes) (get_or rows place [])) = in_map (λ (c : ℕ). get_or (texts strings nodes) c []) (get_or rows place []) child h in
-      let found = from_filter (is_child (texts strings nodes) (get_or (texts strings nodes) place [])) (texts strings nodes) _ (subst (In (get_or (texts strings nodes) child [])) (holds.each place within) kid) in
-      let parts = above_parts (get_or (texts strings nodes) place []) (get_or (texts strings nodes) child []) (and_parts _ _ found.1).0 in
-      let upper : length (get_or (texts strings nodes) place []) ≡ (get_or nodes place (node_at 0 0)).len =
-          ap length (text_read strings nodes place (node_at 0 0) low) ∙ length-text strings (get_or nodes place (node_at 0 0)) (held.fits place (node_at 0 0) low) in
-      let lower : length (get_or (texts strings nodes) child []) ≡ (get_or nodes child (node_at 0 0)).len =
-          ap length (text_read strings nodes child (node_at 0 0) (omega arith)) ∙ length-text strings (get_or nodes child (node_at 0 0)) (held.fits child (node_at 0 0) (omega arith)) in
-      (omega arith, omega arith))
+    let inside : child < length (texts strings nodes) = all_in (λ (c : ℕ). c < length (texts strings nodes)) (get_or rows place []) child (holds.within place within) h in
+    let kid : In (get_or (texts strings nodes) child []) (at_places (texts strings nodes) (get_or rows place [])) = in_map (λ (c : ℕ). get_or (texts strings nodes) c []) (get_or rows place []) child h in
+    let found = from_filter (is_child (texts strings nodes) (get_or (texts strings nodes) place [])) (texts strings nodes) _ (subst (In (get_or (texts strings nodes) child [])) (holds.each place within) kid) in
+    let parts = above_parts (get_or (texts strings nodes) place []) (get_or (texts strings nodes) child []) (and_parts _ _ found.1).0 in
+    let upper : length (get_or (texts strings nodes) place []) ≡ (get_or nodes place (node_at 0 0)).len =
+    ap length (text_read strings nodes place (node_at 0 0) low) ∙ length-text strings (get_or nodes place (node_at 0 0)) (held.fits place (node_at 0 0) low) in
+    let lower : length (get_or (texts strings nodes) child []) ≡ (get_or nodes child (node_at 0 0)).len =
+    ap length (text_read strings nodes child (node_at 0 0) (omega arith)) ∙ length-text strings (get_or nodes child (node_at 0 0)) (held.fits child (node_at 0 0) (omega arith)) in
+    (omega arith, omega arith))
 
 -- R holds of each element and each later one
 abbrev AllByPairs : {X : Type 0} → (X → X → Type 0) → List X → Type 0
@@ -156,7 +154,7 @@ few_rising f [] low high le each rise = omega arith
 few_rising f (x ∷ xs) low high le each rise =
     let first = each x (inl refl) in
     let rest : length xs + (f x + 1) ≤ high =
-        few_rising f xs (f x + 1) high (omega (arith, first.1)) (λ y h. (omega (arith, all_in (λ z. f x < f z) xs y rise.0 h), (each y (inr h)).1)) rise.1 in
+    few_rising f xs (f x + 1) high (omega (arith, first.1)) (λ y h. (omega (arith, all_in (λ z. f x < f z) xs y rise.0 h), (each y (inr h)).1)) rise.1 in
     omega (arith, first.0)
 
 pairs_from : {X : Type 0} (R S : X → X → Type 0) (xs : List X) → ((x y : X) → In x xs → In y xs → R x y → S x y) → AllByPairs R xs → AllByPairs S xs
@@ -262,20 +260,20 @@ module _ (strings nodes : List (List ℕ)) (all : AreNodes strings nodes) (node 
       by (inl rises) = rises
       by (inr more) =
           let short : length (common a b) < length b =
-              elim (cases_lt (length (common a b)) (length b)) [
-                | inl below ↦ below
-                | inr long ↦ absurd (true≢false (sym (subst (λ (t : List ℕ). begins t a ≡ true) (same_front (common a b) b b (common_right a b) (begins_self b) (omega (arith, begins_short (common a b) b (common_right a b)))) (common_left a b)) ∙ not_begun a b less))
-              ] in
+          elim (cases_lt (length (common a b)) (length b)) [
+            | inl below ↦ below
+            | inr long ↦ absurd (true≢false (sym (subst (λ (t : List ℕ). begins t a ≡ true) (same_front (common a b) b b (common_right a b) (begins_self b) (omega (arith, begins_short (common a b) b (common_right a b)))) (common_left a b)) ∙ not_begun a b less))
+          ] in
           absurd (between_none b (common a b) i shared
-            (above_from node (common a b) (begins_shorter node (common a b) a p.1 (common_left a b) (omega arith)) more)
-            (above_from (common a b) b (common_right a b) short))
+          (above_from node (common a b) (begins_shorter node (common a b) a p.1 (common_left a b) (omega arith)) more)
+          (above_from (common a b) b (common_right a b) short))
 
   pub few_kids : ((name : List ℕ) → Contains strings name → (In 0 name → ⊥) × AreBytes name) → length (children nodes node) < 256
   unfolding children
   few_kids clean =
       let bound : length (children nodes node) + 1 ≤ 256 =
-          few_rising (next_byte node) (children nodes node) 1 256 (omega arith) (λ kid h. range kid h)
-          (pairs_from Below (λ a b. next_byte node a < next_byte node b) (children nodes node) next_rises (pairs_of_rising (children nodes node) rises)) in
+      few_rising (next_byte node) (children nodes node) 1 256 (omega arith) (λ kid h. range kid h)
+      (pairs_from Below (λ a b. next_byte node a < next_byte node b) (children nodes node) next_rises (pairs_of_rising (children nodes node) rises)) in
       omega arith
     where
       rises : Rising (children nodes node)
@@ -287,7 +285,7 @@ module _ (strings nodes : List (List ℕ)) (all : AreNodes strings nodes) (node 
           let name = begun_by kid (omega (arith, parts.2)) parts.0 in
           let good = clean name.0 name.1 in
           let byte : get_or kid (length node) 0 ≡ get_or name.0 (length node) 0 =
-              ap (λ (t : List ℕ). get_or t (length node) 0) (sym (front_take kid name.0 name.2)) ∙ get_or-take (length kid) name.0 (length node) 0 parts.2 in
+          ap (λ (t : List ℕ). get_or t (length node) 0) (sym (front_take kid name.0 name.2)) ∙ get_or-take (length kid) name.0 (length node) 0 parts.2 in
           let within : length node < length name.0 = omega (arith, parts.2, begins_short kid name.0 name.2) in
           let held : In (get_or name.0 (length node) 0) name.0 = in_get name.0 (length node) 0 within in
           let some : (get_or name.0 (length node) 0 ≡ 0) → ⊥ = λ nul. good.0 (subst (λ (n : ℕ). In n name.0) nul held) in

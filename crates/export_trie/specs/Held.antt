@@ -1,8 +1,7 @@
 -- How the code holds the exports and the nodes of a trie.
-use Rattle.std.specs.Prelude.{ℕ, ◌≡◌, ◌-◌, ◌<◌, ◌≤◌, ◌==◌, ◌&&◌, nat_lt, if◌then◌else◌, List, [], ◌∷◌, ◌++◌, length, take, map, reverse, Contains, All, slice_index_or, Bool, true, Option, Some, None, slice_get, Vec}
+use Rattle.std.specs.Prelude.{ℕ, ◌≡◌, ◌-◌, ◌<◌, ◌≤◌, ◌==◌, ◌&&◌, nat_lt, if◌then◌else◌, List, [], ◌∷◌, ◌++◌, length, take, map, Contains, All, slice_index_or, true, Some, slice_get, Vec}
 use Rattle.std.specs.Global.{Global}
 use Rattle.std.specs.List.{AllByRecursion}
-use Rattle.std.specs.Option.{option_and_then}
 use Rattle.std.specs.Borrow.{Bor}
 use Rattle.export_trie.specs.declared.export.ExportAddress.{ExportAddress}
 use Rattle.export_trie.specs.declared.nodes.Node.{Node}

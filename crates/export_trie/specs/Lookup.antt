@@ -1,7 +1,7 @@
 -- The walk through an export trie (`loader.h`: LC_DYLD_EXPORTS_TRIE). A node is the uleb128 size of its data,
 -- the data, a byte that counts its children, and for each child the bytes of an edge, a NUL, and the uleb128
 -- place of the child's node. The data, where there is any, begins with two uleb128 numbers, the flags and the address.
-use Rattle.std.specs.Prelude.{ℕ, zero, suc, ◌+◌, ◌≤◌, ◌==◌, nat_lt, if◌then◌else◌, List, length, drop, Option, slice_get}
+use Rattle.std.specs.Prelude.{ℕ, zero, suc, ◌+◌, ◌≤◌, ◌==◌, nat_lt, if◌then◌else◌, List, length, drop, slice_get}
 use Rattle.std.specs.Option.{option_map_or}
 use Rattle.mo_bytes.specs.Uleb.{uleb_at}
 use Rattle.export_trie.specs.declared.lookup.Found.{Found}

@@ -17,6 +17,8 @@ pub fn write_trie(alloc: Global, exports: &ExportAddresses) -> Result<Bytes, Out
     requires distinct { AllPairs (λ a b. a.name ≢ b.name) exports.now }
     requires no_nul { All (λ export. ¬ Contains export.name 0) exports.now }
     ensures exact { IfOk result (IsTrie exports.now) }
+    // No other bytes are.
+    ensures only { IfOk result (λ trie. (other : List ℕ) → IsTrie exports.now other → other ≡ trie) }
     // A look-up finds each export, and no other name.
     ensures found { IfOk result (λ trie. (name : List ℕ) → lookup trie name ≡ answer exports.now name) }
 {

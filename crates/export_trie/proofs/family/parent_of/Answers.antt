@@ -1,4 +1,4 @@
-use Rattle.std.proofs.Common.{◌≡◌, ◌<◌, ◌≤◌, ℕ, Bool, true, false, [], length, get_or, sym, ◌∙◌, arith}
+use Rattle.std.proofs.Common.{◌≡◌, ◌<◌, false, [], length, get_or, arith}
 use Rattle.export_trie.specs.Strings.{begins}
 use Rattle.export_trie.specs.Held.{held_names, texts}
 use Rattle.export_trie.proofs.Reading.{tested, held_rising, held_root, length-texts}

@@ -1,4 +1,4 @@
-use Rattle.std.proofs.Common.{◌+◌, ◌-◌, ◌≡◌, ◌∙◌, ℕ, suc, sym, arith}
+use Rattle.std.proofs.Common.{◌+◌, ◌-◌, ◌≡◌, ◌∙◌, suc, sym, arith}
 use Rattle.export_trie.proofs.Walks.{begins_is, child_found, child_more}
 use Rattle.export_trie.proofs.lookup.child_step.Goals as goal
 

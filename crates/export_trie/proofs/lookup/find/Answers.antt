@@ -1,6 +1,6 @@
-use Rattle.std.proofs.Common.{◌+◌, ◌-◌, ◌≡◌, ◌∙◌, ℕ, suc, length, refl, sym, ap, arith}
+use Rattle.std.proofs.Common.{◌+◌, ◌-◌, ◌≡◌, ◌∙◌, suc, length, refl, sym, arith}
 use Rattle.std.proofs.lemmas.List.{take_rest}
-use Rattle.export_trie.specs.Lookup.{walk, lookup}
+use Rattle.export_trie.specs.Lookup.{lookup}
 use Rattle.export_trie.proofs.Walks.{walk_more}
 use Rattle.export_trie.proofs.lookup.find.Goals as goal
 

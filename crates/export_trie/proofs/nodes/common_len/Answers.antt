@@ -1,4 +1,4 @@
-use Rattle.std.proofs.Common.{◌≡◌, ◌+◌, length, drop, refl, sym, ◌∙◌, arith, []}
+use Rattle.std.proofs.Common.{◌≡◌, length, drop, refl, arith}
 use Rattle.std.proofs.lemmas.List.{drop_all}
 use Rattle.export_trie.specs.Strings.{common}
 use Rattle.export_trie.proofs.Entering.{common_nil}

@@ -1,10 +1,9 @@
-use Rattle.std.proofs.Common.{◌≡◌, ◌+◌, ◌-◌, ◌≤◌, ◌<◌, ℕ, List, [], ◌∷◌, length, drop, get_or, refl, sym, subst, ap, ◌∙◌, inl, inr, arith}
+use Rattle.std.proofs.Common.{◌≡◌, ◌+◌, ◌-◌, ◌<◌, ℕ, [], ◌∷◌, length, drop, get_or, refl, sym, subst, ap, ◌∙◌, inl, inr, arith}
 use Rattle.std.proofs.lemmas.Bool.{cases_order}
 use Rattle.std.proofs.lemmas.List.{drop_all, drop_more}
 use Rattle.std.proofs.lemmas.List.Elements.{All-from_get_or}
-use Rattle.export_trie.specs.declared.nodes.Node.{Node}
-use Rattle.export_trie.specs.Held.{AreBytes, held_names, AreHeld}
-use Rattle.export_trie.proofs.Strings.{Rising, rising_from_sorted}
+use Rattle.export_trie.specs.Held.{AreBytes, held_names}
+use Rattle.export_trie.proofs.Strings.{rising_from_sorted}
 use Rattle.export_trie.proofs.Entering.{first_of}
 use Rattle.export_trie.proofs.Reading.{name_read, length-held_names}
 use Rattle.export_trie.proofs.Building.{IsBuilding, begun, built, finished}
@@ -37,10 +36,10 @@ loop-left-preserved c =
           (subst (λ (n : ℕ). IsBuilding strings n c.loop-left.path.items c.loop-left.done.items) some c.loop-left.invariant.building)
           c.in_ok-close.ensures.same c.in_ok-close.ensures.closed c.in_ok-close.ensures.short c.in_ok-enter.ensures;
       bytes = λ k low high.
-        elim (cases_order k (c.loop-left.left - 1)) [
-          | inl same ↦ subst AreBytes (name ∙ ap (λ (n : ℕ). get_or strings n []) (sym same)) c.common_len-shared.ensures.bytes
-          | inr apart ↦ c.loop-left.invariant.bytes k (elim apart [ | inl before ↦ absurd (omega arith) | inr after ↦ omega arith ]) high
-        ];
+          elim (cases_order k (c.loop-left.left - 1)) [
+            | inl same ↦ subst AreBytes (name ∙ ap (λ (n : ℕ). get_or strings n []) (sym same)) c.common_len-shared.ensures.bytes
+            | inr apart ↦ c.loop-left.invariant.bytes k (elim apart [ inl before ↦ absurd (omega arith) | inr after ↦ omega arith ]) high
+          ];
     }
 
 pub loop-node-init : goal.loop-node-init
@@ -48,6 +47,6 @@ loop-node-init c =
     let none : c.loop-left.left ≡ 0 = omega arith in
     record {
       held = finished (held_names c.args.exports.now) c.loop-left.path.items c.loop-left.done.items
-        (subst (λ (n : ℕ). IsBuilding (held_names c.args.exports.now) n c.loop-left.path.items c.loop-left.done.items) none c.loop-left.invariant.building);
+          (subst (λ (n : ℕ). IsBuilding (held_names c.args.exports.now) n c.loop-left.path.items c.loop-left.done.items) none c.loop-left.invariant.building);
       bytes = All-from_get_or AreBytes (held_names c.args.exports.now) [] (λ k within. c.loop-left.invariant.bytes k (omega arith) (omega (arith, length-held_names c.args.exports.now)));
     }

@@ -1,4 +1,4 @@
-use Rattle.std.proofs.Common.{◌≡◌, ◌≤◌, length, [], ◌∙◌, sym, get_or, subst, ℕ, List, ap, arith}
+use Rattle.std.proofs.Common.{◌≤◌, length, ◌∙◌, sym, subst, ℕ, List}
 use Rattle.std.proofs.lemmas.List.{length-take-le}
 use Rattle.export_trie.specs.Held.{held_names}
 use Rattle.export_trie.proofs.Reading.{name_at, text_is}

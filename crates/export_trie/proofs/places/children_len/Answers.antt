@@ -1,4 +1,4 @@
-use Rattle.std.proofs.Common.{◌≡◌, ◌+◌, ◌-◌, ℕ, length, get_or, refl, arith}
+use Rattle.std.proofs.Common.{◌-◌, get_or, refl, arith}
 use Rattle.export_trie.specs.Held.{node_at}
 use Rattle.export_trie.proofs.Lengths.{children_more, children_all}
 use Rattle.export_trie.proofs.places.children_len.Goals as goal

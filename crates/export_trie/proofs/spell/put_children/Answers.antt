@@ -1,4 +1,3 @@
-use Rattle.std.proofs.Common.{refl}
 use Rattle.export_trie.proofs.Lengths.{row_more, row_all}
 use Rattle.export_trie.proofs.spell.put_children.Goals as goal
 

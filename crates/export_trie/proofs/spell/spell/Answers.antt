@@ -1,4 +1,4 @@
-use Rattle.std.proofs.Common.{◌≡◌, ◌+◌, ◌<◌, ◌≤◌, ℕ, List, [], length, get_or, subst, sym, ap, ◌∙◌, inl, inr, arith}
+use Rattle.std.proofs.Common.{ℕ, get_or, subst, sym, ◌∙◌, arith}
 use Rattle.std.specs.List.{AllByRecursion}
 use Rattle.std.proofs.lemmas.List.{get_or_default}
 use Rattle.std.proofs.Common.{below_more}
@@ -19,7 +19,7 @@ loop-at-preserved c =
     let row = row_is c.args.rows.now c.loop-at.at c.index-rows-at.result c.as_slice.result.now (omega (arith, c.requires.rows)) c.index-rows-at.is c.as_slice.ensures.value in
     record {
       exact = bytes_more (held c.args.exports.now) c.args.nodes.now c.args.places.now (rows_of c.args.rows.now) c.loop-at.at c.loop-at.out.items _ c.put_node.new.out.items c.as_slice.result.now (node_at 0 0)
-        c.loop-at-test.true (length-rows_of c.args.rows.now ∙ c.requires.rows) c.loop-at.invariant.exact row c.in_ok-put_node.ensures.ok;
+          c.loop-at-test.true (length-rows_of c.args.rows.now ∙ c.requires.rows) c.loop-at.invariant.exact row c.in_ok-put_node.ensures.ok;
       small = below_more (λ (k : ℕ). IsSmall (export_held (held c.args.exports.now) (get_or c.args.nodes.now k (node_at 0 0)))) c.loop-at.at c.loop-at.invariant.small c.in_ok-put_node.ensures.small;
     }
 
