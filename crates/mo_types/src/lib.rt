@@ -11,6 +11,7 @@ mod memory;
 mod object;
 mod reference;
 mod reference_fault;
+mod section;
 
 pub use answer::{Refusal, Status};
 pub use atom::{Atom, AtomList};
