@@ -31,7 +31,7 @@ unfolding atoms_of
 atoms_begin object file atoms none = record { same = rw none refl }
 
 pub atoms_go_on : (object : Object) (file : FileId) (atoms more : List Atom) (index : ℕ) → AreAtoms object file atoms index → index < length object.sections → ((d : Section) → more ≡ atoms ++ section_atoms object file (index + 1) (get_or object.sections index d)) → AreAtoms object file more (index + 1)
-atoms_go_on object file atoms more index are within added = 
+atoms_go_on object file atoms more index are within added =
     let some : (section : Section) × (section ≡ get_or object.sections index section) = element_at object.sections index within in
     let section : Section = some.0 in
     let here : section ≡ get_or object.sections index section = some.1 in
@@ -40,9 +40,9 @@ atoms_go_on object file atoms more index are within added =
     ap (atoms_from object file (index + 1)) (drop_more object.sections index section within) in
     record {
       same =
-        ap (λ xs. xs ++ rest) (added section)
-        ∙ append_assoc atoms (section_atoms object file (index + 1) (get_or object.sections index section)) rest
-        ∙ ap (λ xs. atoms ++ xs) (sym from) ∙ are.same
+          ap (λ xs. xs ++ rest) (added section)
+          ∙ append_assoc atoms (section_atoms object file (index + 1) (get_or object.sections index section)) rest
+          ∙ ap (λ xs. atoms ++ xs) (sym from) ∙ are.same;
     }
 
 pub atoms_end : (object : Object) (file : FileId) (atoms : List Atom) (index : ℕ) → AreAtoms object file atoms index → length object.sections ≤ index → atoms ≡ atoms_of object file

@@ -114,8 +114,8 @@ offsets_from : (number : ℕ) (section : Section) (symbols : List Symbol) (y : �
 offsets_from number section [] y below e = absurd (false≢true e)
 offsets_from number section (symbol ∷ symbols) y below e =
     elim (either (cuts_at number section y symbol) (list_any (cuts_at number section y) symbols) e) [
-      inl here ↦ has_first y (cut_offset number section symbol) (filter_map (cut_offset number section) symbols) (symbol_from number section symbol y below here)
-    | inr there ↦ has_later y (cut_offset number section symbol) (filter_map (cut_offset number section) symbols) (offsets_from number section symbols y below there)
+      | inl here ↦ has_first y (cut_offset number section symbol) (filter_map (cut_offset number section) symbols) (symbol_from number section symbol y below here)
+      | inr there ↦ has_later y (cut_offset number section symbol) (filter_map (cut_offset number section) symbols) (offsets_from number section symbols y below there)
     ]
 
 -- whether a piece begins at an offset above 0 and below the size
@@ -130,13 +130,13 @@ cut_is : (object : Object) (number : ℕ) (section : Section) (at : ℕ) → is_
 unfolding is_cut
 cut_is object number section at e =
     elim (either (eqb at 0) (ltb at section.size && begins object number section at) e) [
-      inl zero_is ↦ inl (eqb-true at 0 zero_is)
-    | inr more ↦
-      let parts : (ltb at section.size ≡ true) × (begins object number section at ≡ true) = both _ _ more in
-      inr (ltb-true at section.size parts.0, parts.1)
+      | inl zero_is ↦ inl (eqb-true at 0 zero_is)
+      | inr more ↦
+          let parts : (ltb at section.size ≡ true) × (begins object number section at ≡ true) = both _ _ more in
+          inr (ltb-true at section.size parts.0, parts.1)
     ]
 
-start_is_cut : (object : Object) (number : ℕ) (section : Section) → is_cut object number section 0 ≡ true
+pub start_is_cut : (object : Object) (number : ℕ) (section : Section) → is_cut object number section 0 ≡ true
 unfolding is_cut
 start_is_cut object number section = refl
 
@@ -150,17 +150,17 @@ cuts_in_order object number section offsets ordered are all order =
     let p : ℕ → Bool = is_cut object number section in
     let rises : Rises 0 ordered = rises_from_increasing 0 ordered order.rises (λ some. omega arith) in
     let inside : (y : ℕ) → Has y (0 ∷ offsets) → (y < 0 + suc (section.size - 1)) × (p y ≡ true) = λ y has.
-      elim has [
-        inl here ↦ (omega (arith, here), subst (λ (k : ℕ). p k ≡ true) here (start_is_cut object number section))
+    elim has [
+      | inl here ↦ (omega (arith, here), subst (λ (k : ℕ). p k ≡ true) here (start_is_cut object number section))
       | inr there ↦
-        let parts : (y < section.size) × (begins object number section y ≡ true) = are y there in
-        let below : y < section.size = parts.0 in
-        (omega arith, cut_from object number section y below parts.1)
-      ] in
+          let parts : (y < section.size) × (begins object number section y ≡ true) = are y there in
+          let below : y < section.size = parts.0 in
+          (omega arith, cut_from object number section y below parts.1)
+    ] in
     let agree : Agree p 0 (suc (section.size - 1)) ordered = record {
       inside = λ y has. inside y (has_from_Contains (0 ∷ offsets) y (order.adds_none y (Contains_from_has ordered y has)));
       all = λ y low below pass. has_from_Contains ordered y (order.keeps y (Contains_from_has (0 ∷ offsets) y (
-            elim (cut_is object number section y pass) [ inl start ↦ inl (sym start) | inr piece ↦ inr (all y piece.0 piece.1) ])));
+          elim (cut_is object number section y pass) [ inl start ↦ inl (sym start) | inr piece ↦ inr (all y piece.0 piece.1) ])));
     } in
     same_as_filter p 0 (suc (section.size - 1)) ordered rises agree ∙ all_cuts object number section
 
@@ -177,8 +177,8 @@ cuts_by_symbols object number section true offsets ordered sub plain other from 
     let by : (y : ℕ) → begins object number section y ≡ list_any (cuts_at number section y) object.symbols = λ y. begins_by_symbols object number section y plain other ∙ rw sub refl in
     cuts_in_order object number section offsets ordered
     (λ y has.
-      let parts : IsCutBy number section object.symbols y = offsets_are number section object.symbols y from (subst (Has y) same has) in
-      (parts.0, by y ∙ parts.1))
+    let parts : IsCutBy number section object.symbols y = offsets_are number section object.symbols y from (subst (Has y) same has) in
+    (parts.0, by y ∙ parts.1))
     (λ y below begun. subst (Has y) (sym same) (offsets_from number section object.symbols y below (sym (by y) ∙ begun)))
     order
 cuts_by_symbols object number section false offsets ordered sub plain other from is order =

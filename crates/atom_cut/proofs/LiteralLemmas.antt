@@ -62,10 +62,10 @@ literals_go_on literal count number cuts more some are within e =
     let next : m * literal + literal ≡ (number + 1 - 1) * literal = sym pushed ∙ ap (λ n. n * literal) still in
     record {
       same =
-        e ∙ ap (λ xs. xs ++ number * literal ∷ []) are.same
-        ∙ ap (λ x. 0 ∷ (filter (is_multiple literal) (range_with_len 1 (m * literal)) ++ x ∷ [])) pushed
-        ∙ ap (λ xs. 0 ∷ xs) (sym (one_more literal m some))
-        ∙ ap (λ n. 0 ∷ filter (is_multiple literal) (range_with_len 1 n)) next;
+          e ∙ ap (λ xs. xs ++ number * literal ∷ []) are.same
+          ∙ ap (λ x. 0 ∷ (filter (is_multiple literal) (range_with_len 1 (m * literal)) ++ x ∷ [])) pushed
+          ∙ ap (λ xs. 0 ∷ xs) (sym (one_more literal m some))
+          ∙ ap (λ n. 0 ∷ filter (is_multiple literal) (range_with_len 1 n)) next;
       low = omega arith;
       high = omega arith;
     }
@@ -77,10 +77,10 @@ whole literal m some =
     let start : 1 + m * literal ≡ m * literal + 1 = omega arith in
     let size : m * literal + literal - 1 ≡ m * literal + (literal - 1) = omega arith in
     sym (
-      ap (λ n. filter p (range_with_len 1 n)) size
-      ∙ filter_range-add p 1 (m * literal) (literal - 1) (m * literal + 1) start
-      ∙ ap (λ xs. filter p (range_with_len 1 (m * literal)) ++ xs) (filter_range-none p (m * literal + 1) (literal - 1) (λ k low high. between literal m k (omega arith) (omega arith)))
-      ∙ append-nil (filter p (range_with_len 1 (m * literal)))
+    ap (λ n. filter p (range_with_len 1 n)) size
+    ∙ filter_range-add p 1 (m * literal) (literal - 1) (m * literal + 1) start
+    ∙ ap (λ xs. filter p (range_with_len 1 (m * literal)) ++ xs) (filter_range-none p (m * literal + 1) (literal - 1) (λ k low high. between literal m k (omega arith) (omega arith)))
+    ∙ append-nil (filter p (range_with_len 1 (m * literal)))
     )
 
 whole_count : (literal size count : ℕ) → 0 < literal → count * literal ≡ size → filter (is_multiple literal) (range_with_len 1 ((count - 1) * literal)) ≡ filter (is_multiple literal) (range_with_len 1 (size - 1))

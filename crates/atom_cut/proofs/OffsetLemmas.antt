@@ -21,9 +21,9 @@ no_symbols number section = refl
 
 pub offsets_begin : (sections : List Section) (lists : List (List ℕ)) → lists ≡ replicate (length sections) [] → AreOffsets sections [] lists
 offsets_begin sections lists e = record {
-    count = rw e (length-replicate (length sections) []);
-    each = λ n d within. rw (e, get_or-replicate) (no_symbols (n + 1) (get_or sections n d));
-  }
+  count = rw e (length-replicate (length sections) []);
+  each = λ n d within. rw (e, get_or-replicate) (no_symbols (n + 1) (get_or sections n d));
+}
 
 one_mapped : (h : Symbol → Option ℕ) (symbol : Symbol) (offset : Option ℕ) → h symbol ≡ offset → filter_map h (symbol ∷ []) ≡ option_to_list offset
 one_mapped h symbol None e = rw e refl
@@ -38,12 +38,12 @@ with_symbol symbols symbol number section offset e =
 
 grown : (sections : List Section) (symbols : List Symbol) (lists more : List (List ℕ)) (symbol : Symbol) (place : Option CutPlace) → AreOffsets sections symbols lists → IsCutPlace sections symbol place → length more ≡ length lists → ((n : ℕ) → n < length sections → get_or more n [] ≡ get_or lists n [] ++ option_to_list (offset_at n place)) → AreOffsets sections (symbols ++ symbol ∷ []) more
 grown sections symbols lists more symbol place are is same_length pointwise = record {
-    count = same_length ∙ are.count;
-    each = λ n d within.
+  count = same_length ∙ are.count;
+  each = λ n d within.
       pointwise n within
       ∙ ap (λ xs. xs ++ option_to_list (offset_at n place)) (are.each n d within)
       ∙ sym (with_symbol symbols symbol (n + 1) (get_or sections n d) (offset_at n place) (is.each n d within));
-  }
+}
 
 up_to : (symbols : List Symbol) (at : ℕ) (symbol : Symbol) → at < length symbols → symbol ≡ get_or symbols at symbol → take at symbols ++ symbol ∷ [] ≡ take (at + 1) symbols
 up_to symbols at symbol within is = ap (λ x. take at symbols ++ x ∷ []) is ∙ sym (take_more symbols at symbol within)
@@ -66,9 +66,9 @@ offsets_grow sections symbols at lists more symbol place are within is here e =
     let inside : place.section < length lists = rw are.count here.within in
     rw (← up_to symbols at symbol within is)
     (grown sections (take at symbols) lists more symbol (Some place) are here
-      (ap length e ∙ length-set lists place.section (get_or lists place.section [] ++ place.offset ∷ []))
-      (λ n below.
-        ap (λ xs. get_or xs n []) e
-        ∙ set_pointwise lists place.section place.offset n (eqb place.section n) refl inside))
+    (ap length e ∙ length-set lists place.section (get_or lists place.section [] ++ place.offset ∷ []))
+    (λ n below.
+    ap (λ xs. get_or xs n []) e
+    ∙ set_pointwise lists place.section place.offset n (eqb place.section n) refl inside))
 
 pub ruleset additions = (offsets_begin, offsets_stay, offsets_grow)

@@ -52,13 +52,13 @@ from_cut file number section cuts at from within is =
 
 pub pieces_go_on : (file : FileId) (number : ℕ) (section : Section) (cuts : List ℕ) (start atoms more : List Atom) (at from to : ℕ) (atom : Atom) → ArePieces file number section cuts start atoms at → at < length cuts → from ≡ get_or cuts at from → to ≡ get_or cuts (at + 1) section.size → atom ≡ piece file number section from to → more ≡ atoms ++ atom ∷ [] → ArePieces file number section cuts start more (at + 1)
 pieces_go_on file number section cuts start atoms more at from to atom are within is next made pushed = record {
-    same =
+  same =
       ap (λ xs. xs ++ pieces file number section (drop (at + 1) cuts)) pushed
       ∙ append_assoc atoms (atom ∷ []) (pieces file number section (drop (at + 1) cuts))
       ∙ ap (λ x. atoms ++ x ∷ pieces file number section (drop (at + 1) cuts)) (made ∙ ap (piece file number section from) next)
       ∙ sym (ap (λ xs. atoms ++ xs) (from_cut file number section cuts at from within is))
-      ∙ are.same
-  }
+      ∙ are.same;
+}
 
 pub pieces_end : (file : FileId) (number : ℕ) (section : Section) (cuts : List ℕ) (start atoms : List Atom) (at : ℕ) → ArePieces file number section cuts start atoms at → length cuts ≤ at → atoms ≡ start ++ pieces file number section cuts
 pieces_end file number section cuts start atoms at are past =

@@ -34,8 +34,8 @@ pub rises_from_increasing : (low : ℕ) (xs : List ℕ) → IsStrictlyIncreasing
 rises_from_increasing low [] increasing first = tt
 rises_from_increasing low (x ∷ xs) increasing first =
     let tail : IsStrictlyIncreasing xs = λ k within.
-      let e : suc k + 1 ≡ suc (k + 1) = omega arith in
-      subst (λ (j : ℕ). get_or (x ∷ xs) (suc k) 0 < get_or (x ∷ xs) j 0) e (increasing (suc k) (omega arith)) in
+    let e : suc k + 1 ≡ suc (k + 1) = omega arith in
+    subst (λ (j : ℕ). get_or (x ∷ xs) (suc k) 0 < get_or (x ∷ xs) j 0) e (increasing (suc k) (omega arith)) in
     (first (omega arith), rises_from_increasing (x + 1) xs tail (λ some. let next : x < get_or xs 0 0 = increasing 0 (omega arith) in omega arith))
 
 above : (low y : ℕ) (xs : List ℕ) → Rises low xs → Has y xs → low ≤ y
@@ -71,9 +71,9 @@ mutual_step p low n (x ∷ xs) true e rises agree rest =
     } in
     ap (λ k. k ∷ xs) is ∙ ap (λ ys. low ∷ ys) (rest xs tail agrees)
 mutual_step p low n [] false e rises agree rest = rest [] tt (record {
-    inside = λ y has. absurd has;
-    all = λ y from below pass. agree.all y (omega arith) (omega arith) pass;
-  })
+  inside = λ y has. absurd has;
+  all = λ y from below pass. agree.all y (omega arith) (omega arith) pass;
+})
 mutual_step p low n (x ∷ xs) false e rises agree rest =
     let first : low ≤ x = rises.0 in
     let passes : p x ≡ true = (agree.inside x (inl refl)).1 in

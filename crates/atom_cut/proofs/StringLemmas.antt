@@ -41,9 +41,9 @@ strings_begin strings last cuts ends start all within =
 
 pub strings_go_on : (strings : List ℕ) (last : ℕ) (cuts ends rest more : List ℕ) (end : ℕ) → AreStrings strings last cuts ends → ends ≡ end ∷ rest → more ≡ cuts ++ (end + 1) ∷ [] → AreStrings strings last more rest
 strings_go_on strings last cuts ends rest more end are first pushed = record {
-    same = ap (λ xs. xs ++ after rest) pushed ∙ append_assoc cuts ((end + 1) ∷ []) (after rest) ∙ sym (ap (λ xs. cuts ++ after xs) first) ∙ are.same;
-    below = (subst (AreBelow last) first are.below).1;
-  }
+  same = ap (λ xs. xs ++ after rest) pushed ∙ append_assoc cuts ((end + 1) ∷ []) (after rest) ∙ sym (ap (λ xs. cuts ++ after xs) first) ∙ are.same;
+  below = (subst (AreBelow last) first are.below).1;
+}
 
 pub string_end_below : (strings : List ℕ) (last : ℕ) (cuts ends rest : List ℕ) (end : ℕ) → AreStrings strings last cuts ends → ends ≡ end ∷ rest → end < last
 string_end_below strings last cuts ends rest end are first = (subst (AreBelow last) first are.below).0

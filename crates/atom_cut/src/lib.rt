@@ -2,8 +2,10 @@
 #![tactic(auto)]
 
 mod cutting;
+mod laws;
 mod offsets;
 mod pieces;
 mod section_cuts;
 
 pub use cutting::cut;
+pub use laws::{atoms_tile, keys_rise, no_byte_is_lost, offset_belongs_to_the_greatest_cut};

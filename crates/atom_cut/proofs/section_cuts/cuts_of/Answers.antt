@@ -9,7 +9,7 @@ pub returns-in-Some : goal.returns-in-Some
 returns-in-Some c =
     IfOk-weaker c.cuts_at_literals.result _ _
     (λ found e d. literal_cuts_at c.args.object.now c.args.index c.index-as_slice-index.result d c.in-Some.size found.items c.requires.index
-      (c.index-as_slice-index.is ∙ ap (λ xs. get_or xs c.args.index c.index-as_slice-index.result) c.as_slice.ensures) c.in-Some.ensures e)
+    (c.index-as_slice-index.is ∙ ap (λ xs. get_or xs c.args.index c.index-as_slice-index.result) c.as_slice.ensures) c.in-Some.ensures e)
     c.cuts_at_literals.ensures
 
 pub returns : goal.returns
@@ -19,6 +19,6 @@ returns c =
     elim c.if-object.branch [ then-object w ↦ search rules | else-object w ↦ search rules ] in
     IfOk-weaker c.cuts_at_symbols.result _ _
     (λ found order d.
-      symbol_cuts_at c.args.object.now c.args.index c.index-as_slice-index.result d c.args.offsets.now c.if-object.begun.now found.items c.requires.whole c.requires.index
-      (c.index-as_slice-index.is ∙ ap (λ xs. get_or xs c.args.index c.index-as_slice-index.result) c.as_slice.ensures) plain (sym c.if-is_strings.ensures) c.requires.offsets begun order)
+    symbol_cuts_at c.args.object.now c.args.index c.index-as_slice-index.result d c.args.offsets.now c.if-object.begun.now found.items c.requires.whole c.requires.index
+    (c.index-as_slice-index.is ∙ ap (λ xs. get_or xs c.args.index c.index-as_slice-index.result) c.as_slice.ensures) plain (sym c.if-is_strings.ensures) c.requires.offsets begun order)
     c.cuts_at_symbols.ensures
