@@ -12,6 +12,7 @@ mod object;
 mod reference;
 mod reference_fault;
 mod section;
+mod whole;
 
 pub use answer::{Refusal, Status};
 pub use atom::{Atom, AtomList};
