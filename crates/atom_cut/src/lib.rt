@@ -6,6 +6,8 @@ mod laws;
 mod offsets;
 mod pieces;
 mod section_cuts;
+#[cfg(test)]
+mod tests;
 
 pub use cutting::cut;
 pub use laws::{atoms_tile, keys_rise, no_byte_is_lost, offset_belongs_to_the_greatest_cut};
