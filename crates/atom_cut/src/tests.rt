@@ -12,161 +12,129 @@ const FILE: FileId = FileId {
     member: 7,
 };
 
-// What tells a section apart from `__TEXT,__text` at address 0x100.
-#[derive(Clone, Copy)]
-struct Shape<'a> {
-    segment: &'a [u8],
-    kind: u8,
-    size: u64,
-    align: u8,
-    bytes: &'a [u8],
+// The name and address of each symbol, and whether it is an alternative entry.
+const SYMBOLS: [(&[u8], u64, bool); 6] = [
+    (b"_last", 0x110, false),
+    (b"_fourth", 0x10c, false),
+    (b"_first", 0x100, false),
+    (b"_second", 0x104, true),
+    (b"Lthird", 0x108, false),
+    (b"_again", 0x10c, false),
+];
+
+fn symbols(alloc: Global) -> Result<SymbolList, OutOfMemory> {
+    let mut symbols = SymbolList::new(alloc);
+    for (name, value, alt) in &SYMBOLS {
+        symbols.push(Symbol {
+            name: Bytes::from_slice(alloc, name)?,
+            kind: SymbolKind::Defined {
+                section: 1,
+                value: *value,
+            },
+            external: false,
+            hidden: false,
+            weak_def: false,
+            weak_ref: false,
+            no_strip: false,
+            alt: *alt,
+        })?;
+    }
+    Ok(symbols)
 }
 
-fn section(alloc: Global, shape: &Shape<'_>) -> Result<Section, OutOfMemory> {
+// A section at the address 0x100, aligned to 2^4.
+fn section(
+    alloc: Global,
+    segment: &[u8],
+    kind: u8,
+    size: u64,
+    bytes: &[u8],
+) -> Result<Section, OutOfMemory> {
     Ok(Section {
-        segment: Bytes::from_slice(alloc, shape.segment)?,
+        segment: Bytes::from_slice(alloc, segment)?,
         name: Bytes::from_slice(alloc, b"__text")?,
         address: 0x100,
-        size: shape.size,
-        align: shape.align,
-        kind: shape.kind,
+        size,
+        align: 4,
+        kind,
         attributes: 0,
         file_offset: 0x200,
         reloc_offset: 0,
-        bytes: Bytes::from_slice(alloc, shape.bytes)?,
+        bytes: Bytes::from_slice(alloc, bytes)?,
         relocs: RelocList::new(alloc),
     })
 }
 
-fn symbol(alloc: Global, name: &[u8], value: u64, alt: bool) -> Result<Symbol, OutOfMemory> {
-    Ok(Symbol {
-        name: Bytes::from_slice(alloc, name)?,
-        kind: SymbolKind::Defined { section: 1, value },
-        external: false,
-        hidden: false,
-        weak_def: false,
-        weak_ref: false,
-        no_strip: false,
-        alt,
-    })
-}
+// The offset, size, alignment and first byte of an atom; 255 stands where it has no byte.
+type Row = (u64, u64, u8, u8);
 
-// Sections of these shapes. The first one, where it has 16 bytes or more, has symbols at its offsets 0, 4 (an
-// alternative entry), 8 (of the assembler), 12 (two of them) and 16.
-fn object(alloc: Global, subsections: bool, shapes: &[Shape<'_>]) -> Result<Object, OutOfMemory> {
-    let mut sections = SectionList::new(alloc);
-    let mut symbols = SymbolList::new(alloc);
-    for shape in shapes {
-        if sections.is_empty() && shape.size >= 16 {
-            symbols.push(symbol(alloc, b"_last", 0x110, false)?)?;
-            symbols.push(symbol(alloc, b"_fourth", 0x10c, false)?)?;
-            symbols.push(symbol(alloc, b"_first", 0x100, false)?)?;
-            symbols.push(symbol(alloc, b"_second", 0x104, true)?)?;
-            symbols.push(symbol(alloc, b"Lthird", 0x108, false)?)?;
-            symbols.push(symbol(alloc, b"_again", 0x10c, false)?)?;
-        }
-        sections.push(section(alloc, shape)?)?;
-    }
-    Ok(Object {
-        subsections,
-        sections,
-        symbols,
-    })
-}
+const CODE: &[u8] = &[0, 1, 2, 3, 4, 5, 6, 7, 8, 9, 10, 11, 12, 13, 14, 15];
 
-// The section, offset, size, alignment and first byte of an atom; 255 stands where it has no byte.
-type Row = (u16, u64, u64, u8, u8);
+const STRINGS: &[u8] = b"ab\0\0cdefgh\0jklm\0";
+
+// The type, size and bytes of a section, and its atoms.
+static CUT_AT_SYMBOLS: [(u8, u64, &[u8], &[Row]); 6] = [
+    (0, 16, CODE, &[(0, 12, 4, 0), (12, 4, 2, 12)]),
+    (
+        2,
+        16,
+        STRINGS,
+        &[(0, 3, 4, 97), (3, 1, 0, 0), (4, 7, 2, 99), (11, 5, 0, 106)],
+    ),
+    (
+        3,
+        16,
+        CODE,
+        &[(0, 4, 4, 0), (4, 4, 2, 4), (8, 4, 3, 8), (12, 4, 2, 12)],
+    ),
+    (4, 16, CODE, &[(0, 8, 4, 0), (8, 8, 3, 8)]),
+    (14, 16, CODE, &[(0, 16, 4, 0)]),
+    (
+        1,
+        40,
+        &[],
+        &[(0, 12, 4, 255), (12, 4, 2, 255), (16, 24, 4, 255)],
+    ),
+];
 
 fn check(
     rt: &(impl Abort + AllocGlobal),
     subsections: bool,
-    shapes: &[Shape<'_>],
+    section: Section,
     rows: &[Row],
 ) -> Result<(), Fail> {
-    let object = object(rt.alloc(), subsections, shapes)?;
+    let alloc = rt.alloc();
+    let mut sections = SectionList::new(alloc);
+    sections.push(section)?;
+    let object = Object {
+        subsections,
+        sections,
+        symbols: symbols(alloc)?,
+    };
     assert!(rt; object.is_whole());
-    let atoms = cut(rt.alloc(), &object, FILE)?;
+    let atoms = cut(alloc, &object, FILE)?;
     assert_eq!(rt; atoms.len(), rows.len());
-    for (atom, (section, offset, size, align, first)) in atoms.as_slice().iter().zip(rows) {
+    for (atom, row) in atoms.as_slice().iter().zip(rows) {
         let key = AtomKey {
             file: FILE,
-            section: *section,
-            offset: *offset,
+            section: 1,
+            offset: row.0,
         };
-        assert_eq!(rt; atom.key, key);
-        assert_eq!(rt; atom.size, *size);
-        assert_eq!(rt; atom.align, *align);
+        assert!(rt; atom.key == key && atom.size == row.1 && atom.align == row.2);
         let byte = atom.bytes.as_slice().first().copied().unwrap_or(255);
-        assert_eq!(rt; byte, *first);
+        assert_eq!(rt; byte, row.3);
     }
     Ok(())
 }
 
-fn shape_of<'a>(segment: &'a [u8], kind: u8, size: u64, bytes: &'a [u8]) -> Shape<'a> {
-    Shape {
-        segment,
-        kind,
-        size,
-        align: 4,
-        bytes,
-    }
-}
-
-const CODE: [u8; 16] = [0, 1, 2, 3, 4, 5, 6, 7, 8, 9, 10, 11, 12, 13, 14, 15];
-
-const STRINGS: &[u8] = b"ab\0\0cdefgh\0jklm\0";
-
 #[test]
 fn sections_are_cut_by_their_type(rt: HostRuntime) -> Result<(), Fail> {
-    let code = [shape_of(b"__TEXT", 0, 16, &CODE)];
-    check(&rt, true, &code, &[(1, 0, 12, 4, 0), (1, 12, 4, 2, 12)])?;
-    check(&rt, false, &code, &[(1, 0, 16, 4, 0)])?;
-
-    let strings = [shape_of(b"__TEXT", 2, 16, STRINGS)];
-    let rows = [
-        (1, 0, 3, 4, b'a'),
-        (1, 3, 1, 0, 0),
-        (1, 4, 7, 2, b'c'),
-        (1, 11, 5, 0, b'j'),
-    ];
-    check(&rt, true, &strings, &rows)?;
-    check(&rt, false, &strings, &rows)?;
-
-    let fours = [shape_of(b"__TEXT", 3, 16, &CODE)];
-    check(
-        &rt,
-        false,
-        &fours,
-        &[
-            (1, 0, 4, 4, 0),
-            (1, 4, 4, 2, 4),
-            (1, 8, 4, 3, 8),
-            (1, 12, 4, 2, 12),
-        ],
-    )?;
-    let eights = [shape_of(b"__TEXT", 4, 16, &CODE)];
-    check(&rt, true, &eights, &[(1, 0, 8, 4, 0), (1, 8, 8, 3, 8)])?;
-    let sixteens = [shape_of(b"__TEXT", 0xe, 16, &CODE)];
-    check(&rt, true, &sixteens, &[(1, 0, 16, 4, 0)])?;
-
-    let zerofill = [shape_of(b"__DATA", 1, 40, b"")];
-    check(
-        &rt,
-        true,
-        &zerofill,
-        &[(1, 0, 12, 4, 255), (1, 12, 4, 2, 255), (1, 16, 24, 4, 255)],
-    )?;
-    let several = [
-        shape_of(b"__TEXT", 2, 0, b""),
-        shape_of(b"__DWARF", 0, 16, &CODE),
-        shape_of(b"__DATA", 4, 0, b""),
-        shape_of(b"__DATA", 0, 16, &CODE),
-    ];
-    check(
-        &rt,
-        true,
-        &several,
-        &[(1, 0, 0, 4, 255), (3, 0, 0, 4, 255), (4, 0, 16, 4, 0)],
-    )?;
-    check(&rt, true, &[], &[])
+    for (kind, size, bytes, rows) in &CUT_AT_SYMBOLS {
+        let section = section(rt.alloc(), b"__TEXT", *kind, *size, bytes)?;
+        check(&rt, true, section, rows)?;
+    }
+    let text = section(rt.alloc(), b"__TEXT", 0, 16, CODE)?;
+    check(&rt, false, text, &[(0, 16, 4, 0)])?;
+    let dropped = section(rt.alloc(), b"__DWARF", 0, 16, CODE)?;
+    check(&rt, true, dropped, &[])
 }
