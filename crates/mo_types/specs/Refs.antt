@@ -10,6 +10,7 @@ use Rattle.mo_types.specs.declared.object.RawReloc.{RawReloc}
 use Rattle.mo_types.specs.declared.object.Section.{Section}
 use Rattle.mo_types.specs.declared.object.Symbol.{Symbol}
 use Rattle.mo_types.specs.declared.object.Object.{Object}
+use Rattle.mo_types.specs.declared.reference.Field.{Field}
 use Rattle.mo_types.specs.declared.reference.Ref.{Ref}
 use Rattle.mo_types.specs.declared.reference.RefKind.{RefKind}
 use Rattle.mo_types.specs.declared.reference.Target.{Target}
@@ -17,7 +18,7 @@ use Rattle.mo_types.specs.declared.reference.Target.TheVariants.{Name, Local}
 use Rattle.mo_types.specs.declared.reference_fault.RefFault.{RefFault}
 use Rattle.mo_types.specs.declared.reference_fault.RefFault.TheVariants.{BadPair, BadShape, BadPlace, BadTarget, Unsupported, OutOfMemory}
 use Rattle.mo_types.specs.Atoms.{cut_of}
-use Rattle.mo_types.specs.RelocationRules.{Field, field_at, field_number, first_fault, pair_fault, shape_fault, place_fault, target_fault, section_numbered, is_absolute}
+use Rattle.mo_types.specs.RelocationRules.{field_at, field_number, first_fault, pair_fault, shape_fault, place_fault, target_fault, section_numbered, is_absolute}
 use Rattle.mo_types.specs.Rows.{is_subtractor, is_authenticated, first_before, last_at, kind_at}
 use Rattle.mo_types.specs.Whole.{is_dropped}
 

@@ -10,6 +10,7 @@ use Rattle.mo_types.specs.declared.object.Symbol.{Symbol}
 use Rattle.mo_types.specs.declared.object.SymbolKind.{SymbolKind}
 use Rattle.mo_types.specs.declared.object.SymbolKind.TheVariants.{Defined, Passed, Absolute}
 use Rattle.mo_types.specs.declared.object.Object.{Object}
+use Rattle.mo_types.specs.declared.reference.Field.{Field}
 use Rattle.mo_types.specs.declared.reference.RefKind.{RefKind}
 use Rattle.mo_types.specs.Atoms.{cut_of}
 use Rattle.mo_types.specs.Rows.{when, is_first, is_second, is_subtractor, first_before, last_at, kind_at, field_size, is_instruction}
@@ -36,11 +37,6 @@ shape_fault object number section at =
     option_and_then
     (λ reloc. when (is_none (kind_at section.relocs at)) (if option_map_or is_subtractor (first_before section.relocs at) false then at - 1 else at))
     (last_at section.relocs at)
-
--- a reference's field, by its offset in the section and its bytes
-pub record Field : Type 0 where
-  pub offset : ℕ
-  pub size : ℕ
 
 -- the field of the row that ends at a place
 unfoldable pub field_at : List RawReloc → ℕ → Option Field

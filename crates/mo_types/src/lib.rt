@@ -24,5 +24,5 @@ pub use memory::OutOfMemory;
 pub use object::{
     Object, RawReloc, RelocList, Section, SectionList, Symbol, SymbolKind, SymbolList,
 };
-pub use reference::{Ref, RefKind, RefList, Target};
+pub use reference::{Field, Ref, RefKind, RefList, Target};
 pub use reference_fault::RefFault;

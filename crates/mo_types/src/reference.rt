@@ -39,6 +39,15 @@ pub enum RefKind {
     TlvPageOff,
 }
 
+/// The bytes of a section that the linker fills in.
+#[derive(Clone, Copy, Debug, PartialEq, Eq)]
+pub struct Field {
+    /// The offset in the section, in bytes.
+    pub offset: u64,
+    /// In bytes.
+    pub size: u64,
+}
+
 /// A reference: a field of an atom that the linker fills in.
 #[derive(Clone, Copy, Debug, PartialEq, Eq)]
 pub struct Ref {
