@@ -1,0 +1,2 @@
+pub mod CutObject
+pub mod LinkedSection

@@ -1,0 +1,3 @@
+pub mod LinkedLemmas
+pub mod LookupLemmas
+pub mod NumberLemmas
