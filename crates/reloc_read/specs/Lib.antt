@@ -1,2 +1,4 @@
 pub mod CutObject
+pub mod Faults
+pub mod Fields
 pub mod LinkedSection

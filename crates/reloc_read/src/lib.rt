@@ -2,7 +2,10 @@
 #![tactic(auto)]
 
 mod cut_object;
+mod faults;
 mod linked_section;
 mod numbers;
+mod overlaps;
 mod rows;
 mod rules;
+mod targets;

@@ -3,6 +3,7 @@
 ghost use Rattle.std.specs.Prelude.{◌≡◌, ◌<◌, ◌≤◌, ◌^◌, slice_index};
 ghost use Rattle.mo_types.specs.Refs as refs;
 ghost use Rattle.mo_types.specs.RelocationRules as rules;
+ghost use Rattle.reloc_read.specs.Fields.{IsSmall};
 
 use mo_types::Field;
 
@@ -16,7 +17,7 @@ fn byte_at(bytes: &[u8], at: u64) -> u8
 /// The number in a field, without sign.
 #[tactic(auto, using(crate::proofs::NumberLemmas::numbers), unfolding(mo_types::specs::RelocationRules::field_number))]
 pub fn field_number(bytes: &[u8], field: Field) -> u64
-    requires { field.offset < 2 ^ 32 }
+    requires { IsSmall field }
     ensures value { result ≡ rules.field_number bytes.now field }
     ensures small { field.size ≡ 4 → result < 2 ^ 32 }
 {
@@ -43,7 +44,7 @@ pub fn field_number(bytes: &[u8], field: Field) -> u64
 
 /// The number in a field, in two's complement.
 pub fn field_signed(bytes: &[u8], field: Field) -> i64
-    requires { field.offset < 2 ^ 32 }
+    requires { IsSmall field }
     ensures { result ≡ refs.field_signed bytes.now field }
 {
     let number = field_number(bytes, field);

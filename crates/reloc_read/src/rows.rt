@@ -1,8 +1,9 @@
 //! The rows of the table of relocations (`mach-o/arm64/reloc.h`).
 
-ghost use Rattle.std.specs.Prelude.{◌≡◌, ◌<◌, length};
+ghost use Rattle.std.specs.Prelude.{◌≡◌, ◌≤◌, IfSome};
 ghost use Rattle.mo_types.specs.RelocationRules as rules;
 ghost use Rattle.mo_types.specs.Rows as rows;
+ghost use Rattle.reloc_read.specs.Fields.{IsSmall};
 
 use mo_types::{Field, RawReloc, RefKind};
 
@@ -161,8 +162,10 @@ pub fn kind_at(relocs: &[RawReloc], at: usize) -> Option<RefKind>
 }
 
 /// The bytes of a field.
-pub fn field_size(kind: RefKind) -> u64
-    ensures { result ≡ rows.field_size kind }
+fn field_size(kind: RefKind) -> u64
+    ensures value { result ≡ rows.field_size kind }
+    ensures low { 4 ≤ result }
+    ensures high { result ≤ 8 }
 {
     match kind {
         RefKind::Pointer | RefKind::Diff64 | RefKind::GotPointer => 8,
@@ -184,15 +187,25 @@ pub fn is_instruction(kind: RefKind) -> bool
     )
 }
 
+// The field of a row of this kind.
+fn field_of(address: u32, kind: RefKind) -> Field
+    ensures offset { result.offset ≡ address }
+    ensures size { result.size ≡ rows.field_size kind }
+    ensures small { IsSmall result }
+{
+    Field {
+        offset: u64::from(address),
+        size: field_size(kind),
+    }
+}
+
 /// The field of the row that ends at a place.
 #[tactic(auto, unfolding(mo_types::specs::RelocationRules::field_at))]
 pub fn field_at(relocs: &[RawReloc], at: usize) -> Option<Field>
-    ensures { result ≡ rules.field_at relocs.now at }
+    ensures value { result ≡ rules.field_at relocs.now at }
+    ensures small { IfSome result IsSmall }
 {
     let kind = kind_at(relocs, at)?;
-    let reloc = relocs.get(at)?;
-    Some(Field {
-        offset: u64::from(reloc.address),
-        size: field_size(kind),
-    })
+    let address = relocs.get(at)?.address;
+    Some(field_of(address, kind))
 }
