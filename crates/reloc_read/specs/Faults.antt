@@ -12,6 +12,15 @@ lesser None b = b
 lesser (Some a) None = Some a
 lesser (Some a) (Some b) = Some (min a b)
 
+-- the lesser place of each rule
+abbrev pub merged : Faults → Faults → Faults
+merged a b = record {
+    pair = lesser a.pair b.pair;
+    shape = lesser a.shape b.shape;
+    place = lesser a.place b.place;
+    target = lesser a.target b.target;
+  }
+
 -- a place for each rule
 abbrev pub by_rule : (RelocationRule → Option ℕ) → Faults
 by_rule place = record {

@@ -42,10 +42,7 @@ const NONE: Faults = Faults {
 };
 
 fn merge(a: Faults, b: Faults) -> Faults
-    ensures pair { result.pair ≡ faults.lesser a.pair b.pair }
-    ensures shape { result.shape ≡ faults.lesser a.shape b.shape }
-    ensures place { result.place ≡ faults.lesser a.place b.place }
-    ensures target { result.target ≡ faults.lesser a.target b.target }
+    ensures { result ≡ faults.merged a b }
 {
     Faults {
         pair: lesser(a.pair, b.pair),
@@ -63,4 +60,66 @@ fn place_of(section: &Section, index: Option<usize>) -> Option<u64>
 {
     let index = index?;
     Some(section.reloc_offset + 8 * index as u64)
+}
+
+#[tactic(auto, using(crate::proofs::LinkedLemmas::linked))]
+fn row_faults(linked: &LinkedSection, at: usize, apart: bool) -> Faults
+    requires linked { IsLinked linked.now }
+    requires index { at < length linked.now.section.now.relocs }
+    requires apart { apart ≡ true → AreApart linked.now.section.now.relocs }
+    ensures { result ≡ faults.row_faults linked.now.cut.object.now (linked.now.index + 1) linked.now.section.now at }
+{
+    let section = linked.section;
+    Faults {
+        pair: place_of(section, pair_fault(section, at)),
+        shape: place_of(section, shape_fault(section, at)),
+        place: place_of(section, place_fault(linked, at, apart)),
+        target: place_of(section, target_fault(linked.cut.object, section, at)),
+    }
+}
+
+// The faults of a linked section; `apart` says that no two of its fields overlap.
+#[tactic(auto, using(crate::proofs::FaultLemmas::rows))]
+fn section_faults(linked: &LinkedSection, apart: bool) -> Faults
+    requires linked { IsLinked linked.now }
+    requires apart { apart ≡ true → AreApart linked.now.section.now.relocs }
+    ensures { result ≡ faults.section_faults linked.now.cut.object.now (linked.now.index + 1) linked.now.section.now }
+{
+    let mut found = NONE;
+    for at in 0..linked.section.relocs.len() {
+        found = merge(found, row_faults(linked, at, apart));
+    }
+    found
+}
+
+#[tactic(auto, using(crate::proofs::FaultLemmas::sections))]
+fn faults_at(alloc: Global, cut: &CutObject, index: usize) -> Result<Faults, OutOfMemory>
+    requires cut { IsCut cut.now }
+    requires index { index < length cut.now.object.now.sections }
+    ensures { IfOk result (λ found. (d : Section) → found ≡ faults.section_faults cut.now.object.now (index + 1) (slice_index_or cut.now.object.now.sections index d)) }
+{
+    let section = &cut.object.sections.as_slice()[index];
+    if section.is_dropped() {
+        return Ok(NONE);
+    }
+    let linked = LinkedSection {
+        cut: *cut,
+        index,
+        section,
+    };
+    let apart = are_apart(alloc, section.relocs.as_slice())?;
+    Ok(section_faults(&linked, apart))
+}
+
+/// The least places at which the rules fail.
+#[tactic(auto, using(crate::proofs::FaultLemmas::objects))]
+pub fn all_faults(alloc: Global, cut: &CutObject) -> Result<Faults, OutOfMemory>
+    requires { IsCut cut.now }
+    ensures { IfOk result (λ found. found ≡ faults.all_faults cut.now.object.now) }
+{
+    let mut found = NONE;
+    for index in 0..cut.object.sections.len() {
+        found = merge(found, faults_at(alloc, cut, index)?);
+    }
+    Ok(found)
 }
