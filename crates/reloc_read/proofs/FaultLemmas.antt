@@ -98,7 +98,7 @@ first_is object rule = refl
 pub sections_begin : (object : Object) → AreSections object 0 (record { pair = None; shape = None; place = None; target = None })
 sections_begin object = record { same = by_rule_same (λ rule. least (faults_from rule object 1 object.sections)) (λ rule. first_fault rule object) (first_is object) }
 
-element_at : {A : Type 0} (xs : List A) (at : ℕ) → at < length xs → (x : A) × (x ≡ get_or xs at x)
+pub element_at : {A : Type 0} (xs : List A) (at : ℕ) → at < length xs → (x : A) × (x ≡ get_or xs at x)
 element_at [] at within = absurd (omega arith)
 element_at (x ∷ xs) zero within = (x, refl)
 element_at (x ∷ xs) (suc at) within = element_at xs at (omega arith)

@@ -1,5 +1,5 @@
 -- What holds of a linked section.
-use Rattle.std.proofs.Common.{◌≡◌, ℕ, ◌+◌, ◌*◌, ◌^◌, ◌<◌, List, false, length, get_or, sym, ap, ◌∙◌, subst}
+use Rattle.std.proofs.Common.{◌≡◌, ℕ, ◌+◌, ◌*◌, ◌^◌, ◌<◌, ◌≤◌, List, false, length, get_or, sym, ap, ◌∙◌, subst, arith}
 use Rattle.std.proofs.lemmas.List.{get_or_read}
 use Rattle.mo_types.specs.declared.object.Section.{Section}
 use Rattle.mo_types.specs.Whole.{is_dropped, IsWholeSection}
@@ -22,4 +22,13 @@ has_room linked is = (is_whole linked is).relocations
 pub stands_at : (sections : List Section) (index : ℕ) (section : Section) → index < length sections → section ≡ get_or sections index section → (d : Section) → get_or sections index d ≡ section
 stands_at sections index section within is d = sym (get_or_read sections index section within is d)
 
-pub ruleset linked = (kept_at, has_room)
+pub file_room : (linked : LinkedSection) → IsLinked linked → linked.section.now.file_offset + linked.section.now.size < 2 ^ 64
+file_room linked is = (is_whole linked is).contents
+
+pub few_sections : (linked : LinkedSection) → IsLinked linked → linked.index < 255
+few_sections linked is =
+    let within : linked.index < length linked.cut.object.now.sections = is.within in
+    let few : length linked.cut.object.now.sections ≤ 255 = is.cut.whole.few_sections in
+    omega arith
+
+pub ruleset linked = (kept_at, has_room, file_room, few_sections)

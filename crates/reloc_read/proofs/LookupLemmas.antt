@@ -332,3 +332,10 @@ pub finds_some : (object : Object) (file : FileId) (index offset n : ℕ) (atoms
 finds_some object file index offset n atoms is within linked bound point =
     let d : Section = element_at object.sections index within in
     (finds object file index d offset n atoms is within (linked d) bound point).some
+
+pub finds_within : (object : Object) (file : FileId) (index offset n : ℕ) (atoms : List Atom) → atoms ≡ atoms_of object file → index < length object.sections → ((d : Section) → is_dropped (get_or object.sections index d) ≡ false) → n ≤ length atoms → Parted (index + 1) offset atoms n → (x : Atom) → (get_or atoms (n - 1) x).key.offset ≤ offset
+finds_within object file index offset n atoms is within linked bound point x =
+    let d : Section = element_at object.sections index within in
+    let e : (get_or atoms (n - 1) x).key.offset ≡ cut_of object (index + 1) (get_or object.sections index d) offset = (finds object file index d offset n atoms is within (linked d) bound point).offset_is x in
+    let low : cut_of object (index + 1) (get_or object.sections index d) offset ≤ offset = (greatest_cut object (index + 1) (get_or object.sections index d) offset).within in
+    subst (λ (k : ℕ). k ≤ offset) (sym e) low

@@ -1,5 +1,5 @@
 -- What holds of a row where no rule fails.
-use Rattle.std.proofs.Common.{◌≡◌, ℕ, zero, suc, ◌+◌, ◌*◌, ◌<◌, ◌≤◌, ◌++◌, ◌∷◌, [], ◌&&◌, ◌||◌, inl, inr, List, length, get_or, Bool, true, false, not, cond, leb, Option, Some, None, if◌then◌else◌, refl, sym, ap, ◌∙◌, subst, arith}
+use Rattle.std.proofs.Common.{◌≡◌, ℕ, zero, suc, ◌+◌, ◌-◌, ◌*◌, ◌<◌, ◌≤◌, ◌++◌, ◌∷◌, [], ◌&&◌, ◌||◌, inl, inr, List, length, get_or, Bool, true, false, not, cond, leb, Option, Some, None, if◌then◌else◌, refl, sym, ap, ◌∙◌, subst, arith}
 use Rattle.std.specs.List.{cons_option, filter_map, range_with_len}
 use Rattle.std.specs.Option.{option_map, option_map_or, option_and_then}
 use Rattle.std.proofs.lemmas.Bool.{cases_lt, false≢true, leb-true}
@@ -87,3 +87,25 @@ field_fits object number section at kind field none is its =
     let c = (neither _ _ b).0 in
     let d = (neither _ _ c).1 in
     leb-true (field.offset + field.size) section.size ((both _ _ (not_false _ d)).0)
+
+pub target_is_good : (object : Object) (number : ℕ) (section : Section) (at : ℕ) (reloc : RawReloc) (field : Field) → target_fault object number section at ≡ None → last_at section.relocs at ≡ Some reloc → field_at section.relocs at ≡ Some field → is_bad_target object section.bytes field reloc ≡ false
+unfolding target_fault
+target_is_good object number section at reloc field none is its =
+    second (option_map_or (λ first. is_subtractor first && is_bad_target object section.bytes field first) (first_before section.relocs at) false) (is_bad_target object section.bytes field reloc) at (at - 1) (rw (its, is) at none)
+  where
+    second : (a b : Bool) (x y : ℕ) → (if a then Some y else when b x) ≡ None → b ≡ false
+    second true b x y e = cc
+    second false b x y e = unless b x e
+
+pub ruleset good_rows = (field_fits, target_is_good)
+
+held : (section : Section) (address : ℕ) (dropped within : Bool) → is_dropped section ≡ dropped → is_within section address ≡ within → (dropped || not within) ≡ false → (is_dropped section ≡ false) × (section.address ≤ address)
+held section address true within e w none = absurd (false≢true (sym none))
+held section address false true e w none = (e, leb-true section.address address ((both _ _ w).0))
+held section address false false e w none = absurd (false≢true (sym none))
+
+-- the section of a target that isn't outside is linked
+pub target_section : (object : Object) (bytes : List ℕ) (field : Field) (reloc : RawReloc) (section : Section) → is_bad_target object bytes field reloc ≡ false → reloc.external ≡ false → section_numbered object.sections reloc.number ≡ Some section → (is_dropped section ≡ false) × (section.address ≤ field_number bytes field)
+target_section object bytes field reloc section good local is =
+    let outside : is_outside object.sections reloc.number (field_number bytes field) ≡ false = rw local at good in
+    held section (field_number bytes field) (is_dropped section) (is_within section (field_number bytes field)) refl refl (rw is at outside)

@@ -17,7 +17,7 @@ none_at_first test = record { none = λ k below. absurd (omega arith) }
 pub none_so_far : (test : ℕ → Bool) (bound : ℕ) → NoneBelow test bound → test bound ≡ false → NoneBelow test (bound + 1)
 none_so_far test bound before here = record { none = λ k below. elim (cases_lt k bound) [ inl less ↦ before.none k less | inr more ↦ let same : bound ≡ k = omega arith in subst (λ (n : ℕ). test n ≡ false) same here ] }
 
-any_in_range : (test : ℕ → Bool) (a n k : ℕ) → a ≤ k → k < a + n → test k ≡ true → list_any test (range_with_len a n) ≡ true
+pub any_in_range : (test : ℕ → Bool) (a n k : ℕ) → a ≤ k → k < a + n → test k ≡ true → list_any test (range_with_len a n) ≡ true
 any_in_range test a zero k low high pass = absurd (omega arith)
 any_in_range test a (suc n) k low high pass =
     elim (cases_lt a k) [

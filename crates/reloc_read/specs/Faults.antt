@@ -1,5 +1,5 @@
 -- The least place at which each rule fails.
-use Rattle.std.specs.Prelude.{ℕ, ◌+◌, ◌*◌, min, Option, Some, None}
+use Rattle.std.specs.Prelude.{ℕ, ◌+◌, ◌*◌, ◌≡◌, min, Option, Some, None}
 use Rattle.std.specs.Option.{option_map}
 use Rattle.mo_types.specs.declared.object.Object.{Object}
 use Rattle.mo_types.specs.declared.object.Section.{Section}
@@ -42,3 +42,8 @@ section_faults object number section = by_rule (λ rule. least (faults_in rule o
 
 abbrev pub all_faults : Object → Faults
 all_faults object = by_rule (λ rule. first_fault rule object)
+
+-- the rules of places and targets hold
+pub record IsClean (object : Object) : Type 0 where
+  pub place : first_fault place_fault object ≡ None
+  pub target : first_fault target_fault object ≡ None

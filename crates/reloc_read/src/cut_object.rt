@@ -40,7 +40,8 @@ pub fn cut_of(cut: &CutObject, index: usize, offset: u64) -> u64
     requires cut { IsCut cut.now }
     requires index { index < length cut.now.object.now.sections }
     requires linked { (d : Section) → is_dropped (slice_index_or cut.now.object.now.sections index d) ≡ false }
-    ensures { (d : Section) → result ≡ cutting.cut_of cut.now.object.now (index + 1) (slice_index_or cut.now.object.now.sections index d) offset }
+    ensures value { (d : Section) → result ≡ cutting.cut_of cut.now.object.now (index + 1) (slice_index_or cut.now.object.now.sections index d) offset }
+    ensures within { result ≤ offset }
 {
     let atoms = cut.atoms;
     let after = count_up_to(atoms, index as u16 + 1, offset);

@@ -1,6 +1,6 @@
 //! A linked section of an object with its atoms.
 
-ghost use Rattle.std.specs.Prelude.{◌≡◌, ◌+◌};
+ghost use Rattle.std.specs.Prelude.{◌≡◌, ◌+◌, ◌≤◌};
 ghost use Rattle.mo_types.specs.Atoms as cutting;
 ghost use Rattle.reloc_read.specs.LinkedSection.{IsLinked};
 
@@ -19,7 +19,8 @@ pub struct LinkedSection<'a> {
 #[tactic(auto, using(crate::proofs::LinkedLemmas::linked))]
 pub fn cut_at(linked: &LinkedSection, offset: u64) -> u64
     requires { IsLinked linked.now }
-    ensures { result ≡ cutting.cut_of linked.now.cut.object.now (linked.now.index + 1) linked.now.section.now offset }
+    ensures value { result ≡ cutting.cut_of linked.now.cut.object.now (linked.now.index + 1) linked.now.section.now offset }
+    ensures within { result ≤ offset }
 {
     cut_of(&linked.cut, linked.index, offset)
 }

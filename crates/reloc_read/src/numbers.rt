@@ -57,12 +57,11 @@ pub fn field_signed(bytes: &[u8], field: Field) -> i64
 
 /// A number of 24 bits in two's complement.
 pub fn signed_24(number: u32) -> i64
-    requires { number < 2 ^ 24 }
     ensures { result ≡ refs.signed_24 number }
 {
     if number < 1 << 23 {
         i64::from(number)
     } else {
-        i64::from(number) - (1 << 24)
+        -1 - i64::from(0xff_ffff_u32.saturating_sub(number))
     }
 }

@@ -1,5 +1,5 @@
 use Rattle.std.proofs.Common.{ℕ, ◌<◌, ◌≤◌, length, arith}
-use Rattle.reloc_read.proofs.LookupLemmas.{finds, finds_some, rising_atoms}
+use Rattle.reloc_read.proofs.LookupLemmas.{finds, finds_some, finds_within, rising_atoms}
 use Rattle.reloc_read.proofs.cut_object.cut_of.Goals as goal
 
 pub count_up_to-after-requires : goal.count_up_to-after-requires
@@ -21,5 +21,8 @@ bounds-atoms-after-2 c =
     let bound : c.count_up_to-after.result ≤ length c.args.cut.now.atoms.now = c.count_up_to-after.ensures.bound in
     omega arith
 
-pub returns : goal.returns
-returns c = λ d. (finds c.args.cut.now.object.now c.args.cut.now.file c.args.index d c.args.offset c.count_up_to-after.result c.args.cut.now.atoms.now c.requires.cut.atoms c.requires.index (c.requires.linked d) c.count_up_to-after.ensures.bound c.count_up_to-after.ensures.point).offset_is c.index-atoms-after.result
+pub returns-clause-within : goal.returns-clause-within
+returns-clause-within c = finds_within c.args.cut.now.object.now c.args.cut.now.file c.args.index c.args.offset c.count_up_to-after.result c.args.cut.now.atoms.now c.requires.cut.atoms c.requires.index c.requires.linked c.count_up_to-after.ensures.bound c.count_up_to-after.ensures.point c.index-atoms-after.result
+
+pub returns-clause-value : goal.returns-clause-value
+returns-clause-value c = λ d. (finds c.args.cut.now.object.now c.args.cut.now.file c.args.index d c.args.offset c.count_up_to-after.result c.args.cut.now.atoms.now c.requires.cut.atoms c.requires.index (c.requires.linked d) c.count_up_to-after.ensures.bound c.count_up_to-after.ensures.point).offset_is c.index-atoms-after.result
