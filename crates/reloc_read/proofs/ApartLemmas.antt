@@ -79,11 +79,11 @@ overlap_flips a b = and_comm (ltb a.offset (b.offset + b.size)) (ltb b.offset (a
 
 distinct_sorted : (fields : List Field) → Follow fields → IsDistinct overlap fields
 distinct_sorted fields follow = IsDistinct-from_apart overlap fields (λ i j d less within.
-      let n : ℕ = j - (i + 1) in
-      let e : i + 1 + n ≡ j = omega arith in
-      let low : (get_or fields i d).offset + (get_or fields i d).size ≤ (get_or fields j d).offset =
-      subst (λ (k : ℕ). (get_or fields i d).offset + (get_or fields i d).size ≤ (get_or fields k d).offset) e (ends_before fields i n d follow (omega arith)) in
-      no_overlap (get_or fields i d) (get_or fields j d) low)
+    let n : ℕ = j - (i + 1) in
+    let e : i + 1 + n ≡ j = omega arith in
+    let low : (get_or fields i d).offset + (get_or fields i d).size ≤ (get_or fields j d).offset =
+    subst (λ (k : ℕ). (get_or fields i d).offset + (get_or fields i d).size ≤ (get_or fields k d).offset) e (ends_before fields i n d follow (omega arith)) in
+    no_overlap (get_or fields i d) (get_or fields j d) low)
 
 -- from the list of all fields to the rows
 
@@ -91,13 +91,14 @@ member_apart : (h : ℕ → Option Field) (field : Field) (a n j : ℕ) (other :
 member_apart h field a zero j other all low high is = absurd (omega arith)
 member_apart h field a (suc n) j other all low high is =
     elim (cases_lt a j) [
-      inl more ↦ member_apart h field (a + 1) n j other (rest (h a) (filter_map h (range_with_len (a + 1) n)) all) (omega arith) (omega arith) is
-    | inr less ↦ let same : j ≡ a = omega arith in first (h a) (filter_map h (range_with_len (a + 1) n)) (sym (ap h same) ∙ is) all
+      | inl more ↦ member_apart h field (a + 1) n j other (rest (h a) (filter_map h (range_with_len (a + 1) n)) all) (omega arith) (omega arith) is
+      | inr less ↦ let same : j ≡ a = omega arith in first (h a) (filter_map h (range_with_len (a + 1) n)) (sym (ap h same) ∙ is) all
     ]
   where
     rest : (o : Option Field) (xs : List Field) → AllByRecursion (λ y. overlap field y ≡ false) (cons_option o xs) → AllByRecursion (λ y. overlap field y ≡ false) xs
     rest None xs all = all
     rest (Some x) xs all = all.1
+
     first : (o : Option Field) (xs : List Field) → o ≡ Some other → AllByRecursion (λ y. overlap field y ≡ false) (cons_option o xs) → overlap field other ≡ false
     first None xs e all = cc
     first (Some x) xs e all = let same : x ≡ other = cc in subst (λ (y : Field). overlap field y ≡ false) same all.0
@@ -114,9 +115,9 @@ rows_apart : (h : ℕ → Option Field) (a n i j : ℕ) (field other : Field) �
 rows_apart h a zero i j field other distinct low less high is its = absurd (omega arith)
 rows_apart h a (suc n) i j field other distinct low less high is its =
     elim (cases_lt a i) [
-      inl more ↦ rows_apart h (a + 1) n i j field other (tail_distinct (h a) (filter_map h (range_with_len (a + 1) n)) distinct) (omega arith) less (omega arith) is its
-    | inr here ↦ let same : i ≡ a = omega arith in
-      member_apart h field (a + 1) n j other (head_distinct (h a) field (filter_map h (range_with_len (a + 1) n)) (sym (ap h same) ∙ is) distinct) (omega arith) (omega arith) its
+      | inl more ↦ rows_apart h (a + 1) n i j field other (tail_distinct (h a) (filter_map h (range_with_len (a + 1) n)) distinct) (omega arith) less (omega arith) is its
+      | inr here ↦ let same : i ≡ a = omega arith in
+          member_apart h field (a + 1) n j other (head_distinct (h a) field (filter_map h (range_with_len (a + 1) n)) (sym (ap h same) ∙ is) distinct) (omega arith) (omega arith) its
     ]
 
 tested : (field : Field) (o : Option Field) → ((other : Field) → o ≡ Some other → overlap field other ≡ false) → option_map_or (overlap field) o false ≡ false
@@ -134,11 +135,11 @@ apart_from_follow relocs found sorted is moved follow =
     record {
       apart = λ at field within here. none_in_range (overlaps_at relocs at field) 0 (length relocs) (λ k low high.
           not_itself (eqb k at) (option_map_or (overlap field) (field_at relocs k) false) (λ differ. tested field (field_at relocs k) (λ other there.
-              elim (cases_order at k) [
-                inl same ↦ absurd (eqb-false k at differ (sym same))
-              | inr (inl less) ↦ rows_apart (field_at relocs) 0 (length relocs) at k field other distinct (omega arith) less high here there
-              | inr (inr more) ↦ overlap_flips field other ∙ rows_apart (field_at relocs) 0 (length relocs) k at other field distinct (omega arith) more (omega arith) there here
-              ])));
+          elim (cases_order at k) [
+            | inl same ↦ absurd (eqb-false k at differ (sym same))
+            | inr (inl less) ↦ rows_apart (field_at relocs) 0 (length relocs) at k field other distinct (omega arith) less high here there
+            | inr (inr more) ↦ overlap_flips field other ∙ rows_apart (field_at relocs) 0 (length relocs) k at other field distinct (omega arith) more (omega arith) there here
+          ])));
     }
 
 pub ruleset aparts = (apart_from_follow)

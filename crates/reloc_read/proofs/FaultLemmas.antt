@@ -54,18 +54,18 @@ rows_begin object number section = record { same = refl }
 
 pub rows_go_on : (object : Object) (number : ℕ) (section : Section) (at : ℕ) (found row more : Faults) → AreRows object number section at found → row ≡ row_faults object number section at → more ≡ merged found row → AreRows object number section (at + 1) more
 rows_go_on object number section at found row more are is e = record {
-    same =
+  same =
       e ∙ ap (λ f. merged f row) are.same
       ∙ ap (merged (by_rule (λ rule. least (filter_map (placed object number section rule) (range_with_len 0 at))))) is
       ∙ by_rule_same
-        (λ rule. lesser (least (filter_map (placed object number section rule) (range_with_len 0 at))) (placed object number section rule at))
-        (λ rule. least (filter_map (placed object number section rule) (range_with_len 0 (at + 1))))
-        (λ rule. sym (
-            ap least (mapped_more (placed object number section rule) at (placed object number section rule at) refl)
-            ∙ least-append (filter_map (placed object number section rule) (range_with_len 0 at)) (option_to_list (placed object number section rule at))
-            ∙ ap (lesser (least (filter_map (placed object number section rule) (range_with_len 0 at)))) (least_one (placed object number section rule at))
-          ))
-  }
+      (λ rule. lesser (least (filter_map (placed object number section rule) (range_with_len 0 at))) (placed object number section rule at))
+      (λ rule. least (filter_map (placed object number section rule) (range_with_len 0 (at + 1))))
+      (λ rule. sym (
+      ap least (mapped_more (placed object number section rule) at (placed object number section rule at) refl)
+      ∙ least-append (filter_map (placed object number section rule) (range_with_len 0 at)) (option_to_list (placed object number section rule at))
+      ∙ ap (lesser (least (filter_map (placed object number section rule) (range_with_len 0 at)))) (least_one (placed object number section rule at))
+      ));
+}
 
 linked_faults : (object : Object) (number : ℕ) (section : Section) (rule : RelocationRule) → is_dropped section ≡ false → filter_map (placed object number section rule) (range_with_len 0 (length section.relocs)) ≡ faults_in rule object number section
 unfolding faults_in
@@ -74,9 +74,9 @@ linked_faults object number section rule kept = rw kept refl
 pub rows_end : (object : Object) (number : ℕ) (section : Section) (at : ℕ) (found : Faults) → AreRows object number section at found → is_dropped section ≡ false → at ≡ length section.relocs → found ≡ section_faults object number section
 rows_end object number section at found are kept is =
     are.same ∙ by_rule_same
-      (λ rule. least (filter_map (placed object number section rule) (range_with_len 0 at)))
-      (λ rule. least (faults_in rule object number section))
-      (λ rule. ap (λ n. least (filter_map (placed object number section rule) (range_with_len 0 n))) is ∙ ap least (linked_faults object number section rule kept))
+    (λ rule. least (filter_map (placed object number section rule) (range_with_len 0 at)))
+    (λ rule. least (faults_in rule object number section))
+    (λ rule. ap (λ n. least (filter_map (placed object number section rule) (range_with_len 0 n))) is ∙ ap least (linked_faults object number section rule kept))
 
 pub ruleset rows = (rows_begin, rows_go_on, rows_end)
 
@@ -111,13 +111,13 @@ sections_go_on object index found here more are within is e =
     let own : RelocationRule → Option ℕ = λ rule. least (faults_in rule object (index + 1) this) in
     let from : (rule : RelocationRule) → least (faults_from rule object (index + 1) (drop index object.sections)) ≡ lesser (own rule) (rest rule) =
     λ rule. ap (λ xs. least (faults_from rule object (index + 1) xs)) (drop_more object.sections index section within)
-      ∙ least-append (faults_in rule object (index + 1) this) (faults_from rule object (index + 1 + 1) (drop (index + 1) object.sections)) in
+    ∙ least-append (faults_in rule object (index + 1) this) (faults_from rule object (index + 1 + 1) (drop (index + 1) object.sections)) in
     record {
       same =
-        ap (λ f. merged f (by_rule rest)) (e ∙ ap (merged found) (is section))
-        ∙ rw (← lesser_assoc found.pair (own pair_fault) (rest pair_fault), ← lesser_assoc found.shape (own shape_fault) (rest shape_fault), ← lesser_assoc found.place (own place_fault) (rest place_fault), ← lesser_assoc found.target (own target_fault) (rest target_fault)) refl
-        ∙ ap (merged found) (sym (by_rule_same (λ rule. least (faults_from rule object (index + 1) (drop index object.sections))) (λ rule. lesser (own rule) (rest rule)) from))
-        ∙ are.same
+          ap (λ f. merged f (by_rule rest)) (e ∙ ap (merged found) (is section))
+          ∙ rw (← lesser_assoc found.pair (own pair_fault) (rest pair_fault), ← lesser_assoc found.shape (own shape_fault) (rest shape_fault), ← lesser_assoc found.place (own place_fault) (rest place_fault), ← lesser_assoc found.target (own target_fault) (rest target_fault)) refl
+          ∙ ap (merged found) (sym (by_rule_same (λ rule. least (faults_from rule object (index + 1) (drop index object.sections))) (λ rule. lesser (own rule) (rest rule)) from))
+          ∙ are.same;
     }
 
 ended : (found : Faults) → merged found (record { pair = None; shape = None; place = None; target = None }) ≡ found
@@ -127,8 +127,9 @@ pub sections_end : (object : Object) (index : ℕ) (found : Faults) → AreSecti
 sections_end object index found are past =
     sym (ended found)
     ∙ ap (merged found) (by_rule_same (λ rule. None) (λ rule. least (faults_from rule object (index + 1) (drop index object.sections)))
-        (λ rule. ap (λ xs. least (faults_from rule object (index + 1) xs)) (sym (drop_all index object.sections past))))
+    (λ rule. ap (λ xs. least (faults_from rule object (index + 1) xs)) (sym (drop_all index object.sections past))))
     ∙ are.same
 
 pub ruleset objects = (sections_begin, sections_go_on, sections_end)
+
 pub ruleset sections = (dropped_faults)

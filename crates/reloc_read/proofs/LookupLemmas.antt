@@ -36,10 +36,10 @@ UpTo number offset key = (key.section < number) ⊎ ((key.section ≡ number) ×
 up_to_is : (number offset : ℕ) (key : AtomKey) → is_up_to number offset key ≡ true → UpTo number offset key
 up_to_is number offset key e =
     elim (either (ltb key.section number) (eqb key.section number && leb key.offset offset) e) [
-      inl before ↦ inl (ltb-true key.section number before)
-    | inr here ↦
-      let parts : (eqb key.section number ≡ true) × (leb key.offset offset ≡ true) = both _ _ here in
-      inr (eqb-true key.section number parts.0, leb-true key.offset offset parts.1)
+      | inl before ↦ inl (ltb-true key.section number before)
+      | inr here ↦
+          let parts : (eqb key.section number ≡ true) × (leb key.offset offset ≡ true) = both _ _ here in
+          inr (eqb-true key.section number parts.0, leb-true key.offset offset parts.1)
     ]
 
 is_in : (number offset : ℕ) (key : AtomKey) → UpTo number offset key → is_up_to number offset key ≡ true
@@ -62,8 +62,8 @@ before_is_in number offset a b (inr less) (inr here) =
 pub keys_are_parted : (number offset : ℕ) (atoms : List Atom) → AllPairs (λ a b. IsBefore a.key b.key) atoms → IsPartitionedBy (λ atom. is_up_to number offset atom.key) atoms
 keys_are_parted number offset atoms rise i j d less within pass =
     elim (cases_lt i j) [
-      inl below ↦ is_in number offset (get_or atoms i d).key (before_is_in number offset (get_or atoms i d).key (get_or atoms j d).key (rise i j d below within) (up_to_is number offset (get_or atoms j d).key pass))
-    | inr above ↦ let same : j ≡ i = omega arith in subst (λ (k : ℕ). is_up_to number offset (get_or atoms k d).key ≡ true) same pass
+      | inl below ↦ is_in number offset (get_or atoms i d).key (before_is_in number offset (get_or atoms i d).key (get_or atoms j d).key (rise i j d below within) (up_to_is number offset (get_or atoms j d).key pass))
+      | inr above ↦ let same : j ≡ i = omega arith in subst (λ (k : ℕ). is_up_to number offset (get_or atoms k d).key ≡ true) same pass
     ]
 
 -- some atom has a property
@@ -110,8 +110,8 @@ in_filter : (p : ℕ → Bool) (a n y : ℕ) → a ≤ y → y < a + n → p y �
 in_filter p a zero y low high pass = absurd (omega arith)
 in_filter p a (suc n) y low high pass =
     elim (cases_lt a y) [
-      inl more ↦ kept_later y (p a) a (filter p (range_with_len (a + 1) n)) (in_filter p (a + 1) n y (omega arith) (omega arith) pass)
-    | inr less ↦ let same : a ≡ y = omega arith in kept_first y (p a) a (filter p (range_with_len (a + 1) n)) (ap p same ∙ pass) same
+      | inl more ↦ kept_later y (p a) a (filter p (range_with_len (a + 1) n)) (in_filter p (a + 1) n y (omega arith) (omega arith) pass)
+      | inr less ↦ let same : a ≡ y = omega arith in kept_first y (p a) a (filter p (range_with_len (a + 1) n)) (ap p same ∙ pass) same
     ]
 
 cut_is_small : (object : Object) (number : ℕ) (section : Section) (y : ℕ) → is_cut object number section y ≡ true → (y ≡ 0) ⊎ (y < section.size)
@@ -123,10 +123,10 @@ cut_is_listed : (object : Object) (number : ℕ) (section : Section) (y : ℕ) �
 unfolding cuts
 cut_is_listed object number section y pass =
     elim (cases_eq 0 y) [
-      inl start ↦ inl start
-    | inr other ↦ inr (elim (cut_is_small object number section y pass) [
-        inl start ↦ absurd (other (sym start))
-      | inr small ↦ let more : 1 ≤ y = positive y other in in_filter (is_cut object number section) 1 (section.size - 1) y more (omega arith) pass
+      | inl start ↦ inl start
+      | inr other ↦ inr (elim (cut_is_small object number section y pass) [
+        | inl start ↦ absurd (other (sym start))
+        | inr small ↦ let more : 1 ≤ y = positive y other in in_filter (is_cut object number section) 1 (section.size - 1) y more (omega arith) pass
       ])
     ]
   where
@@ -153,12 +153,12 @@ sections_begin object file number (section ∷ sections) zero d y within linked 
     let same : number + zero ≡ number = omega arith in
     in_first (HasKey (number + zero) y) (section_atoms object file number section) (atoms_from object file (number + 1) sections)
     (subst (λ (n : ℕ). Some_has (HasKey n y) (section_atoms object file number section)) (sym same)
-      (section_begins object file number section y linked (subst (λ (n : ℕ). is_cut object n section y ≡ true) same pass)))
+    (section_begins object file number section y linked (subst (λ (n : ℕ). is_cut object n section y ≡ true) same pass)))
 sections_begin object file number (section ∷ sections) (suc index) d y within linked pass =
     let same : number + 1 + index ≡ number + suc index = omega arith in
     in_second (HasKey (number + suc index) y) (section_atoms object file number section) (atoms_from object file (number + 1) sections)
     (subst (λ (n : ℕ). Some_has (HasKey n y) (atoms_from object file (number + 1) sections)) same
-      (sections_begin object file (number + 1) sections index d y (omega arith) linked (subst (λ (n : ℕ). is_cut object n (get_or sections index d) y ≡ true) (sym same) pass)))
+    (sections_begin object file (number + 1) sections index d y (omega arith) linked (subst (λ (n : ℕ). is_cut object n (get_or sections index d) y ≡ true) (sym same) pass)))
 
 -- each atom begins at a cut
 
@@ -210,14 +210,14 @@ sections_at_cuts object file number (section ∷ sections) zero d within =
     joined (AtCut object (number + zero) section) (section_atoms object file number section) (atoms_from object file (number + 1) sections)
     (subst (λ (n : ℕ). AllByRecursion (AtCut object n section) (section_atoms object file number section)) same (section_at_cuts object file number section))
     (weaker (IsInOrAfter (number + 1)) (AtCut object (number + zero) section) (λ atom after is. let far : number + 1 ≤ atom.key.section = after in absurd (omega arith))
-      (atoms_from object file (number + 1) sections) (sections_stand object file (number + 1) sections))
+    (atoms_from object file (number + 1) sections) (sections_stand object file (number + 1) sections))
 sections_at_cuts object file number (section ∷ sections) (suc index) d within =
     let same : number + 1 + index ≡ number + suc index = omega arith in
     joined (AtCut object (number + suc index) (get_or sections index d)) (section_atoms object file number section) (atoms_from object file (number + 1) sections)
     (weaker (StandsFrom number 0) (AtCut object (number + suc index) (get_or sections index d)) (λ atom stands is. let here : atom.key.section ≡ number = stands.section in absurd (omega arith))
-      (section_atoms object file number section) (atoms_stand object file number section))
+    (section_atoms object file number section) (atoms_stand object file number section))
     (subst (λ (n : ℕ). AllByRecursion (AtCut object n (get_or sections index d)) (atoms_from object file (number + 1) sections)) same
-      (sections_at_cuts object file (number + 1) sections index d (omega arith)))
+    (sections_at_cuts object file (number + 1) sections index d (omega arith)))
 
 -- the search
 
@@ -227,8 +227,8 @@ Parted number offset atoms n = IsPartitionPoint (λ (atom : Atom). is_up_to numb
 comes_before : (number offset : ℕ) (atoms : List Atom) (n j : ℕ) (x : Atom) → Parted number offset atoms n → j < length atoms → UpTo number offset (get_or atoms j x).key → j < n
 comes_before number offset atoms n j x point within up =
     elim (cases_lt j n) [
-      inl below ↦ below
-    | inr past ↦ absurd (false≢true (sym (point.1 j x past within) ∙ is_in number offset (get_or atoms j x).key up))
+      | inl below ↦ below
+      | inr past ↦ absurd (false≢true (sym (point.1 j x past within) ∙ is_in number offset (get_or atoms j x).key up))
     ]
 
 key_at : (number y : ℕ) (atoms : List Atom) (place : Place (HasKey number y) atoms) → ((get_or atoms place.at place.atom).key.section ≡ number) × ((get_or atoms place.at place.atom).key.offset ≡ y)
@@ -242,22 +242,24 @@ not_after number offset y atoms n x rise bound point low place =
     let section : (get_or atoms place.at x).key.section ≡ number = key.0 in
     let offset_is : (get_or atoms place.at x).key.offset ≡ y = key.1 in
     let inside : place.at < length atoms = place.within in
-    let less : place.at < n = comes_before number offset atoms n place.at x point inside (inr (section, omega arith)) in
-    (omega arith, elim (cases_lt place.at (n - 1)) [
-      inl below ↦ elim (rise place.at (n - 1) x below (omega arith)) [
-        inl further ↦ inl (omega arith)
-      | inr same ↦
-        let sections : (get_or atoms place.at x).key.section ≡ (get_or atoms (n - 1) x).key.section = same.0 in
-        let offsets : (get_or atoms place.at x).key.offset < (get_or atoms (n - 1) x).key.offset = same.1 in
-        inr (sym sections ∙ section, omega arith)
-      ]
-    | inr last ↦
-      let is : place.at ≡ n - 1 = omega arith in
-      let here : ((get_or atoms (n - 1) x).key.section ≡ number) × ((get_or atoms (n - 1) x).key.offset ≡ y) =
-      subst (λ (k : ℕ). ((get_or atoms k x).key.section ≡ number) × ((get_or atoms k x).key.offset ≡ y)) is key in
-      let offset_here : (get_or atoms (n - 1) x).key.offset ≡ y = here.1 in
-      inr (here.0, omega arith)
-    ])
+    let less : place.at < n = comes_before number offset atoms n place.at x point inside (inr (section, omega arith)) in (
+      omega arith,
+      elim (cases_lt place.at (n - 1)) [
+        | inl below ↦ elim (rise place.at (n - 1) x below (omega arith)) [
+          | inl further ↦ inl (omega arith)
+          | inr same ↦
+              let sections : (get_or atoms place.at x).key.section ≡ (get_or atoms (n - 1) x).key.section = same.0 in
+              let offsets : (get_or atoms place.at x).key.offset < (get_or atoms (n - 1) x).key.offset = same.1 in
+              inr (sym sections ∙ section, omega arith)
+        ]
+        | inr last ↦
+            let is : place.at ≡ n - 1 = omega arith in
+            let here : ((get_or atoms (n - 1) x).key.section ≡ number) × ((get_or atoms (n - 1) x).key.offset ≡ y) =
+            subst (λ (k : ℕ). ((get_or atoms k x).key.section ≡ number) × ((get_or atoms k x).key.offset ≡ y)) is key in
+            let offset_here : (get_or atoms (n - 1) x).key.offset ≡ y = here.1 in
+            inr (here.0, omega arith)
+      ],
+    )
 
 greatest_is_one : (test : ℕ → Bool) (bound a b : ℕ) → IsGreatest test bound a → IsGreatest test bound b → a ≡ b
 greatest_is_one test bound a b first second =
@@ -279,24 +281,26 @@ finds_in object file index d offset n number is rise within linked bound point =
     let section : Section = get_or object.sections index d in
     let place : (y : ℕ) → is_cut object number section y ≡ true → Place (HasKey number y) atoms =
     λ y pass. place_of (HasKey number y) atoms (subst (λ (k : ℕ). Some_has (HasKey k y) atoms) (sym is)
-        (sections_begin object file 1 object.sections index d y within linked (subst (λ (k : ℕ). is_cut object k section y ≡ true) is pass))) in
+    (sections_begin object file 1 object.sections index d y within linked (subst (λ (k : ℕ). is_cut object k section y ≡ true) is pass))) in
     let first : Place (HasKey number 0) atoms = place 0 (start_is_cut object number section) in
     let some : 0 < n = (not_after number offset 0 atoms n first.atom rise bound point (omega arith) first).0 in
     let at_cuts : AllByRecursion (AtCut object number section) atoms =
-    subst (λ (k : ℕ). AllByRecursion (AtCut object k section) atoms) (sym is) (sections_at_cuts object file 1 object.sections index d within) in
-    (some, λ x.
-      let last : Atom = get_or atoms (n - 1) x in
-      let up : UpTo number offset last.key = up_to_is number offset last.key (point.0 (n - 1) x (omega arith) (omega arith)) in
-      let from_first : (number < last.key.section) ⊎ ((last.key.section ≡ number) × (0 ≤ last.key.offset)) = (not_after number offset 0 atoms n x rise bound point (omega arith) first).1 in
-      let here : (last.key.section ≡ number) × (last.key.offset ≤ offset) = in_section number offset last.key up from_first in
-      record {
-        passes = All-from_recursion (AtCut object number section) atoms at_cuts (n - 1) x (omega arith) here.0;
-        within = here.1;
-        above_all = λ k pass low. elim ((not_after number offset k atoms n x rise bound point low (place k pass)).1) [
-            inl further ↦ let same : last.key.section ≡ number = here.0 in absurd (omega arith)
-          | inr parts ↦ parts.1
-          ];
-      })
+    subst (λ (k : ℕ). AllByRecursion (AtCut object k section) atoms) (sym is) (sections_at_cuts object file 1 object.sections index d within) in (
+      some,
+      λ x.
+          let last : Atom = get_or atoms (n - 1) x in
+          let up : UpTo number offset last.key = up_to_is number offset last.key (point.0 (n - 1) x (omega arith) (omega arith)) in
+          let from_first : (number < last.key.section) ⊎ ((last.key.section ≡ number) × (0 ≤ last.key.offset)) = (not_after number offset 0 atoms n x rise bound point (omega arith) first).1 in
+          let here : (last.key.section ≡ number) × (last.key.offset ≤ offset) = in_section number offset last.key up from_first in
+          record {
+            passes = All-from_recursion (AtCut object number section) atoms at_cuts (n - 1) x (omega arith) here.0;
+            within = here.1;
+            above_all = λ k pass low. elim ((not_after number offset k atoms n x rise bound point low (place k pass)).1) [
+              | inl further ↦ let same : last.key.section ≡ number = here.0 in absurd (omega arith)
+              | inr parts ↦ parts.1
+            ];
+          },
+    )
   where
     in_section : (number offset : ℕ) (key : AtomKey) → UpTo number offset key → (number < key.section) ⊎ ((key.section ≡ number) × (0 ≤ key.offset)) → (key.section ≡ number) × (key.offset ≤ offset)
     in_section number offset key (inr parts) from = parts
@@ -316,8 +320,8 @@ finds object file index d offset n atoms is within linked bound point =
     record {
       some = found.0;
       offset_is = λ x.
-        ap (λ xs. (get_or xs (n - 1) x).key.offset) e
-        ∙ greatest_is_one (is_cut object (index + 1) (get_or object.sections index d)) offset _ _ (found.1 x) (greatest_cut object (index + 1) (get_or object.sections index d) offset);
+          ap (λ xs. (get_or xs (n - 1) x).key.offset) e
+          ∙ greatest_is_one (is_cut object (index + 1) (get_or object.sections index d)) offset _ _ (found.1 x) (greatest_cut object (index + 1) (get_or object.sections index d) offset);
     }
 
 pub rising_atoms : (object : Object) (file : FileId) (atoms : List Atom) → atoms ≡ atoms_of object file → AllPairs (λ a b. IsBefore a.key b.key) atoms

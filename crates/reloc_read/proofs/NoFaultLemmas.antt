@@ -38,8 +38,8 @@ nothing_mapped h a zero k e low high = absurd (omega arith)
 nothing_mapped h a (suc n) k e low high =
     let parts : (h a ≡ None) × (filter_map h (range_with_len (a + 1) n) ≡ []) = no_option (h a) (filter_map h (range_with_len (a + 1) n)) e in
     elim (cases_lt a k) [
-      inl more ↦ nothing_mapped h (a + 1) n k parts.1 (omega arith) (omega arith)
-    | inr less ↦ let same : a ≡ k = omega arith in subst (λ (j : ℕ). h j ≡ None) same parts.0
+      | inl more ↦ nothing_mapped h (a + 1) n k parts.1 (omega arith) (omega arith)
+      | inr less ↦ let same : a ≡ k = omega arith in subst (λ (j : ℕ). h j ≡ None) same parts.0
     ]
 
 unmapped : (f : ℕ → ℕ) (o : Option ℕ) → option_map f o ≡ None → o ≡ None

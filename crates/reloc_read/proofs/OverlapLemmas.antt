@@ -21,13 +21,14 @@ pub any_in_range : (test : ℕ → Bool) (a n k : ℕ) → a ≤ k → k < a + n
 any_in_range test a zero k low high pass = absurd (omega arith)
 any_in_range test a (suc n) k low high pass =
     elim (cases_lt a k) [
-      inl more ↦ or_right (test a) (list_any test (range_with_len (a + 1) n)) (any_in_range test (a + 1) n k (omega arith) (omega arith) pass)
-    | inr less ↦ let same : k ≡ a = omega arith in or_left (test a) (list_any test (range_with_len (a + 1) n)) (subst (λ (n : ℕ). test n ≡ true) same pass)
+      | inl more ↦ or_right (test a) (list_any test (range_with_len (a + 1) n)) (any_in_range test (a + 1) n k (omega arith) (omega arith) pass)
+      | inr less ↦ let same : k ≡ a = omega arith in or_left (test a) (list_any test (range_with_len (a + 1) n)) (subst (λ (n : ℕ). test n ≡ true) same pass)
     ]
   where
     or_right : (a b : Bool) → b ≡ true → (a || b) ≡ true
     or_right true b e = refl
     or_right false b e = e
+
     or_left : (a b : Bool) → a ≡ true → (a || b) ≡ true
     or_left a b e = rw e refl
 

@@ -27,11 +27,11 @@ refs_begin object file number section start = record { same = sym (append-nil st
 
 pub refs_go_on : (object : Object) (file : FileId) (number : ℕ) (section : Section) (start out more : List Ref) (at : ℕ) (found : Option Ref) → AreRefs object file number section start out at → found ≡ reference_at object file number section at → more ≡ out ++ option_to_list found → AreRefs object file number section start more (at + 1)
 refs_go_on object file number section start out more at found are is added = record {
-    same =
+  same =
       added ∙ ap (λ xs. xs ++ option_to_list found) are.same
       ∙ append_assoc start (filter_map (reference_at object file number section) (range_with_len 0 at)) (option_to_list found)
-      ∙ ap (λ xs. start ++ xs) (sym (mapped_more (reference_at object file number section) at found (sym is)))
-  }
+      ∙ ap (λ xs. start ++ xs) (sym (mapped_more (reference_at object file number section) at found (sym is)));
+}
 
 linked_refs : (object : Object) (file : FileId) (number : ℕ) (section : Section) → is_dropped section ≡ false → filter_map (reference_at object file number section) (range_with_len 0 (length section.relocs)) ≡ section_refs object file number section
 unfolding section_refs
@@ -71,9 +71,9 @@ all_go_on object file out more index are within added =
     ap (refs_from object file (index + 1)) (drop_more object.sections index section within) in
     record {
       same =
-        ap (λ xs. xs ++ rest) (added section)
-        ∙ append_assoc out (section_refs object file (index + 1) (get_or object.sections index section)) rest
-        ∙ ap (λ xs. out ++ xs) (sym from) ∙ are.same
+          ap (λ xs. xs ++ rest) (added section)
+          ∙ append_assoc out (section_refs object file (index + 1) (get_or object.sections index section)) rest
+          ∙ ap (λ xs. out ++ xs) (sym from) ∙ are.same;
     }
 
 pub all_end : (object : Object) (file : FileId) (out : List Ref) (index : ℕ) → AreAll object file out index → length object.sections ≤ index → out ≡ refs_from object file 1 object.sections

@@ -15,20 +15,20 @@ lesser (Some a) (Some b) = Some (min a b)
 -- the lesser place of each rule
 abbrev pub merged : Faults → Faults → Faults
 merged a b = record {
-    pair = lesser a.pair b.pair;
-    shape = lesser a.shape b.shape;
-    place = lesser a.place b.place;
-    target = lesser a.target b.target;
-  }
+  pair = lesser a.pair b.pair;
+  shape = lesser a.shape b.shape;
+  place = lesser a.place b.place;
+  target = lesser a.target b.target;
+}
 
 -- a place for each rule
 abbrev pub by_rule : (RelocationRule → Option ℕ) → Faults
 by_rule place = record {
-    pair = place pair_fault;
-    shape = place shape_fault;
-    place = place place_fault;
-    target = place target_fault;
-  }
+  pair = place pair_fault;
+  shape = place shape_fault;
+  place = place place_fault;
+  target = place target_fault;
+}
 
 -- the place of a relocation of a section
 abbrev pub place_of : Section → Option ℕ → Option ℕ

@@ -20,11 +20,8 @@ fn any_authenticated(relocs: &[RawReloc]) -> bool
 pub fn has_authenticated(object: &Object) -> bool
     ensures { result ≡ refs.has_authenticated object.now }
 {
-    object
-        .sections
-        .as_slice()
-        .iter()
-        .any(|section| !section.is_dropped() && any_authenticated(section.relocs.as_slice()))
+    object.sections.as_slice().iter().any(|section| !section.is_dropped()
+        && any_authenticated(section.relocs.as_slice()))
 }
 
 fn names_absolute(symbols: &[Symbol], reloc: &RawReloc) -> bool
@@ -71,9 +68,6 @@ pub fn has_absolute(object: &Object) -> bool
     ensures { result ≡ refs.has_absolute object.now }
 {
     let symbols = object.symbols.as_slice();
-    object
-        .sections
-        .as_slice()
-        .iter()
-        .any(|section| !section.is_dropped() && any_absolute(symbols, section))
+    object.sections.as_slice().iter().any(|section| !section.is_dropped()
+        && any_absolute(symbols, section))
 }

@@ -18,6 +18,8 @@ mod refs;
 mod rows;
 mod rules;
 mod targets;
+#[cfg(test)]
+mod tests;
 
 use cut_object::CutObject;
 use faults::all_faults;

@@ -1,0 +1,234 @@
+use super::refs_of;
+use atom_cut::cut;
+use mo_types::{
+    AtomKey, Bytes, Feature, FileId, Object, OutOfMemory, RawReloc, Ref, RefFault, RefKind,
+    RelocList, Section, SectionList, Symbol, SymbolKind, SymbolList, Target,
+};
+use std::alloc::Global;
+use std::process::Abort;
+use std::test::Fail;
+
+const FILE: FileId = FileId {
+    position: 1,
+    member: 0,
+};
+
+// Where the relocations of the first section stand in the file.
+const AT: u64 = 0x1000;
+
+// A relocation by its type, address, number, and whether it has r_pcrel 1, its r_length and r_extern.
+type Raw = (u8, u32, u32, bool, u8, bool);
+
+// `_a` of 16 bytes, `_x` of 32, `_b`, `_p` and `_q` of 8, and a number.
+const SYMBOLS: [SymbolKind; 6] = [
+    SymbolKind::Defined {
+        section: 1,
+        value: 0,
+    },
+    SymbolKind::Defined {
+        section: 1,
+        value: 16,
+    },
+    SymbolKind::Defined {
+        section: 1,
+        value: 48,
+    },
+    SymbolKind::Defined {
+        section: 1,
+        value: 56,
+    },
+    SymbolKind::Defined {
+        section: 1,
+        value: 64,
+    },
+    SymbolKind::Absolute,
+];
+
+fn symbols(alloc: Global) -> Result<SymbolList, OutOfMemory> {
+    let mut symbols = SymbolList::new(alloc);
+    for kind in &SYMBOLS {
+        symbols.push(Symbol {
+            name: Bytes::from_slice(alloc, b"_s")?,
+            kind: *kind,
+            external: false,
+            hidden: false,
+            weak_def: false,
+            weak_ref: false,
+            no_strip: false,
+            alt: false,
+        })?;
+    }
+    Ok(symbols)
+}
+
+fn section(
+    alloc: Global,
+    address: u64,
+    bytes: &[u8],
+    relocs: &[Raw],
+) -> Result<Section, OutOfMemory> {
+    let mut list = RelocList::new(alloc);
+    for (kind, address, number, pcrel, length, external) in relocs {
+        list.push(RawReloc {
+            address: *address,
+            number: *number,
+            pcrel: *pcrel,
+            length: *length,
+            external: *external,
+            kind: *kind,
+        })?;
+    }
+    Ok(Section {
+        segment: Bytes::from_slice(alloc, b"__DATA")?,
+        name: Bytes::from_slice(alloc, b"__data")?,
+        address,
+        size: bytes.len() as u64,
+        align: 3,
+        kind: 0,
+        attributes: 0,
+        file_offset: 0x200,
+        reloc_offset: AT,
+        bytes: Bytes::from_slice(alloc, bytes)?,
+        relocs: list,
+    })
+}
+
+// A section of 72 bytes at 0, in which `_p` holds 8 and `_q` the address 0x108, and one of 8 bytes at 0x100.
+fn object(alloc: Global, relocs: &[Raw]) -> Result<Object, OutOfMemory> {
+    let mut data = [0u8; 72];
+    data[56] = 8;
+    data[64] = 8;
+    data[65] = 1;
+    let mut sections = SectionList::new(alloc);
+    sections.push(section(alloc, 0, &data, relocs)?)?;
+    sections.push(section(alloc, 0x100, &[0; 8], &[])?)?;
+    Ok(Object {
+        subsections: true,
+        sections,
+        symbols: symbols(alloc)?,
+    })
+}
+
+fn check(
+    rt: &(impl Abort + AllocGlobal),
+    relocs: &[Raw],
+    wanted: Result<&[Ref], RefFault>,
+) -> Result<(), Fail> {
+    let alloc = rt.alloc();
+    let object = object(alloc, relocs)?;
+    assert!(rt; object.is_whole());
+    let atoms = cut(alloc, &object, FILE)?;
+    match (refs_of(alloc, &object, &atoms, FILE), wanted) {
+        (Ok(found), Ok(wanted)) => assert!(rt; found.as_slice() == wanted),
+        (Err(found), Err(wanted)) => assert_eq!(rt; found, wanted),
+        _ => assert!(rt; false),
+    }
+    Ok(())
+}
+
+// A reference from an atom of the first section.
+fn reference(
+    offset: u64,
+    kind: RefKind,
+    target: Target,
+    minus: Option<Target>,
+    addend: i64,
+) -> Ref {
+    Ref {
+        atom: AtomKey {
+            file: FILE,
+            section: 1,
+            offset,
+        },
+        place: 0,
+        file_place: 0x200 + u64::from(offset as u32),
+        kind,
+        target,
+        minus,
+        addend,
+    }
+}
+
+#[test]
+fn differences_and_section_pointers(rt: HostRuntime) -> Result<(), Fail> {
+    let relocs = [
+        (0, 64, 2, false, 3, false),
+        (1, 56, 0, false, 3, true),
+        (0, 56, 2, false, 3, true),
+    ];
+    let last = AtomKey {
+        file: FILE,
+        section: 2,
+        offset: 0,
+    };
+    let wanted = [
+        reference(64, RefKind::Pointer, Target::Local(last, 8), None, 0),
+        reference(
+            56,
+            RefKind::Diff64,
+            Target::Name(2),
+            Some(Target::Name(0)),
+            8,
+        ),
+    ];
+    check(&rt, &relocs, Ok(&wanted))
+}
+
+#[test]
+fn addend_before_page_offset(rt: HostRuntime) -> Result<(), Fail> {
+    let relocs = [
+        (10, 16, 16, false, 2, false),
+        (4, 16, 2, false, 2, true),
+        (10, 0, 0xff_ffff, false, 2, false),
+        (3, 0, 2, true, 2, true),
+    ];
+    let wanted = [
+        reference(16, RefKind::PageOff, Target::Name(2), None, 16),
+        reference(0, RefKind::Page, Target::Name(2), None, -1),
+    ];
+    check(&rt, &relocs, Ok(&wanted))
+}
+
+// Relocations of which one breaks a rule, and the first fault.
+static FAULTS: [(&[Raw], RefFault); 8] = [
+    (
+        &[(10, 0, 0, false, 2, false)],
+        RefFault::BadPair { place: 0x1000 },
+    ),
+    (
+        &[(0, 56, 2, false, 3, true), (0, 0, 2, false, 2, true)],
+        RefFault::BadShape { place: 0x1008 },
+    ),
+    (
+        &[(0, 60, 2, false, 3, true)],
+        RefFault::BadPlace { place: 0x1000 },
+    ),
+    (
+        &[(0, 56, 2, false, 3, true), (0, 56, 2, false, 3, true)],
+        RefFault::BadPlace { place: 0x1000 },
+    ),
+    (
+        &[(0, 0x8000_0000, 2, false, 3, true)],
+        RefFault::BadPlace { place: 0x1000 },
+    ),
+    (
+        &[(0, 56, 6, false, 3, true)],
+        RefFault::BadTarget { place: 0x1000 },
+    ),
+    (
+        &[(0, 56, 5, false, 3, true)],
+        RefFault::Unsupported(Feature::Absolute),
+    ),
+    (
+        &[(11, 56, 9, false, 3, true)],
+        RefFault::Unsupported(Feature::PointerAuth),
+    ),
+];
+
+#[test]
+fn first_faults(rt: HostRuntime) -> Result<(), Fail> {
+    for (relocs, fault) in &FAULTS {
+        check(&rt, relocs, Err(*fault))?;
+    }
+    Ok(())
+}
