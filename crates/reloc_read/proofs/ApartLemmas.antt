@@ -1,15 +1,15 @@
 -- Fields that stand apart.
-use Rattle.std.proofs.Common.{◌≡◌, ◌≢◌, ℕ, zero, suc, ◌+◌, ◌-◌, ◌<◌, ◌≤◌, ◌++◌, ◌∷◌, [], ◌&&◌, inl, inr, List, length, get_or, Bool, true, false, not, eqb, ltb, IsTrue, Option, Some, None, refl, sym, ap, ◌∙◌, subst, arith, append-nil}
-use Rattle.std.specs.List.{AllByRecursion, IsDistinct, cons_option, filter_map, list_any, range_with_len}
+use Rattle.std.proofs.Common.{◌≡◌, ℕ, zero, suc, ◌+◌, ◌-◌, ◌<◌, ◌≤◌, ◌++◌, ◌∷◌, [], ◌&&◌, inl, inr, List, length, get_or, Bool, true, false, not, eqb, ltb, Option, Some, None, refl, sym, ap, ◌∙◌, subst, arith}
+use Rattle.std.specs.List.{AllByRecursion, IsDistinct, cons_option, filter_map, range_with_len}
 use Rattle.std.specs.List.Sorted.{IsPermutation}
 use Rattle.std.specs.Option.{option_map_or, option_to_list}
-use Rattle.std.proofs.lemmas.Bool.{cases_lt, cases_order, eqb-false, ne_eqb, false≢true, le-ltb}
+use Rattle.std.proofs.lemmas.Bool.{cases_lt, cases_order, eqb-false, le-ltb}
 use Rattle.std.proofs.lemmas.List.Elements.{filter_map-append}
 use Rattle.std.proofs.lemmas.List.Sorted.{IsPermutation-sym}
 use Rattle.std.proofs.lemmas.Map.Keys.{IsDistinct-from_apart, IsDistinct-IsPermutation, IsDistinct-head, IsDistinct-tail}
 use Rattle.mo_types.specs.declared.object.RawReloc.{RawReloc}
 use Rattle.mo_types.specs.declared.reference.Field.{Field}
-use Rattle.mo_types.specs.RelocationRules.{field_at, overlap, overlaps_another}
+use Rattle.mo_types.specs.RelocationRules.{field_at, overlap}
 use Rattle.reloc_read.specs.Fields.{AreApart, Follow, overlaps_at}
 use Rattle.reloc_read.proofs.OverlapLemmas.{none_in_range}
 

@@ -1,14 +1,14 @@
 -- The least places of faults, as rows and sections come.
-use Rattle.std.proofs.Common.{◌≡◌, ℕ, zero, suc, ◌+◌, ◌*◌, ◌<◌, ◌≤◌, ◌++◌, ◌∷◌, [], min, List, length, get_or, drop, Bool, true, false, Option, Some, None, if◌then◌else◌, refl, sym, ap, ◌∙◌, arith}
+use Rattle.std.proofs.Common.{◌≡◌, ℕ, zero, suc, ◌+◌, ◌*◌, ◌<◌, ◌≤◌, ◌++◌, ◌∷◌, [], min, List, length, get_or, drop, true, false, Option, Some, None, refl, sym, ap, ◌∙◌, arith}
 use Rattle.std.specs.List.{filter_map, range_with_len}
 use Rattle.std.specs.Option.{option_map, option_map_or, option_to_list}
-use Rattle.std.proofs.lemmas.List.{drop_all, drop_more, get_or_read}
+use Rattle.std.proofs.lemmas.List.{drop_all, drop_more}
 use Rattle.mo_types.specs.declared.object.Object.{Object}
 use Rattle.mo_types.specs.declared.object.Section.{Section}
 use Rattle.mo_types.specs.RelocationRules.{RelocationRule, faults_in, faults_from, first_fault, least, pair_fault, shape_fault, place_fault, target_fault}
 use Rattle.mo_types.specs.Whole.{is_dropped}
 use Rattle.reloc_read.specs.declared.faults.Faults.{Faults}
-use Rattle.reloc_read.specs.Faults.{lesser, merged, by_rule, place_of, row_faults, section_faults, all_faults}
+use Rattle.reloc_read.specs.Faults.{lesser, merged, by_rule, row_faults, section_faults, all_faults}
 use Rattle.reloc_read.proofs.ApartLemmas.{mapped_more}
 
 min_assoc : (a b c : ℕ) → min a (min b c) ≡ min (min a b) c

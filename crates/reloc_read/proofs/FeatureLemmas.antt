@@ -1,5 +1,5 @@
 -- A search of a section's rows.
-use Rattle.std.proofs.Common.{◌≡◌, ℕ, ◌<◌, ◌≤◌, List, length, Bool, true, false, sym, arith}
+use Rattle.std.proofs.Common.{◌≡◌, ℕ, ◌<◌, ◌≤◌, List, length, true, false, sym, arith}
 use Rattle.mo_types.specs.declared.object.Section.{Section}
 use Rattle.mo_types.specs.declared.object.Symbol.{Symbol}
 use Rattle.reloc_read.specs.Features.{row_names_absolute_at, any_absolute}

@@ -3,9 +3,7 @@ use Rattle.std.proofs.Common.{◌≡◌, ℕ, ◌+◌, ◌*◌, ◌^◌, ◌<◌
 use Rattle.std.proofs.lemmas.List.{get_or_read}
 use Rattle.mo_types.specs.declared.object.Section.{Section}
 use Rattle.mo_types.specs.Whole.{is_dropped, IsWholeSection}
-use Rattle.reloc_read.specs.declared.cut_object.CutObject.{CutObject}
 use Rattle.reloc_read.specs.declared.linked_section.LinkedSection.{LinkedSection}
-use Rattle.reloc_read.specs.CutObject.{IsCut}
 use Rattle.reloc_read.specs.LinkedSection.{IsLinked}
 
 pub kept_at : (linked : LinkedSection) (d : Section) → IsLinked linked → is_dropped (get_or linked.cut.object.now.sections linked.index d) ≡ false

@@ -1,8 +1,8 @@
 -- The atom to which an offset belongs, by a search of all atoms.
 use Rattle.std.proofs.Common.{◌≡◌, ℕ, zero, suc, ◌+◌, ◌-◌, ◌<◌, ◌≤◌, ◌++◌, ◌∷◌, [], ◌&&◌, ◌||◌, ◌⊎◌, inl, inr, List, length, get_or, Bool, true, false, cond, eqb, ltb, leb, filter, refl, sym, ap, ◌∙◌, subst, arith, if◌then◌else◌}
-use Rattle.std.specs.List.{AllByRecursion, AllPairs, AllWithin, range_with_len}
+use Rattle.std.specs.List.{AllByRecursion, AllPairs, range_with_len}
 use Rattle.std.specs.List.Sorted.{IsPartitionedBy, IsPartitionPoint}
-use Rattle.std.proofs.lemmas.Bool.{cases_order, cases_lt, cases_eq, false≢true, eqb-true, eq-eqb, ltb-true, lt-ltb, ne_eqb, leb-true, le-leb}
+use Rattle.std.proofs.lemmas.Bool.{cases_lt, cases_eq, false≢true, eqb-true, eq-eqb, ltb-true, lt-ltb, leb-true, le-leb}
 use Rattle.std.proofs.lemmas.List.{get_or_default}
 use Rattle.std.proofs.lemmas.List.Elements.{All-from_recursion}
 use Rattle.mo_types.specs.declared.atom.Atom.{Atom}
@@ -10,7 +10,7 @@ use Rattle.mo_types.specs.declared.key.AtomKey.{AtomKey}
 use Rattle.mo_types.specs.declared.key.FileId.{FileId}
 use Rattle.mo_types.specs.declared.object.Object.{Object}
 use Rattle.mo_types.specs.declared.object.Section.{Section}
-use Rattle.mo_types.specs.Atoms.{cuts, cut_of, greatest, is_cut, piece, pieces, section_atoms, atoms_from, atoms_of}
+use Rattle.mo_types.specs.Atoms.{cuts, cut_of, is_cut, piece, pieces, section_atoms, atoms_from, atoms_of}
 use Rattle.mo_types.specs.Whole.{is_dropped}
 use Rattle.atom_cut.specs.Laws.{IsBefore, IsGreatest}
 use Rattle.atom_cut.proofs.CutLemmas.{start_is_cut}

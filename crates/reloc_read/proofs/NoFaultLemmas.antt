@@ -1,15 +1,15 @@
 -- What holds of a row where no rule fails.
-use Rattle.std.proofs.Common.{◌≡◌, ℕ, zero, suc, ◌+◌, ◌-◌, ◌*◌, ◌<◌, ◌≤◌, ◌++◌, ◌∷◌, [], ◌&&◌, ◌||◌, inl, inr, List, length, get_or, Bool, true, false, not, cond, leb, Option, Some, None, if◌then◌else◌, refl, sym, ap, ◌∙◌, subst, arith}
+use Rattle.std.proofs.Common.{◌≡◌, ℕ, zero, suc, ◌+◌, ◌-◌, ◌*◌, ◌<◌, ◌≤◌, ◌++◌, ◌∷◌, [], ◌&&◌, ◌||◌, inl, inr, List, length, get_or, Bool, true, false, not, Option, Some, None, if◌then◌else◌, refl, sym, subst, arith}
 use Rattle.std.specs.List.{cons_option, filter_map, range_with_len}
-use Rattle.std.specs.Option.{option_map, option_map_or, option_and_then}
+use Rattle.std.specs.Option.{option_map, option_map_or}
 use Rattle.std.proofs.lemmas.Bool.{cases_lt, false≢true, leb-true}
 use Rattle.mo_types.specs.declared.object.Object.{Object}
 use Rattle.mo_types.specs.declared.object.RawReloc.{RawReloc}
 use Rattle.mo_types.specs.declared.object.Section.{Section}
 use Rattle.mo_types.specs.declared.reference.Field.{Field}
 use Rattle.mo_types.specs.declared.reference.RefKind.{RefKind}
-use Rattle.mo_types.specs.RelocationRules.{RelocationRule, faults_in, faults_from, first_fault, least, place_fault, target_fault, is_bad_field, is_in_one_atom, is_bad_target, is_outside, is_within, section_numbered, field_at, field_number, row_start, overlaps_another, has_fields}
-use Rattle.mo_types.specs.Rows.{when, kind_at, last_at, first_before, is_subtractor, is_instruction}
+use Rattle.mo_types.specs.RelocationRules.{RelocationRule, faults_in, faults_from, first_fault, least, place_fault, target_fault, is_bad_field, is_bad_target, is_outside, is_within, section_numbered, field_at, field_number, row_start}
+use Rattle.mo_types.specs.Rows.{when, kind_at, last_at, first_before, is_subtractor}
 use Rattle.mo_types.specs.Whole.{is_dropped}
 
 least_none : (xs : List ℕ) → least xs ≡ None → xs ≡ []

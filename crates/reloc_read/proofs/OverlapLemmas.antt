@@ -1,11 +1,11 @@
 -- Fields that overlap, and fields that don't.
-use Rattle.std.proofs.Common.{◌≡◌, ℕ, zero, suc, ◌+◌, ◌<◌, ◌≤◌, ◌∷◌, [], ◌&&◌, ◌||◌, inl, inr, List, length, Bool, true, false, not, eqb, Option, Some, refl, sym, ap, ◌∙◌, subst, arith}
+use Rattle.std.proofs.Common.{◌≡◌, ℕ, zero, suc, ◌+◌, ◌<◌, ◌≤◌, ◌||◌, inl, inr, List, length, Bool, true, false, Some, refl, sym, subst, arith}
 use Rattle.std.specs.List.{list_any, range_with_len}
-use Rattle.std.proofs.lemmas.Bool.{cases_lt, false≢true}
+use Rattle.std.proofs.lemmas.Bool.{cases_lt}
 use Rattle.mo_types.specs.declared.object.RawReloc.{RawReloc}
 use Rattle.mo_types.specs.declared.reference.Field.{Field}
-use Rattle.mo_types.specs.RelocationRules.{field_at, overlap, overlaps_another}
-use Rattle.reloc_read.specs.Fields.{AreApart, IsSmall, overlaps_at}
+use Rattle.mo_types.specs.RelocationRules.{field_at, overlaps_another}
+use Rattle.reloc_read.specs.Fields.{AreApart, overlaps_at}
 
 -- no number below a bound passes
 pub record NoneBelow (test : ℕ → Bool) (bound : ℕ) : Type 0 where

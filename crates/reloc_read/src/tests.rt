@@ -128,7 +128,7 @@ fn check(
 
 // A reference from an atom of the first section.
 fn reference(
-    offset: u64,
+    offset: u32,
     kind: RefKind,
     target: Target,
     minus: Option<Target>,
@@ -138,10 +138,10 @@ fn reference(
         atom: AtomKey {
             file: FILE,
             section: 1,
-            offset,
+            offset: u64::from(offset),
         },
         place: 0,
-        file_place: 0x200 + u64::from(offset as u32),
+        file_place: 0x200 + u64::from(offset),
         kind,
         target,
         minus,

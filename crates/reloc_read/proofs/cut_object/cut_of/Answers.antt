@@ -1,4 +1,4 @@
-use Rattle.std.proofs.Common.{ℕ, ◌<◌, ◌≤◌, length, arith}
+use Rattle.std.proofs.Common.{◌<◌, ◌≤◌, length, arith}
 use Rattle.reloc_read.proofs.LookupLemmas.{finds, finds_some, finds_within, rising_atoms}
 use Rattle.reloc_read.proofs.cut_object.cut_of.Goals as goal
 
