@@ -103,9 +103,9 @@ fn step_from(trie: &[u8], node: usize, rest: &[u8]) -> Step
     child_step(trie, node, trie[children], children + 1, rest)
 }
 
-#[tactic(auto, unfolding(crate::specs::Lookup::walk))]
 /// What a trie says of a name, whatever its bytes are (`loader.h`: LC_DYLD_EXPORTS_TRIE). At each node the walk
 /// takes the first child whose edge begins the rest of the name. It takes no memory.
+#[tactic(auto, unfolding(crate::specs::Lookup::walk))]
 pub fn find(trie: &[u8], name: &[u8]) -> Found
     ensures { result ≡ lookup trie.now name.now }
 {
