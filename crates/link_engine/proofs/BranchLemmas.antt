@@ -1,8 +1,8 @@
 -- The tests of relocations, as the loops over them answer.
-use Rattle.std.proofs.Common.{◌≡◌, ℕ, ◌+◌, ◌-◌, ◌*◌, ◌/◌, ◌%◌, ◌<◌, ◌≤◌, ◌==◌, ◌∷◌, [], ◌&&◌, ◌||◌, List, length, take, drop, map, get_or, set, nat_eq, Bool, true, false, not, Option, Some, None, if◌then◌else◌, refl, sym, ap, ◌∙◌, subst, arith, zero, suc, inl, inr, ne_eqb, length-set, replicate, get_or-set_same, get_or-set_other}
+use Rattle.std.proofs.Common.{◌≡◌, ℕ, ◌+◌, ◌*◌, ◌/◌, ◌%◌, ◌<◌, ◌≤◌, ◌==◌, ◌∷◌, [], ◌&&◌, ◌||◌, List, length, drop, map, get_or, set, nat_eq, Bool, true, false, not, Some, None, if◌then◌else◌, refl, sym, ap, ◌∙◌, subst, arith, zero, suc, inl, inr, ne_eqb, length-set, replicate, get_or-set_same, get_or-set_other}
 use Rattle.std.proofs.lemmas.Bool.Decides.{eqb_tells}
 use Rattle.std.proofs.lemmas.Bool.{eqb-true, leb-true}
-use Rattle.std.specs.List.{AllByRecursion, list_all, list_any}
+use Rattle.std.specs.List.{AllByRecursion, list_all}
 use Rattle.std.proofs.lemmas.List.{drop_all}
 use Rattle.mo_types.specs.declared.object.RawReloc.{RawReloc}
 use Rattle.mo_types.specs.declared.object.Section.{Section}
@@ -46,10 +46,10 @@ cut_from text symbols at symbol word within is = ap (λ rest. is_cut text rest w
 
 skips : (text : Section) (symbols : List Symbol) (at : ℕ) (cut : List Bool) (symbol : Symbol) → IsMarked text symbols at cut → at < length symbols → symbol ≡ get_or symbols at symbol → ((word : ℕ) → cuts_word (cut_of text symbol) word ≡ false) → IsMarked text symbols (at + 1) cut
 skips text symbols at cut symbol marked within is none = record {
-    same = λ word.
+  same = λ word.
       sym (ap (λ b. get_or cut word false || b) (cut_from text symbols at symbol word within is ∙ ap (λ b. b || is_cut text (drop (at + 1) symbols) word) (none word)))
       ∙ marked.same word;
-  }
+}
 
 pub marks_no_cut : (text : Section) (symbols : List Symbol) (at : ℕ) (cut : List Bool) (symbol : Symbol) → IsMarked text symbols at cut → at < length symbols → symbol ≡ get_or symbols at symbol → cut_of text symbol ≡ None → IsMarked text symbols (at + 1) cut
 marks_no_cut text symbols at cut symbol marked within is none =
@@ -73,19 +73,19 @@ part_cuts offset word part = rw (ne_eqb (offset % 4) 0 part) refl
 get_or-set_mark : (cut : List Bool) (at word : ℕ) → at < length cut → get_or (set cut at true) word false ≡ (if at == word then true else get_or cut word false)
 get_or-set_mark cut at word within =
     elim (eqb_tells at word) [
-        inl (test, same) ↦ rw test (subst (λ (n : ℕ). get_or (set cut at true) n false ≡ true) same (get_or-set_same cut at true false within))
+      | inl (test, same) ↦ rw test (subst (λ (n : ℕ). get_or (set cut at true) n false ≡ true) same (get_or-set_same cut at true false within))
       | inr (test, other) ↦ rw test (get_or-set_other cut at word true false (λ e. other (sym e)))
     ]
 
 pub marks_part : (text : Section) (symbols : List Symbol) (at : ℕ) (cut : List Bool) (symbol : Symbol) (offset : ℕ) → IsMarked text symbols at cut → at < length symbols → symbol ≡ get_or symbols at symbol → cut_of text symbol ≡ Some offset → (offset % 4 ≡ 0 → ⊥) → offset / 4 < length cut → IsMarked text symbols (at + 1) (set cut (offset / 4) true)
 marks_part text symbols at cut symbol offset marked within is some part room = record {
-    same = λ word.
+  same = λ word.
       ap (λ b. b || is_cut text (drop (at + 1) symbols) word) (get_or-set_mark cut (offset / 4) word room)
       ∙ marked_then (offset / 4 == word) (get_or cut word false) (is_cut text (drop (at + 1) symbols) word)
       ∙ sym (ap (λ b. get_or cut word false || (b || is_cut text (drop (at + 1) symbols) word)) (ap (λ o. cuts_word o word) some ∙ part_cuts offset word part))
       ∙ sym (ap (λ b. get_or cut word false || b) (cut_from text symbols at symbol word within is))
       ∙ marked.same word;
-  }
+}
 
 or_false : (b : Bool) → (b || false) ≡ b
 or_false true = refl
@@ -117,12 +117,12 @@ words_from relocs at reloc within is = ap (map word_of) (from_place relocs at re
 
 pub free_goes_on : (relocs : List RawReloc) (before : List Bool) (at : ℕ) (taken : List Bool) (reloc : RawReloc) → IsFree relocs before at taken → at < length relocs → reloc ≡ get_or relocs at reloc → word_of reloc < length taken → get_or taken (word_of reloc) false ≡ false → IsFree relocs before (at + 1) (set taken (word_of reloc) true)
 free_goes_on relocs before at taken reloc free within is room new = record {
-    same =
+  same =
       sym (element_added nat_eq (λ word. get_or taken word false) (λ word. get_or (set taken (word_of reloc) true) word false) (word_of reloc) (map word_of (drop (at + 1) relocs)) new (λ word. get_or-set_mark taken (word_of reloc) word room))
       ∙ sym (ap (are_new nat_eq (λ word. get_or taken word false)) (words_from relocs at reloc within is))
       ∙ free.same;
-    room = length-set taken (word_of reloc) true ∙ free.room;
-  }
+  room = length-set taken (word_of reloc) true ∙ free.room;
+}
 
 pub free_stops : (relocs : List RawReloc) (before : List Bool) (at : ℕ) (taken : List Bool) (reloc : RawReloc) → IsFree relocs before at taken → at < length relocs → reloc ≡ get_or relocs at reloc → get_or taken (word_of reloc) false ≡ true → false ≡ are_new nat_eq (λ word. get_or before word false) (map word_of relocs)
 free_stops relocs before at taken reloc free within is old =

@@ -48,7 +48,7 @@ whole_image object entry placement i0 i1 i2 i3 i4 at e0 e1 e2 e3 e4 =
     let contents : List ℕ = contents_of object.text object.symbols in
     let front_is : i1 ≡ front object.text placement entry = e1 ∙ ap (λ xs. xs ++ front object.text placement entry) e0 in
     let filled : i3 ≡ zeros_to placement.text_offset (front object.text placement entry) ++ contents =
-        e3 ∙ ap (λ xs. xs ++ contents) (e2 ∙ ap (zeros_to placement.text_offset) front_is) in
+    e3 ∙ ap (λ xs. xs ++ contents) (e2 ∙ ap (zeros_to placement.text_offset) front_is) in
     let built : i4 ≡ zeros_to placement.segment_size (zeros_to placement.text_offset (front object.text placement entry) ++ contents) =
-        e4 ∙ ap (zeros_to placement.segment_size) filled in
+    e4 ∙ ap (zeros_to placement.segment_size) filled in
     built ∙ ap (λ (p : Placement). zeros_to p.segment_size (zeros_to p.text_offset (front object.text p entry) ++ contents)) at

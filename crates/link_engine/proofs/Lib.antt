@@ -4,6 +4,7 @@ pub mod FormLemmas
 pub mod ImageLemmas
 pub mod LinkLemmas
 pub mod NameLemmas
+pub mod PatchedLemmas
 pub mod PlacedLemmas
 pub mod PatchLemmas
 pub mod SymbolLemmas

@@ -1,5 +1,5 @@
 -- Patching a word.
-use Rattle.std.proofs.Common.{◌≡◌, ℕ, zero, suc, ◌+◌, ◌-◌, ◌%◌, ◌^◌, ◌<◌, ◌≤◌, ◌∷◌, [], ◌&&◌, List, length, drop, get_or, Bool, true, false, Option, Some, None, IsSome, IfSome, SomeIff, unwrap_or, option_and_then, refl, sym, ap, ◌∙◌, subst, arith, ℤ, pos, ◌-ℤ◌, ◌++◌, take, append_assoc, append-nil, zero-add}
+use Rattle.std.proofs.Common.{◌≡◌, ℕ, zero, suc, ◌+◌, ◌-◌, ◌%◌, ◌<◌, ◌≤◌, ◌∷◌, [], List, length, drop, get_or, Bool, true, Option, Some, None, IsSome, SomeIff, unwrap_or, option_and_then, refl, sym, ap, ◌∙◌, subst, arith, pos, ◌-ℤ◌, ◌++◌, take, append_assoc, append-nil, zero-add}
 use Rattle.std.proofs.Math.Seq.{drop-append-add, take-append-add}
 use Rattle.arm64_insn.specs.Branch.{branch_word}
 use Rattle.mo_bytes.specs.Number.{number, number_bytes}
@@ -12,9 +12,8 @@ use Rattle.mo_types.specs.declared.object.Symbol.{Symbol}
 use Rattle.mo_types.specs.declared.object.SymbolKind.{SymbolKind}
 use Rattle.mo_types.specs.declared.object.SymbolKind.TheVariants.{Undefined, Common, Defined, Absolute, Passed}
 use Rattle.link_engine.specs.Branches.{is_branch, is_whole_words, offset_of, target_of}
-use Rattle.link_engine.specs.Object.{IsText}
 use Rattle.link_engine.specs.Patching.{branch_at, contents_of, distance_of, patched, patched_by, with_word}
-use Rattle.link_engine.specs.Symbols.{ArePlaced, IsPlaced, IsWithin}
+use Rattle.link_engine.specs.Symbols.{ArePlaced, IsPlaced}
 use Rattle.link_engine.proofs.BranchLemmas.{IsBranch, both, branch_is, get_or_any}
 use Rattle.link_engine.proofs.DistinctLemmas.{from_place}
 
@@ -75,11 +74,11 @@ patching_starts text symbols start relocs image = record { same = refl }
 
 pub patching_goes_on : (text : Section) (symbols : List Symbol) (start : ℕ) (relocs : List RawReloc) (before : List ℕ) (at : ℕ) (now new : List ℕ) (reloc : RawReloc) → IsPatching text symbols start relocs before at now → at < length relocs → reloc ≡ get_or relocs at reloc → new ≡ patched_by text symbols start reloc now → IsPatching text symbols start relocs before (at + 1) new
 patching_goes_on text symbols start relocs before at now new reloc patching within is e = record {
-    same =
+  same =
       ap (patched text symbols start (drop (at + 1) relocs)) e
       ∙ sym (ap (λ rest. patched text symbols start rest now) (from_place relocs at reloc within is))
       ∙ patching.same;
-  }
+}
 
 pub patching_ends : (text : Section) (symbols : List Symbol) (start : ℕ) (relocs : List RawReloc) (before : List ℕ) (at : ℕ) (now : List ℕ) → IsPatching text symbols start relocs before at now → length relocs ≤ at → now ≡ patched text symbols start relocs before
 patching_ends text symbols start relocs before at now patching past =

@@ -1,8 +1,6 @@
 -- The relocations of the linked form: branches within the section (`reloc.h`: ARM64_RELOC_BRANCH26).
-use Rattle.std.specs.Prelude.{ℕ, ◌+◌, ◌-◌, ◌*◌, ◌/◌, ◌%◌, ◌==◌, ◌&&◌, ◌||◌, ◌++◌, Bool, true, false, not, nat_le, nat_lt, nat_eq, ℤ, pos, ◌-ℤ◌, List, [], ◌∷◌, take, drop, map, slice_get, Option, Some, None, option_and_then, unwrap_or, if◌then◌else◌}
+use Rattle.std.specs.Prelude.{ℕ, ◌+◌, ◌-◌, ◌/◌, ◌%◌, ◌==◌, ◌&&◌, ◌||◌, Bool, false, not, nat_le, nat_lt, nat_eq, List, [], ◌∷◌, map, slice_get, Option, Some, None, option_and_then, if◌then◌else◌}
 use Rattle.std.specs.List.{list_all, list_any}
-use Rattle.arm64_insn.specs.Branch.{branch_word}
-use Rattle.mo_bytes.specs.Number.{number, number_bytes}
 use Rattle.mo_types.specs.declared.object.RawReloc.{RawReloc}
 use Rattle.mo_types.specs.declared.object.Section.{Section}
 use Rattle.mo_types.specs.declared.object.Symbol.{Symbol}

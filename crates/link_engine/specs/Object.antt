@@ -23,18 +23,18 @@ use Rattle.link_engine.specs.Symbols.{ArePlaced, symbols_of}
 -- the section, each field the number at its place
 unfoldable pub text_of : List ℕ → Frame → List RawReloc → Section
 text_of bytes frame relocs = record {
-    segment = name_text frame.text.segname;
-    name = name_text frame.text.sectname;
-    address = frame.text.addr;
-    size = frame.text.size;
-    align = frame.text.align;
-    kind = bit_and frame.text.flags 0xff;
-    attributes = bit_and frame.text.flags 0xffffff00;
-    file_offset = frame.text.offset;
-    reloc_offset = frame.text.reloff;
-    bytes = take frame.text.size (drop frame.text.offset bytes);
-    relocs = relocs;
-  }
+  segment = name_text frame.text.segname;
+  name = name_text frame.text.sectname;
+  address = frame.text.addr;
+  size = frame.text.size;
+  align = frame.text.align;
+  kind = bit_and frame.text.flags 0xff;
+  attributes = bit_and frame.text.flags 0xffffff00;
+  file_offset = frame.text.offset;
+  reloc_offset = frame.text.reloff;
+  bytes = take frame.text.size (drop frame.text.offset bytes);
+  relocs = relocs;
+}
 
 -- the bounds of the section
 pub record IsText (text : Section) : Type 0 where
@@ -62,7 +62,7 @@ object_of bytes = do
   named ← guarded (are_distinct bytes_eq (external_names symbols)) NotOfForm symbols
   relocs ← relocs_of bytes frame
   guarded (are_branches (may_be_cut frame) (text_of bytes frame relocs) symbols) NotOfForm
-    (record { text = text_of bytes frame relocs; symbols = symbols })
+      (record { text = text_of bytes frame relocs; symbols = symbols })
 
 -- another file comes with a later version
 abbrev pub or_later : Command → Result TextObject FormFault → Result TextObject Status

@@ -1,5 +1,6 @@
 -- The section's bytes with the distances of its branches (Arm Architecture Reference Manual, "BL").
-use Rattle.std.specs.Prelude.{ℕ, ◌+◌, ◌++◌, ℤ, pos, ◌-ℤ◌, List, [], ◌∷◌, take, drop, unwrap_or}
+use Rattle.std.specs.Prelude.{ℕ, ◌+◌, ◌≡◌, ◌≤◌, ◌<◌, ◌⊎◌, ◌++◌, ℤ, pos, ◌-ℤ◌, List, [], ◌∷◌, take, drop, slice_index, unwrap_or}
+use Rattle.std.specs.List.{AllByRecursion}
 use Rattle.arm64_insn.specs.Branch.{branch_word}
 use Rattle.mo_bytes.specs.Number.{number, number_bytes}
 use Rattle.mo_types.specs.declared.object.RawReloc.{RawReloc}
@@ -30,3 +31,16 @@ patched text symbols start (reloc ∷ relocs) bytes = patched text symbols start
 -- the section's contents in the image
 unfoldable pub contents_of : Section → List Symbol → List ℕ
 contents_of text symbols = patched text symbols 0 text.relocs text.bytes
+
+-- a number of some bytes at a place doesn't touch a relocation's word
+abbrev pub IsApart : ℕ → ℕ → RawReloc → Type 0
+IsApart width place reloc = (place + width ≤ reloc.address) ⊎ (reloc.address + 4 ≤ place)
+
+-- each relocation's word in the new bytes is that of the old ones with its distance
+abbrev pub ArePatched : Section → List Symbol → List ℕ → List ℕ → List RawReloc → Type 0
+ArePatched text symbols new old relocs =
+    AllByRecursion (λ reloc. number 4 new reloc.address ≡ branch_word (number 4 old reloc.address) (distance_of text symbols reloc)) relocs
+
+-- each element is a byte
+abbrev pub AreBytes : List ℕ → Type 0
+AreBytes bytes = (i : ℕ) → slice_index bytes i < 256

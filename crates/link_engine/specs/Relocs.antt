@@ -9,13 +9,13 @@ use Rattle.link_engine.specs.declared.form.FormFault.{FormFault}
 
 abbrev pub raw_of : RelocationInfo → RawReloc
 raw_of info = record {
-    address = info.r_address;
-    number = info.r_symbolnum;
-    pcrel = info.r_pcrel;
-    length = info.r_length;
-    external = info.r_extern;
-    kind = info.r_type;
-  }
+  address = info.r_address;
+  number = info.r_symbolnum;
+  pcrel = info.r_pcrel;
+  length = info.r_length;
+  external = info.r_extern;
+  kind = info.r_type;
+}
 
 -- the relocation of a number
 unfoldable pub reloc_at : List ℕ → Frame → ℕ → Result RawReloc FormFault

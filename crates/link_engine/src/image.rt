@@ -248,7 +248,13 @@ fn put_contents(out: &mut Vec<u8>, object: &TextObject) -> Result<(), AllocError
     let text = &object.text;
     let start = out.len();
     out.extend_from_slice(text.bytes.as_slice())?;
-    patch(out, start, text, object.symbols.as_slice(), text.relocs.as_slice());
+    patch(
+        out,
+        start,
+        text,
+        object.symbols.as_slice(),
+        text.relocs.as_slice(),
+    );
     Ok(())
 }
 

@@ -22,6 +22,7 @@ mod entry;
 mod fetch;
 mod form;
 mod image;
+mod laws;
 mod names;
 mod object;
 mod patch;
@@ -32,6 +33,7 @@ mod symbols;
 mod words;
 mod write;
 
+pub use crate::laws::branches_have_their_distances;
 use crate::run::{Ended, run};
 use mo_message::tell;
 use mo_outside::{Diag, Files, Gate, Out};
@@ -87,3 +89,6 @@ pub fn link<F: Files, O: Out, D: Diag, G: Gate + Sync>(
     tell(diag, path.as_slice(), &status);
     status
 }
+
+#[cfg(test)]
+mod tests;

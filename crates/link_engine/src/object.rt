@@ -8,8 +8,8 @@ ghost use Rattle.link_engine.specs.Object as object;
 ghost use Rattle.link_engine.specs.Object.{IsLinkable, IsText};
 ghost use Rattle.link_engine.specs.Steps.{IsRefusal};
 
-use crate::form::{FormFault, Frame, frame_of, name_text};
 use crate::branches::are_branches;
+use crate::form::{FormFault, Frame, frame_of, name_text};
 use crate::names::are_distinct_names;
 use crate::relocs::relocs_of;
 use crate::symbols::symbols_of;

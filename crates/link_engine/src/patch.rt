@@ -55,7 +55,13 @@ fn put_distance(image: &mut [u8], at: usize, target: u64, place: u64)
 
 /// Patches the branches of a section whose bytes begin at `start`.
 #[tactic(auto, using(crate::proofs::PatchLemmas::patches))]
-pub fn patch(image: &mut [u8], start: usize, text: &Section, symbols: &[Symbol], relocs: &[RawReloc])
+pub fn patch(
+    image: &mut [u8],
+    start: usize,
+    text: &Section,
+    symbols: &[Symbol],
+    relocs: &[RawReloc],
+)
     requires room { start + text.now.size ≤ length image.old }
     requires text { IsText text.now }
     requires placed { ArePlaced text.now.address text.now.size symbols.now }

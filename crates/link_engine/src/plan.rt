@@ -41,6 +41,7 @@ pub fn make_plan<F: Files>(alloc: Global, words: &ArgList, files: &mut F) -> Res
     let command = read_words(alloc, words)?;
     let bytes = fetch(alloc, files, &command)?;
     let object = read(alloc, &command, bytes.as_slice())?;
+    drop(bytes);
     let entry = entry_of(alloc, &object)?;
     let image = image(alloc, &object, entry)?;
     Ok(Plan {

@@ -1,5 +1,10 @@
 pub mod Answer
+pub mod Atoms
 pub mod Cause
 pub mod Gives
 pub mod Message
+pub mod Refs
+pub mod RelocationRules
+pub mod Rows
 pub mod Scan
+pub mod Whole

@@ -2,16 +2,22 @@
 #![tactic(auto)]
 
 mod answer;
+mod atom;
 mod bytes;
 mod cause;
 mod items;
 mod key;
 mod memory;
 mod object;
+mod reference;
+mod reference_fault;
+mod section;
 #[cfg(test)]
 mod tests;
+mod whole;
 
 pub use answer::{Refusal, Status};
+pub use atom::{Atom, AtomList};
 pub use bytes::{Arg, ArgList, Bytes};
 pub use cause::{Feature, RangeKind, Rule, UsageRule, Which};
 pub use items::Items;
@@ -20,3 +26,5 @@ pub use memory::OutOfMemory;
 pub use object::{
     Object, RawReloc, RelocList, Section, SectionList, Symbol, SymbolKind, SymbolList,
 };
+pub use reference::{Field, Ref, RefKind, RefList, Target};
+pub use reference_fault::RefFault;

@@ -12,7 +12,7 @@ fn is_named(alloc: Global, variant: &impl Debug, name: &str) -> Result<bool, All
 
 // A message shows each cause by its variant's name in lower case, which `Debug` prints.
 #[test]
-fn causes_are_named_as_their_variants(rt: HostRuntime) -> Result<(), Fail> {
+fn rules_are_named_as_their_variants(rt: HostRuntime) -> Result<(), Fail> {
     for cause in [
         Rule::NotAnInput,
         Rule::Header,
@@ -46,6 +46,11 @@ fn causes_are_named_as_their_variants(rt: HostRuntime) -> Result<(), Fail> {
     ] {
         assert!(rt; is_named(rt.alloc(), &cause, cause.as_str())?, "{cause:?}");
     }
+    Ok(())
+}
+
+#[test]
+fn features_are_named_as_their_variants(rt: HostRuntime) -> Result<(), Fail> {
     for cause in [
         Feature::SectionType,
         Feature::ObjcSection,
@@ -70,6 +75,11 @@ fn causes_are_named_as_their_variants(rt: HostRuntime) -> Result<(), Fail> {
     ] {
         assert!(rt; is_named(rt.alloc(), &cause, cause.as_str())?, "{cause:?}");
     }
+    Ok(())
+}
+
+#[test]
+fn limits_are_named_as_their_variants(rt: HostRuntime) -> Result<(), Fail> {
     for cause in [
         Which::Inputs,
         Which::FileBytes,
@@ -84,6 +94,11 @@ fn causes_are_named_as_their_variants(rt: HostRuntime) -> Result<(), Fail> {
     ] {
         assert!(rt; is_named(rt.alloc(), &cause, cause.as_str())?, "{cause:?}");
     }
+    Ok(())
+}
+
+#[test]
+fn ranges_are_named_as_their_variants(rt: HostRuntime) -> Result<(), Fail> {
     for cause in [
         RangeKind::ImageSize,
         RangeKind::Branch,
@@ -97,6 +112,11 @@ fn causes_are_named_as_their_variants(rt: HostRuntime) -> Result<(), Fail> {
     ] {
         assert!(rt; is_named(rt.alloc(), &cause, cause.as_str())?, "{cause:?}");
     }
+    Ok(())
+}
+
+#[test]
+fn usage_rules_are_named_as_their_variants(rt: HostRuntime) -> Result<(), Fail> {
     for cause in [
         UsageRule::Unknown,
         UsageRule::NoValue,

@@ -1,0 +1,10 @@
+pub mod AtomLemmas
+pub mod CutLemmas
+pub mod KeyLemmas
+pub mod LiteralLemmas
+pub mod OffsetLemmas
+pub mod PieceLemmas
+pub mod RangeLemmas
+pub mod RisingLemmas
+pub mod StringLemmas
+pub mod TileLemmas

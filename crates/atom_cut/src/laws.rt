@@ -1,0 +1,35 @@
+//! What holds of atoms. Each function is a law, which its contract states, and does nothing.
+
+ghost use Rattle.std.specs.Prelude.{◌≡◌, ◌≤◌, ℕ, false};
+ghost use Rattle.std.specs.List.{AllPairs, flat_map};
+ghost use Rattle.mo_types.specs.Atoms.{atoms_of, cut_of, is_cut, section_atoms};
+ghost use Rattle.mo_types.specs.Whole.{IsWholeSection, is_dropped};
+ghost use Rattle.mo_types.specs.declared.atom.Atom.{Atom};
+ghost use Rattle.mo_types.specs.declared.key.FileId.{FileId};
+ghost use Rattle.mo_types.specs.declared.object.Object.{Object};
+ghost use Rattle.mo_types.specs.declared.object.Section.{Section};
+ghost use Rattle.atom_cut.specs.Laws.{IsBefore, IsGreatest, Tile};
+
+/// The atoms of a linked section follow each other, without gap or overlap, from its start to its end.
+#[tactic(auto, using(crate::proofs::TileLemmas::tiles))]
+pub fn atoms_tile()
+    ensures { (object : Object) (file : FileId) (number : ℕ) (section : Section) → is_dropped section ≡ false → Tile 0 section.size (section_atoms object file number section) }
+{}
+
+/// The bytes of a linked section's atoms, one after the other, are those of the section.
+#[tactic(auto, using(crate::proofs::TileLemmas::bytes_of_section))]
+pub fn no_byte_is_lost()
+    ensures { (object : Object) (file : FileId) (number : ℕ) (section : Section) → IsWholeSection section → is_dropped section ≡ false → flat_map (λ (atom : Atom). atom.bytes) (section_atoms object file number section) ≡ section.bytes }
+{}
+
+/// An offset belongs to the atom with the greatest cut not above it.
+#[tactic(auto, using(crate::proofs::TileLemmas::cut_is_greatest))]
+pub fn offset_belongs_to_the_greatest_cut()
+    ensures { (object : Object) (number : ℕ) (section : Section) (offset : ℕ) → IsGreatest (is_cut object number section) offset (cut_of object number section offset) }
+{}
+
+/// The keys of an object's atoms rise.
+#[tactic(auto, using(crate::proofs::KeyLemmas::keys))]
+pub fn keys_rise()
+    ensures { (object : Object) (file : FileId) → AllPairs (λ a b. IsBefore a.key b.key) (atoms_of object file) }
+{}

@@ -1,0 +1,140 @@
+use super::cut;
+use mo_types::{
+    AtomKey, Bytes, FileId, Object, OutOfMemory, RelocList, Section, SectionList, Symbol,
+    SymbolKind, SymbolList,
+};
+use std::alloc::Global;
+use std::process::Abort;
+use std::test::Fail;
+
+const FILE: FileId = FileId {
+    position: 3,
+    member: 7,
+};
+
+// The name and address of each symbol, and whether it is an alternative entry.
+const SYMBOLS: [(&[u8], u64, bool); 6] = [
+    (b"_last", 0x110, false),
+    (b"_fourth", 0x10c, false),
+    (b"_first", 0x100, false),
+    (b"_second", 0x104, true),
+    (b"Lthird", 0x108, false),
+    (b"_again", 0x10c, false),
+];
+
+fn symbols(alloc: Global) -> Result<SymbolList, OutOfMemory> {
+    let mut symbols = SymbolList::new(alloc);
+    for (name, value, alt) in &SYMBOLS {
+        symbols.push(Symbol {
+            name: Bytes::from_slice(alloc, name)?,
+            kind: SymbolKind::Defined {
+                section: 1,
+                value: *value,
+            },
+            external: false,
+            hidden: false,
+            weak_def: false,
+            weak_ref: false,
+            no_strip: false,
+            alt: *alt,
+        })?;
+    }
+    Ok(symbols)
+}
+
+// A section at the address 0x100, aligned to 2^4.
+fn section(
+    alloc: Global,
+    segment: &[u8],
+    kind: u8,
+    size: u64,
+    bytes: &[u8],
+) -> Result<Section, OutOfMemory> {
+    Ok(Section {
+        segment: Bytes::from_slice(alloc, segment)?,
+        name: Bytes::from_slice(alloc, b"__text")?,
+        address: 0x100,
+        size,
+        align: 4,
+        kind,
+        attributes: 0,
+        file_offset: 0x200,
+        reloc_offset: 0,
+        bytes: Bytes::from_slice(alloc, bytes)?,
+        relocs: RelocList::new(alloc),
+    })
+}
+
+// The offset, size, alignment and first byte of an atom; 255 stands where it has no byte.
+type Row = (u64, u64, u8, u8);
+
+const CODE: &[u8] = &[0, 1, 2, 3, 4, 5, 6, 7, 8, 9, 10, 11, 12, 13, 14, 15];
+
+const STRINGS: &[u8] = b"ab\0\0cdefgh\0jklm\0";
+
+// The type, size and bytes of a section, and its atoms.
+static CUT_AT_SYMBOLS: [(u8, u64, &[u8], &[Row]); 6] = [
+    (0, 16, CODE, &[(0, 12, 4, 0), (12, 4, 2, 12)]),
+    (
+        2,
+        16,
+        STRINGS,
+        &[(0, 3, 4, 97), (3, 1, 0, 0), (4, 7, 2, 99), (11, 5, 0, 106)],
+    ),
+    (
+        3,
+        16,
+        CODE,
+        &[(0, 4, 4, 0), (4, 4, 2, 4), (8, 4, 3, 8), (12, 4, 2, 12)],
+    ),
+    (4, 16, CODE, &[(0, 8, 4, 0), (8, 8, 3, 8)]),
+    (14, 16, CODE, &[(0, 16, 4, 0)]),
+    (
+        1,
+        40,
+        &[],
+        &[(0, 12, 4, 255), (12, 4, 2, 255), (16, 24, 4, 255)],
+    ),
+];
+
+fn check(
+    rt: &(impl Abort + AllocGlobal),
+    subsections: bool,
+    section: Section,
+    rows: &[Row],
+) -> Result<(), Fail> {
+    let alloc = rt.alloc();
+    let mut sections = SectionList::new(alloc);
+    sections.push(section)?;
+    let object = Object {
+        subsections,
+        sections,
+        symbols: symbols(alloc)?,
+    };
+    assert!(rt; object.is_whole());
+    let atoms = cut(alloc, &object, FILE)?;
+    assert_eq!(rt; atoms.len(), rows.len());
+    for (atom, row) in atoms.as_slice().iter().zip(rows) {
+        let key = AtomKey {
+            file: FILE,
+            section: 1,
+            offset: row.0,
+        };
+        assert!(rt; atom.key == key && atom.size == row.1 && atom.align == row.2);
+        let byte = atom.bytes.as_slice().first().copied().unwrap_or(255);
+        assert_eq!(rt; byte, row.3);
+    }
+    Ok(())
+}
+
+#[test]
+fn sections_are_cut_by_their_type(rt: HostRuntime) -> Result<(), Fail> {
+    for (kind, size, bytes, rows) in &CUT_AT_SYMBOLS {
+        let section = section(rt.alloc(), b"__TEXT", *kind, *size, bytes)?;
+        check(&rt, true, section, rows)?;
+    }
+    let text = section(rt.alloc(), b"__TEXT", 0, 16, CODE)?;
+    check(&rt, false, text, &[(0, 16, 4, 0)])?;
+    let dropped = section(rt.alloc(), b"__DWARF", 0, 16, CODE)?;
+    check(&rt, true, dropped, &[])
+}

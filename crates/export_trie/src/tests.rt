@@ -1,0 +1,166 @@
+ghost use Rattle.std.specs.Prelude.{◌≡◌, ◌≢◌, ◌↔◌, IsTrue, All, AllPairs, Contains};
+
+use super::*;
+use mo_types::{Bytes, Items};
+use std::alloc::Global;
+use std::test::Fail;
+
+type Row = (&'static [u8], u64, u64);
+
+fn has_nul(name: &[u8]) -> bool
+    ensures { IsTrue result ↔ Contains name.now 0 }
+{
+    name.contains(&0)
+}
+
+fn is_new(exports: &[ExportAddress], name: &Bytes) -> bool
+    ensures { IsTrue result → All (λ export. export.name ≢ name.now) exports.now }
+{
+    exports.iter().all(|export| export.name != *name)
+}
+
+// Whether the exports may be written: their names are distinct and hold no NUL.
+fn can_be_written(exports: &[ExportAddress]) -> bool
+    ensures distinct { IsTrue result → AllPairs (λ a b. a.name ≢ b.name) exports.now }
+    ensures no_nul { IsTrue result → All (λ export. ¬ Contains export.name 0) exports.now }
+{
+    for (i, export) in exports.iter().enumerate() {
+        if has_nul(export.name.as_slice()) || !is_new(&exports[..i], &export.name) {
+            return false;
+        }
+    }
+    true
+}
+
+fn written(alloc: Global, rows: &[Row]) -> Result<Bytes, Fail> {
+    let mut exports = Vec::new(alloc);
+    for (name, flags, address) in rows {
+        let name = Bytes::from_slice(alloc, *name)?;
+        exports.push(ExportAddress {
+            name,
+            flags: *flags,
+            address: *address,
+        })?;
+    }
+    if !can_be_written(exports.as_slice()) {
+        return Err(Fail::from("two names are one, or a name holds a NUL"));
+    }
+    Ok(write_trie(alloc, &Items::from_vec(exports))?)
+}
+
+#[test]
+fn trie_of_three(rt: HostRuntime) -> Result<(), Fail> {
+    let rows: [Row; 3] = [(b"_b", 0, 0x1008), (b"_a", 0, 0x1000), (b"_ab", 0, 0x1004)];
+    let trie = written(rt.alloc(), &rows)?;
+    let nodes: [&[u8]; 6] = [
+        &[0x00, 0x01, 0x5f, 0x00, 0x05],
+        &[0x00, 0x02, 0x61, 0x00, 0x0d, 0x62, 0x00, 0x1a],
+        &[0x03, 0x00, 0x80, 0x20, 0x01, 0x62, 0x00, 0x15],
+        &[0x03, 0x00, 0x84, 0x20, 0x00],
+        &[0x03, 0x00, 0x88, 0x20, 0x00],
+        &[0x00],
+    ];
+    let mut want = Vec::new(rt.alloc());
+    for node in nodes {
+        want.extend_from_slice(node)?;
+    }
+    assert_eq!(rt; trie.as_slice(), want.as_slice());
+    for (name, flags, address) in rows {
+        assert_eq!(rt;
+            find(trie.as_slice(), name),
+            Found::At { flags, address },
+            "{name:?}"
+        );
+    }
+    for name in [b"_".as_slice(), b"_abc", b""] {
+        assert_eq!(rt; find(trie.as_slice(), name), Found::Absent, "{name:?}");
+    }
+    Ok(())
+}
+
+#[test]
+fn trie_of_none(rt: HostRuntime) -> Result<(), Fail> {
+    let trie = written(rt.alloc(), &[])?;
+    assert_eq!(rt; trie.as_slice(), [0; 8].as_slice());
+    assert_eq!(rt; find(trie.as_slice(), b""), Found::Absent);
+    Ok(())
+}
+
+// The trie that LLVM's linker (ld64.lld 14) writes for a library of seven functions, `_ab` of them weak. Its
+// children don't stand in byte order.
+const LINKED: [u8; 77] = [
+    0x00, 0x01, 0x5f, 0x00, 0x05, 0x00, 0x03, 0x7a, 0x65, 0x74, 0x61, 0x00, 0x13, 0x62, 0x00, 0x18,
+    0x61, 0x00, 0x1d, 0x03, 0x00, 0xe0, 0x04, 0x00, 0x03, 0x00, 0xd0, 0x04, 0x00, 0x03, 0x00, 0xc8,
+    0x04, 0x02, 0x62, 0x00, 0x29, 0x6c, 0x70, 0x00, 0x2e, 0x03, 0x04, 0xcc, 0x04, 0x00, 0x00, 0x02,
+    0x69, 0x6e, 0x65, 0x00, 0x39, 0x68, 0x61, 0x00, 0x3e, 0x03, 0x00, 0xdc, 0x04, 0x00, 0x03, 0x00,
+    0xd4, 0x04, 0x01, 0x62, 0x65, 0x74, 0x00, 0x48, 0x03, 0x00, 0xd8, 0x04, 0x00,
+];
+
+#[test]
+fn another_linkers_trie(rt: HostRuntime) {
+    // As llvm-objdump --exports-trie lists them.
+    let rows: [Row; 7] = [
+        (b"_zeta", 0, 0x260),
+        (b"_b", 0, 0x250),
+        (b"_ab", 4, 0x24c),
+        (b"_alpine", 0, 0x25c),
+        (b"_alphabet", 0, 0x258),
+        (b"_alpha", 0, 0x254),
+        (b"_a", 0, 0x248),
+    ];
+    for (name, flags, address) in rows {
+        assert_eq!(rt;
+            find(&LINKED, name),
+            Found::At { flags, address },
+            "{name:?}"
+        );
+    }
+    for name in [
+        b"".as_slice(),
+        b"_",
+        b"_al",
+        b"_alph",
+        b"_alphab",
+        b"_c",
+        b"_zetas",
+        b"_a\0",
+    ] {
+        assert_eq!(rt; find(&LINKED, name), Found::Absent, "{name:?}");
+    }
+}
+
+#[test]
+fn broken_tries(rt: HostRuntime) {
+    let rows: [(&[u8], Found); 11] = [
+        // No node; a size, an edge's place, and an address with no end.
+        (&[], Found::Broken),
+        (&[0x80], Found::Broken),
+        (&[0x00, 0x01, b'a', 0x00, 0x85], Found::Broken),
+        (
+            &[0x00, 0x01, b'a', 0x00, 0x05, 0x02, 0x00, 0x80],
+            Found::Broken,
+        ),
+        // An edge without its NUL; data that goes past the end; a count that does.
+        (&[0x00, 0x01, b'a'], Found::Broken),
+        (&[0x05, 0x00, 0x00, 0x00], Found::Broken),
+        (&[0x00], Found::Broken),
+        // A walk that stays, one that goes back, and one that leaves the bytes.
+        (&[0x00, 0x01, 0x00, 0x00], Found::Broken),
+        (
+            &[0x00, 0x01, 0x00, 0x04, 0x00, 0x01, 0x00, 0x00],
+            Found::Broken,
+        ),
+        (&[0x00, 0x01, b'a', 0x00, 0x40], Found::Broken),
+        // A child behind the one that is taken isn't read.
+        (
+            &[0x00, 0x02, b'a', 0x00, 0x06, b'b', 0x02, 0x04, 0x07, 0x00],
+            Found::At {
+                flags: 4,
+                address: 7,
+            },
+        ),
+    ];
+    for (trie, want) in rows {
+        assert_eq!(rt; find(trie, b"a"), want, "{trie:?}");
+    }
+}

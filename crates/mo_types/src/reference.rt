@@ -1,0 +1,69 @@
+use crate::items::Items;
+use crate::key::AtomKey;
+
+/// Where a reference leads.
+#[derive(Clone, Copy, Debug, PartialEq, Eq)]
+pub enum Target {
+    /// A symbol, by its index in the reference's own object.
+    Name(u32),
+    /// An atom of the reference's own object, and an offset from its start in bytes.
+    Local(AtomKey, u64),
+}
+
+/// What a reference's field holds (`mach-o/arm64/reloc.h`).
+#[derive(Clone, Copy, Debug, PartialEq, Eq)]
+pub enum RefKind {
+    /// An address, of 64 bits.
+    Pointer,
+    /// The difference of two addresses, of 32 bits and signed.
+    Diff32,
+    /// The difference of two addresses, of 64 bits.
+    Diff64,
+    /// The distance of a branch.
+    Branch,
+    /// The distance in pages to the target's page.
+    Page,
+    /// The target's offset in its page.
+    PageOff,
+    /// The distance in pages to the page of the target's slot in the global offset table.
+    GotPage,
+    /// That slot's offset in its page.
+    GotPageOff,
+    /// The distance to that slot, of 32 bits and signed.
+    GotDelta,
+    /// That slot's address, of 64 bits.
+    GotPointer,
+    /// The distance in pages to the page of the target's slot for thread-local variables.
+    TlvPage,
+    /// That slot's offset in its page.
+    TlvPageOff,
+}
+
+/// The bytes of a section that the linker fills in.
+#[derive(Clone, Copy, Debug, PartialEq, Eq)]
+pub struct Field {
+    /// The offset in the section, in bytes.
+    pub offset: u64,
+    /// In bytes.
+    pub size: u64,
+}
+
+/// A reference: a field of an atom that the linker fills in.
+#[derive(Clone, Copy, Debug, PartialEq, Eq)]
+pub struct Ref {
+    /// The atom that holds the field.
+    pub atom: AtomKey,
+    /// The field's offset in the atom, in bytes.
+    pub place: u64,
+    /// The field's offset in the object's bytes.
+    pub file_place: u64,
+    pub kind: RefKind,
+    pub target: Target,
+    /// What is subtracted from the target, in a difference.
+    pub minus: Option<Target>,
+    /// In bytes, added to the target.
+    pub addend: i64,
+}
+
+/// The references of an object: section by section, and in a section in the order of its relocations.
+pub type RefList = Items<Ref>;

@@ -1,0 +1,9 @@
+pub mod ApartLemmas
+pub mod FaultLemmas
+pub mod FeatureLemmas
+pub mod LinkedLemmas
+pub mod LookupLemmas
+pub mod NoFaultLemmas
+pub mod NumberLemmas
+pub mod OverlapLemmas
+pub mod RefLemmas

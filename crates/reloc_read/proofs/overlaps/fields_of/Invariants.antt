@@ -1,0 +1,7 @@
+use Rattle.std.proofs.Common.{◌≡◌}
+use Rattle.std.specs.List.{filter_map, range_with_len}
+use Rattle.mo_types.specs.RelocationRules.{field_at}
+use Rattle.reloc_read.proofs.overlaps.fields_of.Given as goal
+
+abbrev pub invariant-loop-at : goal.invariant-loop-at
+invariant-loop-at l = l.found.items ≡ filter_map (field_at l.relocs) (range_with_len 0 l.at)

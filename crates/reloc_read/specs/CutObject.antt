@@ -1,0 +1,15 @@
+-- An object with its atoms.
+use Rattle.std.specs.Prelude.{ℕ, ◌≡◌, ◌≤◌, ◌==◌, ◌&&◌, ◌||◌, Bool, nat_lt, nat_le}
+use Rattle.mo_types.specs.declared.key.AtomKey.{AtomKey}
+use Rattle.mo_types.specs.Atoms.{atoms_of}
+use Rattle.mo_types.specs.Whole.{IsWhole}
+use Rattle.reloc_read.specs.declared.cut_object.CutObject.{CutObject}
+
+-- the object is whole, and the atoms are its own
+pub record IsCut (cut : CutObject) : Type 0 where
+  pub whole : IsWhole cut.object.now
+  pub atoms : cut.atoms.now ≡ atoms_of cut.object.now cut.file
+
+-- a key in the section of a number, or in one before it, that isn't after an offset of it
+abbrev pub is_up_to : ℕ → ℕ → AtomKey → Bool
+is_up_to number offset key = nat_lt key.section number || (key.section == number && nat_le key.offset offset)

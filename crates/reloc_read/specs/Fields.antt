@@ -1,0 +1,24 @@
+-- Fields of references.
+use Rattle.std.specs.Prelude.{ℕ, ◌+◌, ◌^◌, ◌≡◌, ◌≤◌, ◌<◌, ◌==◌, ◌&&◌, Bool, true, false, not, List, length, slice_index_or, Option, Some}
+use Rattle.std.specs.Option.{option_map_or}
+use Rattle.mo_types.specs.declared.object.RawReloc.{RawReloc}
+use Rattle.mo_types.specs.declared.reference.Field.{Field}
+use Rattle.mo_types.specs.RelocationRules.{field_at, overlap, overlaps_another}
+
+-- a field of 4 to 8 bytes at an offset of 32 bits
+pub record IsSmall (field : Field) : Type 0 where
+  pub offset : field.offset < 2 ^ 32
+  pub low : 4 ≤ field.size
+  pub high : field.size ≤ 8
+
+-- the field of the row at another place overlaps this one
+abbrev pub overlaps_at : List RawReloc → ℕ → Field → ℕ → Bool
+overlaps_at relocs at field other = not (other == at) && option_map_or (overlap field) (field_at relocs other) false
+
+-- no field of a row overlaps that of another one
+pub record AreApart (relocs : List RawReloc) : Type 0 where
+  pub apart : (at : ℕ) (field : Field) → at < length relocs → field_at relocs at ≡ Some field → overlaps_another relocs at field ≡ false
+
+-- each field but the last one ends before the next
+pub record Follow (fields : List Field) : Type 0 where
+  pub next : (k : ℕ) (d : Field) → k + 1 < length fields → (slice_index_or fields k d).offset + (slice_index_or fields k d).size ≤ (slice_index_or fields (k + 1) d).offset

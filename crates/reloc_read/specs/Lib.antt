@@ -1,0 +1,5 @@
+pub mod CutObject
+pub mod Faults
+pub mod Features
+pub mod Fields
+pub mod LinkedSection

@@ -1,0 +1,125 @@
+//! The least place at which each rule of relocations fails.
+
+ghost use Rattle.std.specs.Prelude.{◌≡◌, ◌+◌, ◌*◌, ◌<◌, ◌^◌, true, length, slice_index_or, IfSome, IfOk};
+ghost use Rattle.mo_types.specs.declared.object.Section.{Section};
+ghost use Rattle.reloc_read.specs.CutObject.{IsCut};
+ghost use Rattle.reloc_read.specs.Faults as faults;
+ghost use Rattle.reloc_read.specs.Fields.{AreApart};
+ghost use Rattle.reloc_read.specs.LinkedSection.{IsLinked};
+
+use crate::cut_object::CutObject;
+use crate::linked_section::LinkedSection;
+use crate::overlaps::are_apart;
+use crate::rules::{pair_fault, place_fault, shape_fault};
+use crate::targets::target_fault;
+use mo_types::{OutOfMemory, Section};
+use std::alloc::Global;
+
+/// For each rule the least place at which it fails, where it does.
+#[derive(Clone, Copy, Debug, PartialEq, Eq)]
+pub struct Faults {
+    pub pair: Option<u64>,
+    pub shape: Option<u64>,
+    pub place: Option<u64>,
+    pub target: Option<u64>,
+}
+
+fn lesser(a: Option<u64>, b: Option<u64>) -> Option<u64>
+    ensures { result ≡ faults.lesser a b }
+{
+    match (a, b) {
+        (Some(a), Some(b)) => Some(a.min(b)),
+        (Some(a), None) => Some(a),
+        (None, b) => b,
+    }
+}
+
+const NONE: Faults = Faults {
+    pair: None,
+    shape: None,
+    place: None,
+    target: None,
+};
+
+fn merge(a: Faults, b: Faults) -> Faults
+    ensures { result ≡ faults.merged a b }
+{
+    Faults {
+        pair: lesser(a.pair, b.pair),
+        shape: lesser(a.shape, b.shape),
+        place: lesser(a.place, b.place),
+        target: lesser(a.target, b.target),
+    }
+}
+
+// The place in the object's bytes of a relocation of a section.
+fn place_of(section: &Section, index: Option<usize>) -> Option<u64>
+    requires room { section.now.reloc_offset + 8 * length section.now.relocs < 2 ^ 64 }
+    requires within { IfSome index (λ i. i < length section.now.relocs) }
+    ensures { result ≡ faults.place_of section.now index }
+{
+    let index = index?;
+    Some(section.reloc_offset + 8 * index as u64)
+}
+
+#[tactic(auto, using(crate::proofs::LinkedLemmas::linked))]
+fn row_faults(linked: &LinkedSection, at: usize, apart: bool) -> Faults
+    requires linked { IsLinked linked.now }
+    requires index { at < length linked.now.section.now.relocs }
+    requires apart { apart ≡ true → AreApart linked.now.section.now.relocs }
+    ensures { result ≡ faults.row_faults linked.now.cut.object.now (linked.now.index + 1) linked.now.section.now at }
+{
+    let section = linked.section;
+    Faults {
+        pair: place_of(section, pair_fault(section, at)),
+        shape: place_of(section, shape_fault(section, at)),
+        place: place_of(section, place_fault(linked, at, apart)),
+        target: place_of(section, target_fault(linked.cut.object, section, at)),
+    }
+}
+
+// The faults of a linked section; `apart` says that no two of its fields overlap.
+#[tactic(auto, using(crate::proofs::FaultLemmas::rows))]
+fn section_faults(linked: &LinkedSection, apart: bool) -> Faults
+    requires linked { IsLinked linked.now }
+    requires apart { apart ≡ true → AreApart linked.now.section.now.relocs }
+    ensures { result ≡ faults.section_faults linked.now.cut.object.now (linked.now.index + 1) linked.now.section.now }
+{
+    let mut found = NONE;
+    for at in 0..linked.section.relocs.len() {
+        found = merge(found, row_faults(linked, at, apart));
+    }
+    found
+}
+
+#[tactic(auto, using(crate::proofs::FaultLemmas::sections))]
+fn faults_at(alloc: Global, cut: &CutObject, index: usize) -> Result<Faults, OutOfMemory>
+    requires cut { IsCut cut.now }
+    requires index { index < length cut.now.object.now.sections }
+    ensures { IfOk result (λ found. (d : Section) → found ≡ faults.section_faults cut.now.object.now (index + 1) (slice_index_or cut.now.object.now.sections index d)) }
+{
+    let section = &cut.object.sections.as_slice()[index];
+    if section.is_dropped() {
+        return Ok(NONE);
+    }
+    let linked = LinkedSection {
+        cut: *cut,
+        index,
+        section,
+    };
+    let apart = are_apart(alloc, section.relocs.as_slice())?;
+    Ok(section_faults(&linked, apart))
+}
+
+/// The least places at which the rules fail.
+#[tactic(auto, using(crate::proofs::FaultLemmas::objects))]
+pub fn all_faults(alloc: Global, cut: &CutObject) -> Result<Faults, OutOfMemory>
+    requires { IsCut cut.now }
+    ensures { IfOk result (λ found. found ≡ faults.all_faults cut.now.object.now) }
+{
+    let mut found = NONE;
+    for index in 0..cut.object.sections.len() {
+        found = merge(found, faults_at(alloc, cut, index)?);
+    }
+    Ok(found)
+}

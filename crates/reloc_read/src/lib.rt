@@ -1,0 +1,69 @@
+//! The references of an object: what its relocations say, after the rules that they keep.
+#![tactic(auto)]
+
+ghost use Rattle.std.specs.Prelude.{◌≡◌};
+ghost use Rattle.mo_types.specs.Atoms.{atoms_of};
+ghost use Rattle.mo_types.specs.Gives.{Gives};
+ghost use Rattle.mo_types.specs.Refs.{IsRefFault};
+ghost use Rattle.mo_types.specs.Refs as refs;
+ghost use Rattle.mo_types.specs.Whole.{IsWhole};
+
+mod cut_object;
+mod faults;
+mod features;
+mod linked_section;
+mod numbers;
+mod overlaps;
+mod refs;
+mod rows;
+mod rules;
+mod targets;
+
+use cut_object::CutObject;
+use faults::all_faults;
+use features::{has_absolute, has_authenticated};
+use mo_types::{AtomList, Feature, FileId, Object, RefFault, RefList};
+use refs::all_refs;
+use std::alloc::Global;
+
+/// The references of a whole object with its atoms, one for each row of the table of relocations, section by
+/// section, and in a section in the order of its relocations; or the first of the rules Pair, Shape, Place and
+/// Target that fails, at its least place, or the first feature that the linker doesn't have
+/// (`mach-o/arm64/reloc.h`).
+#[tactic(auto, unfolding(mo_types::specs::Refs::refs_of))]
+pub fn refs_of(
+    alloc: Global,
+    object: &Object,
+    atoms: &AtomList,
+    file: FileId,
+) -> Result<RefList, RefFault>
+    requires whole { IsWhole object.now }
+    requires atoms { atoms.now ≡ atoms_of object.now file }
+    ensures { Gives IsRefFault result (refs.refs_of object.now file) }
+{
+    let cut = CutObject {
+        object,
+        atoms: atoms.as_slice(),
+        file,
+    };
+    let faults = all_faults(alloc, &cut)?;
+    if let Some(place) = faults.pair {
+        return Err(RefFault::BadPair { place });
+    }
+    if let Some(place) = faults.shape {
+        return Err(RefFault::BadShape { place });
+    }
+    if let Some(place) = faults.place {
+        return Err(RefFault::BadPlace { place });
+    }
+    if let Some(place) = faults.target {
+        return Err(RefFault::BadTarget { place });
+    }
+    if has_absolute(object) {
+        return Err(RefFault::Unsupported(Feature::Absolute));
+    }
+    if has_authenticated(object) {
+        return Err(RefFault::Unsupported(Feature::PointerAuth));
+    }
+    Ok(all_refs(alloc, &cut)?)
+}

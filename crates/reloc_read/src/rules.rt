@@ -1,0 +1,116 @@
+//! The rules that relocations keep: for a place of a section's table, the relocation at fault there.
+
+ghost use Rattle.std.specs.Prelude.{◌≡◌, ◌+◌, ◌<◌, ◌≤◌, ℕ, length, true, Some, IfSome};
+ghost use Rattle.mo_types.specs.RelocationRules as rules;
+ghost use Rattle.mo_types.specs.declared.object.Object.{Object};
+ghost use Rattle.reloc_read.specs.Fields.{AreApart, IsSmall};
+ghost use Rattle.reloc_read.specs.LinkedSection.{IsLinked};
+
+use crate::linked_section::{LinkedSection, cut_at};
+use crate::overlaps::overlaps_another;
+use crate::rows::{
+    field_at, first_before, is_first, is_instruction, is_second, is_subtractor, kind_at, last_at,
+};
+use mo_types::{Field, RawReloc, RefKind, Section};
+
+/// The first of two relocations that isn't followed by the second.
+#[tactic(auto, unfolding(mo_types::specs::RelocationRules::pair_fault))]
+pub fn pair_fault(section: &Section, at: usize) -> Option<usize>
+    requires { at < length section.now.relocs }
+    ensures value { (object : Object) (number : ℕ) → result ≡ rules.pair_fault object number section.now at }
+    ensures within { IfSome result (λ index. index ≤ at) }
+{
+    let relocs = section.relocs.as_slice();
+    let reloc = relocs.get(at)?;
+    let followed = match relocs.get(at + 1) {
+        Some(next) => is_second(reloc, next),
+        None => false,
+    };
+    if is_first(reloc) && !followed {
+        return Some(at);
+    }
+    None
+}
+
+/// The relocation of a row that the table doesn't have.
+#[tactic(auto, unfolding(mo_types::specs::RelocationRules::shape_fault))]
+pub fn shape_fault(section: &Section, at: usize) -> Option<usize>
+    ensures value { (object : Object) (number : ℕ) → result ≡ rules.shape_fault object number section.now at }
+    ensures within { IfSome result (λ index. index ≤ at) }
+{
+    let relocs = section.relocs.as_slice();
+    if last_at(relocs, at).is_none() || kind_at(relocs, at).is_some() {
+        return None;
+    }
+    match first_before(relocs, at) {
+        Some(first) if is_subtractor(&first) => Some(at - 1),
+        _ => Some(at),
+    }
+}
+
+// The first relocation of the row that ends at a place.
+fn row_start(relocs: &[RawReloc], at: usize) -> usize
+    ensures value { result ≡ rules.row_start relocs.now at }
+    ensures within { result ≤ at }
+{
+    if first_before(relocs, at).is_some() {
+        at - 1
+    } else {
+        at
+    }
+}
+
+fn is_in_one_atom(linked: &LinkedSection, field: &Field) -> bool
+    requires linked { IsLinked linked.now }
+    requires small { IsSmall field.now }
+    ensures { result ≡ rules.is_in_one_atom linked.now.cut.object.now (linked.now.index + 1) linked.now.section.now field.now }
+{
+    let end = field.offset + field.size;
+    end <= linked.section.size && cut_at(linked, end - 1) == cut_at(linked, field.offset)
+}
+
+fn has_fields(section: &Section) -> bool
+    ensures { result ≡ rules.has_fields section.now }
+{
+    !section.is_zerofill() && !section.is_strings() && section.literal_size().is_none()
+}
+
+fn is_bad_field(
+    linked: &LinkedSection,
+    at: usize,
+    kind: RefKind,
+    field: &Field,
+    apart: bool,
+) -> bool
+    requires linked { IsLinked linked.now }
+    requires small { IsSmall field.now }
+    requires index { at < length linked.now.section.now.relocs }
+    requires is { rules.field_at linked.now.section.now.relocs at ≡ Some field.now }
+    requires apart { apart ≡ true → AreApart linked.now.section.now.relocs }
+    ensures { result ≡ rules.is_bad_field linked.now.cut.object.now (linked.now.index + 1) linked.now.section.now at kind field.now }
+{
+    field.offset >= 1 << 31
+        || !is_in_one_atom(linked, field)
+        || (is_instruction(kind) && field.offset % 4 != 0)
+        || overlaps_another(linked.section.relocs.as_slice(), at, field, apart)
+        || !has_fields(linked.section)
+}
+
+/// The first relocation of a row whose field lies where none may lie; `apart` says that no two fields of the
+/// section overlap.
+#[tactic(auto, unfolding(mo_types::specs::RelocationRules::place_fault))]
+pub fn place_fault(linked: &LinkedSection, at: usize, apart: bool) -> Option<usize>
+    requires linked { IsLinked linked.now }
+    requires index { at < length linked.now.section.now.relocs }
+    requires apart { apart ≡ true → AreApart linked.now.section.now.relocs }
+    ensures value { result ≡ rules.place_fault linked.now.cut.object.now (linked.now.index + 1) linked.now.section.now at }
+    ensures within { IfSome result (λ index. index ≤ at) }
+{
+    let relocs = linked.section.relocs.as_slice();
+    let kind = kind_at(relocs, at)?;
+    let field = field_at(relocs, at)?;
+    if is_bad_field(linked, at, kind, &field, apart) {
+        return Some(row_start(relocs, at));
+    }
+    None
+}
