@@ -1,5 +1,5 @@
 -- Reads and writes that follow one another.
-use Rattle.std.proofs.Common.{◌≡◌, ℕ, ◌+◌, ◌≤◌, List, [], ◌++◌, Option, Some, None, IfSome, ◌∙◌, ap, sym, refl, subst, length, take, drop, arith}
+use Rattle.std.proofs.Common.{◌≡◌, ℕ, ◌+◌, ◌≤◌, List, ◌++◌, Option, Some, None, IfSome, ◌∙◌, ap, sym, subst, length, take, drop, arith}
 use Rattle.std.specs.Io.KnownBytes.{Appends, Consumes, IsAtEnd, Keeps}
 use Rattle.std.proofs.KnownBytes.{Appends-trans, Consumes-trans, Keeps-refl, Keeps-trans}
 use Rattle.std.proofs.Math.Seq.{take-add, take-append_seam}
