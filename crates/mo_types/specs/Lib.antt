@@ -2,6 +2,7 @@ pub mod Answer
 pub mod Atoms
 pub mod Cause
 pub mod Gives
+pub mod Kind
 pub mod Message
 pub mod Refs
 pub mod RelocationRules

@@ -7,8 +7,10 @@ mod bytes;
 mod cause;
 mod items;
 mod key;
+mod kind;
 mod memory;
 mod object;
+mod object_fault;
 mod reference;
 mod reference_fault;
 mod section;
@@ -22,9 +24,11 @@ pub use bytes::{Arg, ArgList, Bytes};
 pub use cause::{Feature, RangeKind, Rule, UsageRule, Which};
 pub use items::Items;
 pub use key::{AtomKey, FileId};
+pub use kind::{Kind, kind_of};
 pub use memory::OutOfMemory;
 pub use object::{
     Object, RawReloc, RelocList, Section, SectionList, Symbol, SymbolKind, SymbolList,
 };
+pub use object_fault::ObjFault;
 pub use reference::{Field, Ref, RefKind, RefList, Target};
 pub use reference_fault::RefFault;

@@ -212,3 +212,103 @@ fn keys_are_in_the_order_of_the_command_line(rt: HostRuntime) {
         last = Some(key);
     }
 }
+
+// Each file's first bytes with what it is.
+#[test]
+fn first_bytes_tell_what_a_file_is(rt: HostRuntime) -> Result<(), Fail> {
+    let files: [(&[u8], Kind); 24] = [
+        (b"\xcf\xfa\xed\xfe", Kind::MachO),
+        (b"\xcf\xfa\xed\xfe\x07\x00\x00\x01", Kind::MachO),
+        (b"\xcf\xfa\xed", Kind::NotAnInput),
+        (b"\xce\xfa\xed\xfe", Kind::NotAnInput),
+        (b"\xfe\xed\xfa\xcf", Kind::NotAnInput),
+        (b"!<arch>\n#1/12", Kind::Archive),
+        (b"!<arch>\r\n", Kind::NotAnInput),
+        (b"\xca\xfe\xba\xbe", Kind::Universal),
+        (b"\xca\xfe\xba\xbf", Kind::Refused(Feature::Fat64)),
+        (b"!<thin>\n", Kind::Refused(Feature::ThinArchive)),
+        (b"BC\xc0\xde5\x14", Kind::Refused(Feature::Bitcode)),
+        (b"\xde\xc0\x17\x0b", Kind::Refused(Feature::Bitcode)),
+        (b"{\"tapi_tbd_version\": 5}", Kind::Refused(Feature::Tbd)),
+        (b"--- !tapi-tbd\ntbd-version: 4\n", Kind::Stub),
+        (b"---x", Kind::Stub),
+        (b"\n \t\n# a comment\n\t # another\n---", Kind::Stub),
+        (b"#---\n--- !tapi-tbd", Kind::Stub),
+        (b" ---\n---\n", Kind::NotAnInput),
+        (b"--\n---\n", Kind::NotAnInput),
+        (b"\r\n---\n", Kind::NotAnInput),
+        (b"# only a comment", Kind::NotAnInput),
+        (b"\n\n\n", Kind::NotAnInput),
+        (b"int main(void) {}", Kind::NotAnInput),
+        (b"", Kind::NotAnInput),
+    ];
+    for (bytes, kind) in files {
+        assert_eq!(rt; kind_of(bytes), kind, "{bytes:?}");
+    }
+    Ok(())
+}
+
+fn section_of(alloc: Global, kind: u8, bytes: &[u8]) -> Result<Section, OutOfMemory> {
+    Ok(Section {
+        segment: Bytes::from_slice(alloc, b"__TEXT")?,
+        name: Bytes::from_slice(alloc, b"__cstring")?,
+        address: 0x100,
+        size: bytes.len() as u64,
+        align: 0,
+        kind,
+        attributes: 0,
+        file_offset: 0x200,
+        reloc_offset: 0,
+        bytes: Bytes::from_slice(alloc, bytes)?,
+        relocs: RelocList::new(alloc),
+    })
+}
+
+// An object of one section, and a definition in it.
+fn object_of(
+    alloc: Global,
+    kind: u8,
+    bytes: &[u8],
+    section: u8,
+    value: u64,
+) -> Result<Object, OutOfMemory> {
+    let mut sections = SectionList::new(alloc);
+    sections.push(section_of(alloc, kind, bytes)?)?;
+    let mut symbols = SymbolList::new(alloc);
+    symbols.push(Symbol {
+        name: Bytes::from_slice(alloc, b"_s")?,
+        kind: SymbolKind::Defined { section, value },
+        external: true,
+        hidden: false,
+        weak_def: false,
+        weak_ref: false,
+        no_strip: false,
+        alt: false,
+    })?;
+    Ok(Object {
+        subsections: true,
+        sections,
+        symbols,
+    })
+}
+
+// Strings end in NUL, literals are whole, and a definition lies in its section or at its end.
+#[test]
+fn whole_objects_are_told_from_others(rt: HostRuntime) -> Result<(), Fail> {
+    let objects: [(u8, &[u8], u8, u64, bool); 9] = [
+        (2, b"a\0bc\0", 1, 0x100, true),
+        (2, b"a\0bc\0", 1, 0x105, true),
+        (2, b"a\0bc\0", 1, 0x106, false),
+        (2, b"a\0bc\0", 1, 0xff, false),
+        (2, b"a\0bc\0", 0, 0x100, false),
+        (2, b"a\0bc\0", 2, 0x100, false),
+        (2, b"a\0bc", 1, 0x100, false),
+        (2, b"", 1, 0x100, true),
+        (4, b"a\0bc", 1, 0x100, false),
+    ];
+    for (kind, bytes, section, value, whole) in objects {
+        let object = object_of(rt.alloc(), kind, bytes, section, value)?;
+        assert_eq!(rt; object.is_whole(), whole, "{bytes:?} {section} {value}");
+    }
+    Ok(())
+}

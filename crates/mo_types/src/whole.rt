@@ -1,16 +1,16 @@
-ghost use Rattle.std.specs.Prelude.{◌≡◌, ◌+◌, ◌-◌, ◌*◌, ◌%◌, ◌<◌, ◌^◌, length, slice_index, true, All, IsTrue, IfSome, if◌then◌else◌};
+ghost use Rattle.std.specs.Prelude.{◌≡◌, ◌↔◌, ◌+◌, ◌-◌, ◌*◌, ◌%◌, ◌<◌, ◌^◌, length, slice_index, true, All, IsTrue, IfSome, if◌then◌else◌};
 ghost use Rattle.mo_types.specs.Whole as whole;
 
 use crate::object::{Object, RawReloc, Section, Symbol, SymbolKind};
 
 fn are_numbered(relocs: &[RawReloc]) -> bool
-    ensures { IsTrue result → All (λ reloc. reloc.number < 2 ^ 24) relocs.now }
+    ensures { IsTrue result ↔ All (λ reloc. reloc.number < 2 ^ 24) relocs.now }
 {
     relocs.iter().all(|reloc| reloc.number < 1 << 24)
 }
 
 fn has_whole_literals(section: &Section) -> bool
-    ensures { IsTrue result → IfSome (whole.literal_size section.now.kind) (λ size. section.now.size % size ≡ 0) }
+    ensures { IsTrue result ↔ (IfSome (whole.literal_size section.now.kind) (λ size. section.now.size % size ≡ 0)) }
 {
     match section.literal_size() {
         Some(size) => section.size % size == 0,
@@ -20,7 +20,7 @@ fn has_whole_literals(section: &Section) -> bool
 
 fn has_whole_strings(section: &Section) -> bool
     requires { whole.is_strings section.now.kind ≡ true → length section.now.bytes ≡ section.now.size }
-    ensures { IsTrue result → IsTrue (whole.is_strings section.now.kind) → 0 < section.now.size → slice_index section.now.bytes (section.now.size - 1) ≡ 0 }
+    ensures { IsTrue result ↔ (IsTrue (whole.is_strings section.now.kind) → 0 < section.now.size → slice_index section.now.bytes (section.now.size - 1) ≡ 0) }
 {
     if !section.is_strings() || section.size == 0 {
         return true;
@@ -30,9 +30,7 @@ fn has_whole_strings(section: &Section) -> bool
 }
 
 fn has_room(section: &Section) -> bool
-    ensures addresses { IsTrue result → section.now.address + section.now.size < 2 ^ 63 }
-    ensures contents { IsTrue result → section.now.file_offset + section.now.size < 2 ^ 64 }
-    ensures relocations { IsTrue result → section.now.reloc_offset + 8 * length section.now.relocs < 2 ^ 64 }
+    ensures { IsTrue result ↔ ((section.now.address + section.now.size < 2 ^ 63) × (section.now.file_offset + section.now.size < 2 ^ 64) × (section.now.reloc_offset + 8 * length section.now.relocs < 2 ^ 64)) }
 {
     let address = section.address;
     let size = section.size;
@@ -45,7 +43,7 @@ fn has_room(section: &Section) -> bool
 }
 
 fn has_its_bytes(section: &Section) -> bool
-    ensures { IsTrue result → length section.now.bytes ≡ (if whole.is_zerofill section.now.kind then 0 else section.now.size) }
+    ensures { IsTrue result ↔ (length section.now.bytes ≡ (if whole.is_zerofill section.now.kind then 0 else section.now.size)) }
 {
     let size = if section.is_zerofill() {
         0
@@ -56,7 +54,7 @@ fn has_its_bytes(section: &Section) -> bool
 }
 
 fn is_whole_section(section: &Section) -> bool
-    ensures { IsTrue result → whole.IsWholeSection section.now }
+    ensures { IsTrue result ↔ whole.IsWholeSection section.now }
 {
     has_its_bytes(section)
         && has_room(section)
@@ -66,7 +64,7 @@ fn is_whole_section(section: &Section) -> bool
 }
 
 fn is_defined_within(sections: &[Section], kind: &SymbolKind) -> bool
-    ensures { IsTrue result → whole.IsDefinedWithin sections.now kind.now }
+    ensures { IsTrue result ↔ whole.IsDefinedWithin sections.now kind.now }
 {
     let SymbolKind::Defined { section, value } = *kind else {
         return true;
@@ -79,13 +77,13 @@ fn is_defined_within(sections: &[Section], kind: &SymbolKind) -> bool
 }
 
 fn are_whole_sections(sections: &[Section]) -> bool
-    ensures { IsTrue result → All whole.IsWholeSection sections.now }
+    ensures { IsTrue result ↔ All whole.IsWholeSection sections.now }
 {
     sections.iter().all(is_whole_section)
 }
 
 fn are_defined_within(sections: &[Section], symbols: &[Symbol]) -> bool
-    ensures { IsTrue result → All (λ symbol. whole.IsDefinedWithin sections.now symbol.kind) symbols.now }
+    ensures { IsTrue result ↔ All (λ symbol. whole.IsDefinedWithin sections.now symbol.kind) symbols.now }
 {
     symbols
         .iter()
@@ -93,13 +91,13 @@ fn are_defined_within(sections: &[Section], symbols: &[Symbol]) -> bool
 }
 
 impl Object {
-    ghost use Rattle.std.specs.Prelude.{IsTrue};
+    ghost use Rattle.std.specs.Prelude.{◌↔◌, IsTrue};
     ghost use Rattle.mo_types.specs.Whole.{IsWhole};
 
     /// Whether the object is whole, as what the reader of objects gives is: its numbers have room, its
     /// sections have their bytes, and its definitions lie in their sections.
     pub fn is_whole(&self) -> bool
-        ensures { IsTrue result → IsWhole self.now }
+        ensures { IsTrue result ↔ IsWhole self.now }
     {
         let sections = self.sections.as_slice();
         let symbols = self.symbols.as_slice();
