@@ -1,0 +1,10 @@
+pub mod Commands
+pub mod Each
+pub mod Faults
+pub mod Features
+pub mod Header
+pub mod Names
+pub mod Object
+pub mod Relocations
+pub mod Sections
+pub mod Symbols

@@ -1,0 +1,82 @@
+-- The object that a file is, or the first rule that it breaks or feature that the linker doesn't have.
+use Rattle.std.specs.Prelude.{ℕ, ◌^◌, ◌≡◌, ◌==◌, ◌⊎◌, Bool, not, nat_lt, bit_and, List, length, Option, Some, None, Result, Ok, Err}
+use Rattle.mo_types.specs.Gives.{◌>>=◌, guarded}
+use Rattle.mo_types.specs.Kind.{kind_of}
+use Rattle.mo_types.specs.declared.cause.Feature.{Feature}
+use Rattle.mo_types.specs.declared.cause.Rule.TheVariants as rule
+use Rattle.mo_types.specs.declared.cause.Which.TheVariants.{Symbols}
+use Rattle.mo_types.specs.declared.kind.Kind.TheVariants.{MachO}
+use Rattle.mo_types.specs.declared.object_fault.ObjFault.{ObjFault}
+use Rattle.mo_types.specs.declared.object_fault.ObjFault.TheVariants.{Unsupported, Limit}
+use Rattle.mo_types.specs.declared.object.Object.{Object}
+use Rattle.mo_types.specs.declared.object.Section.{Section}
+use Rattle.mo_format.specs.declared.header.MachHeader.{MachHeader}
+use Rattle.mo_obj.specs.Commands.{commands_of, frame_of}
+use Rattle.mo_obj.specs.Features.{first_feature}
+use Rattle.mo_obj.specs.Header.{header_of}
+use Rattle.mo_obj.specs.Relocations.{relocations_of}
+use Rattle.mo_obj.specs.Sections.{headers_of, sections_of, is_outside, has_relocs_outside, has_broken_literals, each_keeps}
+use Rattle.mo_obj.specs.Symbols.{symtab_of, symbols_of, any_foreign}
+use Rattle.mo_obj.specs.declared.commands.Frame.{Frame}
+
+-- MH_SUBSECTIONS_VIA_SYMBOLS
+abbrev pub may_be_cut : MachHeader → Bool
+may_be_cut header = not (bit_and header.flags 0x2000 == 0)
+
+-- the sections, which keep the rules Section and Relocations
+unfoldable pub checked_sections : List ℕ → Frame → Result (List Section) ObjFault
+checked_sections bytes frame = do
+  section ← each_keeps rule.Section frame (is_outside (length bytes)) (headers_of bytes frame)
+  relocations ← each_keeps rule.Relocations frame (has_relocs_outside (length bytes)) (headers_of bytes frame)
+  Ok (sections_of bytes (headers_of bytes frame))
+
+-- there is no feature that the linker doesn't have
+abbrev pub lacks : Option Feature → Result (Unit {0}) ObjFault
+lacks None = Ok tt
+lacks (Some feature) = Err (Unsupported feature)
+
+-- an object keeps the rules of relocations and has no feature that the linker doesn't have, and its symbols
+-- are fewer than 2^24
+unfoldable pub accepted : Object → Bool → Result Object ObjFault
+accepted object foreign = do
+  relocs ← relocations_of object
+  supported ← lacks (first_feature object foreign relocs)
+  guarded (nat_lt (length object.symbols) (2 ^ 24)) (Limit Symbols) object
+
+-- The rules in their order, each asked of the whole file before the next one: the first that fails is told, at
+-- its least place. Features come after the rules.
+unfoldable pub object_of : List ℕ → Result Object ObjFault
+object_of bytes = do
+  header ← header_of bytes
+  commands ← commands_of bytes header
+  frame ← frame_of bytes commands
+  sections ← checked_sections bytes frame
+  symtab ← symtab_of bytes frame
+  symbols ← symbols_of bytes symtab sections
+  literals ← each_keeps rule.Literals frame has_broken_literals sections
+  accepted (record { subsections = may_be_cut header; sections = sections; symbols = symbols }) (any_foreign bytes symtab)
+
+-- the bytes are those of an object
+pub record IsObject (bytes : List ℕ) (object : Object) : Type 0 where
+  pub kind : kind_of bytes ≡ MachO
+  pub is : object_of bytes ≡ Ok object
+
+-- the bytes are a Mach-O file, and the fault is the first one that it has
+pub record IsFaulty (bytes : List ℕ) (fault : ObjFault) : Type 0 where
+  pub kind : kind_of bytes ≡ MachO
+  pub is : object_of bytes ≡ Err fault
+
+-- one object and no fault
+pub record IsOne (bytes : List ℕ) (object : Object) : Type 0 where
+  pub is : IsObject bytes object
+  pub alone : (other : Object) → IsObject bytes other → other ≡ object
+  pub faultless : (fault : ObjFault) → IsFaulty bytes fault → ⊥
+
+-- one fault and no object
+pub record IsFaultyAlone (bytes : List ℕ) (fault : ObjFault) : Type 0 where
+  pub is : IsFaulty bytes fault
+  pub alone : (other : ObjFault) → IsFaulty bytes other → other ≡ fault
+  pub objectless : (object : Object) → IsObject bytes object → ⊥
+
+abbrev pub IsOneOrFaulty : List ℕ → Type 0
+IsOneOrFaulty bytes = ((object : Object) × IsOne bytes object) ⊎ ((fault : ObjFault) × IsFaultyAlone bytes fault)

@@ -1,0 +1,260 @@
+//! The symbols of an object (`loader.h`: `symtab_command`; `nlist.h`: `nlist_64`).
+
+ghost use Rattle.std.specs.Prelude.{◌≡◌, ◌+◌, ◌*◌, ◌≤◌, ◌<◌, ◌^◌, true, false, length, All, IsTrue, IfOk, IfSome};
+ghost use Rattle.std.specs.Option.{option_map};
+ghost use Rattle.mo_types.specs.Gives.{Gives};
+ghost use Rattle.mo_types.specs.RelocationRules.{is_within};
+ghost use Rattle.mo_types.specs.Whole.{IsDefinedWithin, IsDefinition};
+ghost use Rattle.mo_obj.specs.Each.{Each};
+ghost use Rattle.mo_obj.specs.Faults.{IsObjFault};
+ghost use Rattle.mo_obj.specs.Sections.{IsRoomy};
+ghost use Rattle.mo_obj.specs.Symbols as symbols;
+ghost use Rattle.mo_obj.specs.Symbols.{IsInPlace, IsTable};
+
+use crate::commands::Frame;
+use crate::names::{part, string_at};
+use mo_format::{Nlist, SymtabCommand};
+use mo_types::{Bytes, ObjFault, OutOfMemory, Rule, Section, Symbol, SymbolKind, SymbolList};
+use std::alloc::Global;
+
+// The table of an object without one.
+const NO_SYMTAB: SymtabCommand = SymtabCommand {
+    cmd: 0,
+    cmdsize: 0,
+    symoff: 0,
+    nsyms: 0,
+    stroff: 0,
+    strsize: 0,
+};
+
+fn is_within_file(size: usize, symtab: &SymtabCommand) -> bool
+    ensures { result ≡ symbols.is_within_file size symtab.now }
+{
+    let size = size as u64;
+    symtab.cmdsize == 24
+        && u64::from(symtab.symoff) + 16 * u64::from(symtab.nsyms) <= size
+        && u64::from(symtab.stroff) + u64::from(symtab.strsize) <= size
+}
+
+/// The symbol table, where its entries and strings lie within the file.
+#[tactic(auto, unfolding(crate::specs::Symbols::symtab_of))]
+pub fn symtab_of(bytes: &[u8], frame: Frame) -> Result<SymtabCommand, ObjFault>
+    ensures exact { Gives IsObjFault result (symbols.symtab_of bytes.now frame) }
+    ensures within { IfOk result (IsTable (length bytes.now)) }
+{
+    let Some(at) = frame.symtab else {
+        return Ok(NO_SYMTAB);
+    };
+    let fault = ObjFault::Malformed {
+        place: at as u64,
+        rule: Rule::Symbols,
+    };
+    if at > bytes.len() || bytes.len() - at < SymtabCommand::SIZE {
+        return Err(fault);
+    }
+    let symtab = SymtabCommand::read(bytes, at);
+    if !is_within_file(bytes.len(), &symtab) {
+        return Err(fault);
+    }
+    Ok(symtab)
+}
+
+fn is_stab(entry: &Nlist) -> bool
+    ensures { result ≡ symbols.is_stab entry.now }
+{
+    entry.n_type & 0xe0 != 0
+}
+
+fn is_external(entry: &Nlist) -> bool
+    ensures { result ≡ symbols.is_external entry.now }
+{
+    entry.n_type & 0x01 != 0
+}
+
+// Whether an address is one of a section's, or its end.
+fn holds(section: &Section, address: u64) -> bool
+    requires { section.now.address + section.now.size < 2 ^ 63 }
+    ensures { result ≡ is_within section.now address }
+{
+    section.address <= address && address <= section.address + section.size
+}
+
+fn is_defined_within(sections: &[Section], entry: &Nlist) -> bool
+    requires { All IsRoomy sections.now }
+    ensures exact { result ≡ symbols.is_defined_within sections.now entry.now }
+    ensures placed { result ≡ true → IsDefinition sections.now entry.now.n_sect entry.now.n_value }
+{
+    if entry.n_sect == 0 || usize::from(entry.n_sect) > sections.len() {
+        return false;
+    }
+    let index = usize::from(entry.n_sect) - 1;
+    holds(&sections[index], entry.n_value)
+}
+
+#[tactic(auto, unfolding(crate::specs::Symbols::kind_of))]
+fn is_placed(sections: &[Section], entry: &Nlist) -> bool
+    requires { All IsRoomy sections.now }
+    ensures exact { result ≡ symbols.is_placed sections.now entry.now }
+    ensures placed { result ≡ true → IsDefinedWithin sections.now (symbols.kind_of entry.now) }
+{
+    is_stab(entry) || entry.n_type & 0x0e != 0x0e || is_defined_within(sections, entry)
+}
+
+fn common_or_undefined(entry: &Nlist) -> SymbolKind
+    ensures { result ≡ symbols.common_or_undefined entry.now }
+{
+    if entry.n_value == 0 {
+        return SymbolKind::Undefined;
+    }
+    SymbolKind::Common {
+        size: entry.n_value,
+        align: (entry.n_desc / 0x100 % 0x10) as u8,
+    }
+}
+
+#[tactic(auto, unfolding(crate::specs::Symbols::kind_of))]
+fn kind_of(entry: &Nlist) -> SymbolKind
+    ensures { result ≡ symbols.kind_of entry.now }
+{
+    if is_stab(entry) {
+        return SymbolKind::Passed;
+    }
+    match entry.n_type & 0x0e {
+        0x0e => SymbolKind::Defined {
+            section: entry.n_sect,
+            value: entry.n_value,
+        },
+        2 => SymbolKind::Absolute,
+        0 if is_external(entry) => common_or_undefined(entry),
+        0 => SymbolKind::Passed,
+        _ => SymbolKind::Undefined,
+    }
+}
+
+fn symbol_with(entry: &Nlist, name: Bytes) -> Symbol
+    ensures { result ≡ symbols.symbol_with entry.now name }
+{
+    let counts = !is_stab(entry);
+    Symbol {
+        name,
+        kind: kind_of(entry),
+        external: counts && is_external(entry),
+        hidden: counts && entry.n_type & 0x10 != 0,
+        weak_def: counts && entry.n_desc & 0x80 != 0,
+        weak_ref: counts && entry.n_desc & 0x40 != 0,
+        no_strip: counts && entry.n_desc & 0x20 != 0,
+        alt: counts && entry.n_desc & 0x200 != 0,
+    }
+}
+
+#[tactic(auto, unfolding(crate::specs::Symbols::symbol_of))]
+fn symbol_of(
+    alloc: Global,
+    strings: &[u8],
+    sections: &[Section],
+    entry: &Nlist,
+) -> Result<Option<Symbol>, OutOfMemory>
+    requires { All IsRoomy sections.now }
+    ensures exact { IfOk result (λ symbol. symbol ≡ symbols.symbol_of strings.now sections.now entry.now) }
+    ensures placed { IfOk result (λ symbol. IfSome symbol (IsInPlace sections.now)) }
+{
+    let Some(name) = string_at(strings, entry.n_strx as usize) else {
+        return Ok(None);
+    };
+    if !is_placed(sections, entry) {
+        return Ok(None);
+    }
+    let name = Bytes::from_slice(alloc, name)?;
+    Ok(Some(symbol_with(entry, name)))
+}
+
+#[tactic(auto, unfolding(crate::specs::Symbols::entry_at))]
+fn entry_at(bytes: &[u8], symtab: &SymtabCommand, i: usize) -> Nlist
+    requires table { IsTable (length bytes.now) symtab.now }
+    requires index { i < symtab.now.nsyms }
+    ensures { result ≡ symbols.entry_at bytes.now symtab.now i }
+{
+    Nlist::read(bytes, symtab.symoff as usize + 16 * i)
+}
+
+#[tactic(auto, unfolding(crate::specs::Symbols::symbol_at))]
+fn symbol_at(
+    alloc: Global,
+    bytes: &[u8],
+    symtab: &SymtabCommand,
+    sections: &[Section],
+    i: usize,
+) -> Result<Symbol, ObjFault>
+    requires table { IsTable (length bytes.now) symtab.now }
+    requires index { i < symtab.now.nsyms }
+    requires sections { All IsRoomy sections.now }
+    ensures exact { Gives IsObjFault result (symbols.symbol_at bytes.now symtab.now sections.now i) }
+    ensures placed { IfOk result (IsInPlace sections.now) }
+{
+    let strings = part(bytes, symtab.stroff as usize, symtab.strsize as usize);
+    let entry = entry_at(bytes, symtab, i);
+    match symbol_of(alloc, strings, sections, &entry)? {
+        Some(symbol) => Ok(symbol),
+        None => Err(ObjFault::Malformed {
+            place: u64::from(symtab.symoff) + 16 * i as u64,
+            rule: Rule::Symbol,
+        }),
+    }
+}
+
+/// The symbols of the table, in its order.
+#[tactic(auto, using(mo_types::proofs::Each::table_loop, crate::proofs::TableLemmas::each, crate::proofs::SymbolLemmas::counts), unfolding(crate::specs::Symbols::symbols_of))]
+pub fn symbols_of(
+    alloc: Global,
+    bytes: &[u8],
+    symtab: &SymtabCommand,
+    sections: &[Section],
+) -> Result<SymbolList, ObjFault>
+    requires table { IsTable (length bytes.now) symtab.now }
+    requires sections { All IsRoomy sections.now }
+    ensures exact { Gives IsObjFault result (symbols.symbols_of bytes.now symtab.now sections.now) }
+    ensures placed { IfOk result (Each (IsInPlace sections.now)) }
+    ensures count { IfOk result (λ list. length list ≡ symtab.now.nsyms) }
+{
+    let count = symtab.nsyms as usize;
+    let mut list = Vec::with_capacity(alloc, count)?;
+    for i in 0..count {
+        list.push(symbol_at(alloc, bytes, symtab, sections, i)?)?;
+    }
+    Ok(SymbolList::from_vec(list))
+}
+
+fn is_foreign(entry: &Nlist) -> bool
+    ensures { result ≡ symbols.is_foreign entry.now }
+{
+    let kind = entry.n_type & 0x0e;
+    !is_stab(entry)
+        && if kind == 0x0e {
+            entry.n_desc & 0x100 != 0
+        } else {
+            kind != 0 && kind != 2
+        }
+}
+
+#[tactic(auto, unfolding(crate::specs::Symbols::is_foreign_at))]
+fn is_foreign_at(bytes: &[u8], symtab: &SymtabCommand, i: usize) -> bool
+    requires table { IsTable (length bytes.now) symtab.now }
+    requires index { i < symtab.now.nsyms }
+    ensures { result ≡ symbols.is_foreign_at bytes.now symtab.now i }
+{
+    is_foreign(&entry_at(bytes, symtab, i))
+}
+
+/// Whether a symbol is of a kind that isn't linked.
+#[tactic(auto, using(crate::proofs::TableLemmas::searches), unfolding(crate::specs::Symbols::any_foreign))]
+pub fn any_foreign(bytes: &[u8], symtab: &SymtabCommand) -> bool
+    requires { IsTable (length bytes.now) symtab.now }
+    ensures { result ≡ symbols.any_foreign bytes.now symtab.now }
+{
+    for i in 0..symtab.nsyms as usize {
+        if is_foreign_at(bytes, symtab, i) {
+            return true;
+        }
+    }
+    false
+}
