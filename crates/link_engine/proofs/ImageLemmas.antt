@@ -4,7 +4,7 @@ use Rattle.std.proofs.lemmas.List.{take_all, length-replicate}
 use Rattle.mo_bytes.proofs.Numbers.{length-number_bytes}
 use Rattle.mo_types.specs.declared.object.Section.{Section}
 use Rattle.link_engine.specs.declared.image.Placement.{Placement}
-use Rattle.link_engine.specs.declared.object.TextObject.{TextObject}
+use Rattle.link_engine.specs.declared.form.TextObject.{TextObject}
 use Rattle.link_engine.specs.Patching.{contents_of}
 use Rattle.link_engine.specs.Image.{commands_size, front, image_of, placement_of, zeros_to}
 use Rattle.std.proofs.Math.Nat.{pow-le-pow_right}

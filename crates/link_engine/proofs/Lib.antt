@@ -7,6 +7,5 @@ pub mod NameLemmas
 pub mod PatchedLemmas
 pub mod PlacedLemmas
 pub mod PatchLemmas
-pub mod SymbolLemmas
 pub mod WordLemmas
 pub mod WritingLemmas

@@ -13,7 +13,7 @@ use Rattle.mo_types.specs.declared.object.SymbolKind.{SymbolKind}
 use Rattle.mo_types.specs.declared.object.SymbolKind.TheVariants.{Undefined, Common, Defined, Absolute, Passed}
 use Rattle.link_engine.specs.Branches.{is_branch, is_whole_words, offset_of, target_of}
 use Rattle.link_engine.specs.Patching.{branch_at, contents_of, distance_of, patched, patched_by, with_word}
-use Rattle.link_engine.specs.Symbols.{ArePlaced, IsPlaced}
+use Rattle.link_engine.specs.Object.{ArePlaced, IsPlaced}
 use Rattle.link_engine.proofs.BranchLemmas.{IsBranch, both, branch_is, get_or_any}
 use Rattle.link_engine.proofs.DistinctLemmas.{from_place}
 

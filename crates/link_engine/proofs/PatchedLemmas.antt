@@ -1,8 +1,7 @@
 -- What patching leaves: each branch has its distance, and all other bytes are as they were.
-use Rattle.std.proofs.Common.{◌≡◌, ℕ, ◌+◌, ◌-◌, ◌/◌, ◌%◌, ◌^◌, ◌<◌, ◌≤◌, ◌≢◌, ◌⊎◌, inl, inr, ◌++◌, ◌∷◌, [], ◌||◌, List, length, take, drop, map, nat_eq, Bool, true, false, not, refl, sym, ap, ◌∙◌, subst, arith, append_assoc, length-append, length-drop, zero-add, get_or-drop}
-use Rattle.std.specs.List.{AllByRecursion, list_all, list_any}
+use Rattle.std.proofs.Common.{◌≡◌, ℕ, ◌+◌, ◌-◌, ◌^◌, ◌<◌, ◌≤◌, ◌⊎◌, inl, inr, ◌++◌, ◌∷◌, [], List, length, take, drop, true, refl, sym, ap, ◌∙◌, subst, arith, append_assoc, length-append, length-drop, zero-add, get_or-drop}
+use Rattle.std.specs.List.{AllByRecursion, list_all}
 use Rattle.std.proofs.Math.Seq.{drop-append-add}
-use Rattle.std.proofs.lemmas.Bool.{cases_lt, eqb-false}
 use Rattle.std.proofs.lemmas.List.{drop-append-le, drop-drop, length-take-le, take-append-drop}
 use Rattle.byteorder.specs.Numbers.{little_from-append, little_from-lt}
 use Rattle.arm64_insn.specs.Branch.{branch_word}
@@ -12,10 +11,9 @@ use Rattle.mo_bytes.proofs.Numbers.{length-number_bytes, number-number_bytes}
 use Rattle.mo_types.specs.declared.object.RawReloc.{RawReloc}
 use Rattle.mo_types.specs.declared.object.Section.{Section}
 use Rattle.mo_types.specs.declared.object.Symbol.{Symbol}
-use Rattle.link_engine.specs.Branches.{are_branches, is_branch, is_split, word_of}
-use Rattle.link_engine.specs.Names.{are_distinct, are_new}
+use Rattle.link_engine.specs.Branches.{is_branch}
 use Rattle.link_engine.specs.Object.{IsText}
-use Rattle.link_engine.specs.Patching.{AreBytes, ArePatched, IsApart, branch_at, contents_of, distance_of, patched, patched_by, with_word}
+use Rattle.link_engine.specs.Patching.{AreApart, AreBytes, ArePatched, IsApart, branch_at, contents_of, distance_of, patched, patched_by, with_word}
 use Rattle.link_engine.proofs.BranchLemmas.{both, branch_is}
 
 -- a number whose bytes lie in the front
@@ -82,11 +80,6 @@ others_stay text symbols (reloc ∷ relocs) bytes width place within apart =
     ∙ ap (λ (xs : List ℕ). number width xs place) (patched_by-is text symbols reloc bytes)
     ∙ number_apart width reloc.address word place bytes within.0 apart.0
 
--- no two relocations touch
-abbrev pub AreApart : List RawReloc → Type 0
-AreApart [] = Unit {0}
-AreApart (reloc ∷ relocs) = AllByRecursion (IsApart 4 reloc.address) relocs × AreApart relocs
-
 -- the words that the relocations patch are words of 32 bits
 abbrev pub AreWords : List ℕ → List RawReloc → Type 0
 AreWords bytes relocs = AllByRecursion (λ reloc. number 4 bytes reloc.address < 2 ^ 32) relocs
@@ -129,28 +122,6 @@ all_patched text symbols (reloc ∷ relocs) bytes within apart small =
           (all_patched text symbols relocs new inside apart.1 (words_small new bytes relocs stay small.1)),
     )
 
-not_or : (a b : Bool) → not (a || b) ≡ true → (a ≡ false) × (not b ≡ true)
-not_or true b e = absurd cc
-not_or false b e = (refl, e)
-
--- two relocations at multiples of 4 that patch different words
-apart_words : (reloc other : RawReloc) → reloc.address % 4 ≡ 0 → other.address % 4 ≡ 0 → nat_eq (word_of reloc) (word_of other) ≡ false → IsApart 4 reloc.address other
-apart_words reloc other whole other_whole differ =
-    let apart : reloc.address / 4 ≢ other.address / 4 = eqb-false (reloc.address / 4) (other.address / 4) differ in
-    elim (cases_lt reloc.address other.address) [ inl less ↦ inl (omega arith) | inr more ↦ inr (omega arith) ]
-
-apart_from : (reloc : RawReloc) (relocs : List RawReloc) → reloc.address % 4 ≡ 0 → AllByRecursion (λ other. other.address % 4 ≡ 0) relocs → not (list_any (nat_eq (word_of reloc)) (map word_of relocs)) ≡ true → AllByRecursion (IsApart 4 reloc.address) relocs
-apart_from reloc [] whole wholes e = tt
-apart_from reloc (other ∷ relocs) whole wholes e =
-    let parts = not_or (nat_eq (word_of reloc) (word_of other)) (list_any (nat_eq (word_of reloc)) (map word_of relocs)) e in
-    (apart_words reloc other whole wholes.0 parts.0, apart_from reloc relocs whole wholes.1 parts.1)
-
-pub apart_all : (relocs : List RawReloc) → AllByRecursion (λ reloc. reloc.address % 4 ≡ 0) relocs → are_distinct nat_eq (map word_of relocs) ≡ true → AreApart relocs
-apart_all [] wholes e = tt
-apart_all (reloc ∷ relocs) wholes e =
-    let parts = both (not (list_any (nat_eq (word_of reloc)) (map word_of relocs))) (are_distinct nat_eq (map word_of relocs)) e in
-    (apart_from reloc relocs wholes.0 wholes.1 parts.0, apart_all relocs wholes.1 parts.1)
-
 -- what the form says of the relocations
 pub in_section : (text : Section) (symbols : List Symbol) (relocs : List RawReloc) (size : ℕ) → size ≡ text.size → list_all (is_branch text symbols) relocs ≡ true → AreIn size relocs
 in_section text symbols [] size is e = tt
@@ -159,29 +130,19 @@ in_section text symbols (reloc ∷ relocs) size is e =
     let branch = branch_is text symbols reloc parts.0 in
     (omega (arith, branch.within), in_section text symbols relocs size is parts.1)
 
-all_aligned : (text : Section) (symbols : List Symbol) (relocs : List RawReloc) → list_all (is_branch text symbols) relocs ≡ true → AllByRecursion (λ reloc. reloc.address % 4 ≡ 0) relocs
-all_aligned text symbols [] e = tt
-all_aligned text symbols (reloc ∷ relocs) e =
-    let parts = both (is_branch text symbols reloc) (list_all (is_branch text symbols) relocs) e in
-    ((branch_is text symbols reloc parts.0).aligned, all_aligned text symbols relocs parts.1)
-
 all_words : (bytes : List ℕ) (relocs : List RawReloc) → AreBytes bytes → AreWords bytes relocs
 unfolding number
 all_words bytes [] are = tt
 all_words bytes (reloc ∷ relocs) are =
     (little_from-lt 0 4 (drop reloc.address bytes) (λ k. rw get_or-drop (are (reloc.address + k))), all_words bytes relocs are)
 
-pub each_is_patched : (subsections : Bool) (text : Section) (symbols : List Symbol) → IsText text → AreBytes text.bytes → are_branches subsections text symbols ≡ true → ArePatched text symbols (contents_of text symbols) text.bytes text.relocs
-unfolding are_branches contents_of
-each_is_patched subsections text symbols is bytes e =
-    let parts = both (list_all (is_branch text symbols) text.relocs) (are_new nat_eq (is_split subsections text symbols) (map word_of text.relocs)) e in
-    let free = both (are_distinct nat_eq (map word_of text.relocs)) (list_all (λ word. not (is_split subsections text symbols word)) (map word_of text.relocs)) parts.1 in
-    all_patched text symbols text.relocs text.bytes (in_section text symbols text.relocs (length text.bytes) is.contents parts.0)
-    (apart_all text.relocs (all_aligned text symbols text.relocs parts.0) free.0)
+pub each_is_patched : (text : Section) (symbols : List Symbol) → IsText text → AreBytes text.bytes → list_all (is_branch text symbols) text.relocs ≡ true → AreApart text.relocs → ArePatched text symbols (contents_of text symbols) text.bytes text.relocs
+unfolding contents_of
+each_is_patched text symbols is bytes e apart =
+    all_patched text symbols text.relocs text.bytes (in_section text symbols text.relocs (length text.bytes) is.contents e) apart
     (all_words text.bytes text.relocs bytes)
 
-pub all_others_stay : (subsections : Bool) (text : Section) (symbols : List Symbol) (width place : ℕ) → IsText text → are_branches subsections text symbols ≡ true → AllByRecursion (IsApart width place) text.relocs → number width (contents_of text symbols) place ≡ number width text.bytes place
-unfolding are_branches contents_of
-all_others_stay subsections text symbols width place is e apart =
-    let parts = both (list_all (is_branch text symbols) text.relocs) (are_new nat_eq (is_split subsections text symbols) (map word_of text.relocs)) e in
-    others_stay text symbols text.relocs text.bytes width place (in_section text symbols text.relocs (length text.bytes) is.contents parts.0) apart
+pub all_others_stay : (text : Section) (symbols : List Symbol) (width place : ℕ) → IsText text → list_all (is_branch text symbols) text.relocs ≡ true → AllByRecursion (IsApart width place) text.relocs → number width (contents_of text symbols) place ≡ number width text.bytes place
+unfolding contents_of
+all_others_stay text symbols width place is e apart =
+    others_stay text symbols text.relocs text.bytes width place (in_section text symbols text.relocs (length text.bytes) is.contents e) apart

@@ -5,7 +5,7 @@ use Rattle.mo_types.specs.declared.object.Symbol.{Symbol}
 use Rattle.mo_types.specs.declared.object.SymbolKind.{SymbolKind}
 use Rattle.mo_types.specs.declared.object.SymbolKind.TheVariants.{Undefined, Common, Defined, Absolute, Passed}
 use Rattle.link_engine.specs.Entry.{address_of, entry_value}
-use Rattle.link_engine.specs.Symbols.{ArePlaced, IsPlaced, IsWithin}
+use Rattle.link_engine.specs.Object.{ArePlaced, IsPlaced, IsWithin}
 
 pub none_placed : (start size : ℕ) → ArePlaced start size []
 none_placed start size = tt

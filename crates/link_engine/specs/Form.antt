@@ -1,90 +1,93 @@
--- The form of the objects that are linked (`loader.h`): a header of 32 bytes, a segment with one section,
--- which is code, and a symbol table.
-use Rattle.std.specs.Prelude.{ℕ, ◌+◌, ◌-◌, ◌*◌, ◌^◌, ◌≤◌, ◌<◌, ◌==◌, ◌&&◌, Bool, nat_le, nat_lt, bit_and, List, length, take, codes, Option, Result}
+-- The form of the objects that are linked: one section of code, whose relocations are branches within it.
+use Rattle.std.specs.Prelude.{ℕ, ◌+◌, ◌^◌, ◌==◌, ◌&&◌, ◌||◌, Bool, true, false, not, nat_le, List, drop, map, slice_get, codes, Option, Some, None, Result, Err, if◌then◌else◌}
+use Rattle.std.specs.List.{list_all, list_any, position}
 use Rattle.std.specs.Option.{option_map_or}
 use Rattle.std.specs.Str.{bytes_eq}
-use Rattle.memchr.specs.Find.{is_byte, places, first_of}
 use Rattle.mo_types.specs.Gives.{guarded}
-use Rattle.mo_format.specs.Header.{mach_header_at}
-use Rattle.mo_format.specs.Segment.{segment_command_at, section_header_at}
-use Rattle.mo_format.specs.Symbol.{symtab_command_at}
-use Rattle.mo_format.specs.declared.header.MachHeader.{MachHeader}
-use Rattle.mo_format.specs.declared.segment.SegmentCommand.{SegmentCommand}
-use Rattle.mo_format.specs.declared.segment.SectionHeader.{SectionHeader}
-use Rattle.mo_format.specs.declared.symbol.SymtabCommand.{SymtabCommand}
-use Rattle.link_engine.specs.declared.form.Frame.{Frame}
-use Rattle.link_engine.specs.declared.form.FormFault.{FormFault}
-use Rattle.link_engine.specs.declared.form.FormFault.TheVariants.{NotOfForm, OutOfMemory}
+use Rattle.mo_types.specs.Whole.{is_dropped}
+use Rattle.mo_types.specs.declared.cause.Feature.TheVariants.{Later}
+use Rattle.mo_types.specs.declared.object.Object.{Object}
+use Rattle.mo_types.specs.declared.object.Section.{Section}
+use Rattle.mo_types.specs.declared.object.Symbol.{Symbol}
+use Rattle.mo_types.specs.declared.object.SymbolKind.{SymbolKind}
+use Rattle.mo_types.specs.declared.object.SymbolKind.TheVariants.{Defined, Absolute, Passed}
+use Rattle.mo_types.specs.declared.object_fault.ObjFault.{ObjFault}
+use Rattle.mo_types.specs.declared.object_fault.ObjFault.TheVariants.{Unsupported}
+use Rattle.link_engine.specs.declared.form.TextObject.{TextObject}
+use Rattle.link_engine.specs.Branches.{is_branch}
+use Rattle.link_engine.specs.Names.{are_distinct, external_names}
 
--- a fault that the bytes have
-abbrev pub IsFormFault : FormFault → Type 0
-IsFormFault NotOfForm = Unit {0}
-IsFormFault OutOfMemory = ⊥
+-- the frames of functions in their compact form (`compact_unwind_encoding.h`)
+abbrev pub is_unwind : Section → Bool
+is_unwind section = bytes_eq section.segment (codes "__LD") && bytes_eq section.name (codes "__compact_unwind")
 
--- the place of the first NUL
-unfoldable pub first_nul : List ℕ → Option ℕ
-first_nul bytes = first_of (places (is_byte 0) bytes)
+-- a section that counts: one that is linked, or the compact frames, even where there are none
+abbrev pub counts : Section → Bool
+counts section = not (is_dropped section) || is_unwind section
 
--- the bytes before the first NUL, or all where there is none
-unfoldable pub name_text : List ℕ → List ℕ
-name_text name = option_map_or (λ end. take end name) (first_nul name) name
+-- `__TEXT,__text` of type 0, of at most 2^26 bytes, aligned to at most 2^14
+abbrev pub is_text : Section → Bool
+is_text section =
+    bytes_eq section.name (codes "__text") && bytes_eq section.segment (codes "__TEXT") && section.kind == 0
+    && nat_le section.size (2 ^ 26) && nat_le section.align 14
 
--- an arm64 object with two load commands of 176 bytes together
-abbrev pub is_object : MachHeader → Bool
-is_object header =
-    header.magic == 0xfeedfacf && header.cputype == 0x0100000c && header.cpusubtype == 0 && header.filetype == 1
-    && header.ncmds == 2 && nat_le 176 header.sizeofcmds
+-- the section at a place is code, and none after it counts
+abbrev pub is_alone : List Section → ℕ → Bool
+is_alone sections at = not (list_any counts (drop (at + 1) sections)) && option_map_or is_text (slice_get sections at) false
 
--- LC_SEGMENT_64 with one section
-abbrev pub is_segment : SegmentCommand → Bool
-is_segment segment = segment.cmd == 0x19 && segment.cmdsize == 152 && segment.nsects == 1
+-- the place of the one section that counts, where it is code
+abbrev pub alone_at : List Section → Option ℕ → Option ℕ
+alone_at sections None = None
+alone_at sections (Some at) = if is_alone sections at then Some at else None
 
--- LC_SYMTAB, of fewer symbols than the linker's limit
-abbrev pub is_symtab : SymtabCommand → Bool
-is_symtab symtab = symtab.cmd == 0x2 && symtab.cmdsize == 24 && nat_lt symtab.nsyms (2 ^ 24)
+unfoldable pub text_index : List Section → Option ℕ
+text_index sections = alone_at sections (position counts sections)
 
--- `__TEXT,__text` of type 0 that isn't for debugging, of at most 2^26 bytes, aligned to at most 2^14, and
--- ending below 2^63
-abbrev pub is_text : SectionHeader → Bool
-is_text text =
-    bytes_eq (name_text text.sectname) (codes "__text") && bytes_eq (name_text text.segname) (codes "__TEXT")
-    && bit_and text.flags 0x020000ff == 0 && nat_le text.align 14 && nat_le text.size (2 ^ 26)
-    && nat_le text.addr (2 ^ 63 - 1 - text.size)
+-- a definition that isn't weak (N_WEAK_DEF), a number, or a symbol that is passed over
+abbrev pub is_plain_kind : Bool → SymbolKind → Bool
+is_plain_kind weak (Defined section value) = not weak
+is_plain_kind weak Absolute = true
+is_plain_kind weak Passed = true
+is_plain_kind weak _ = false
 
--- the contents, the relocations, the symbols and the strings lie within a file of a size
-abbrev pub lies_within : ℕ → Frame → Bool
-lies_within size frame =
-    nat_le (frame.text.offset + frame.text.size) size && nat_le (frame.text.reloff + 8 * frame.text.nreloc) size
-    && nat_le (frame.symtab.symoff + 16 * frame.symtab.nsyms) size
-    && nat_le (frame.symtab.stroff + frame.symtab.strsize) size
+abbrev pub is_plain : Symbol → Bool
+is_plain symbol = is_plain_kind symbol.weak_def symbol.kind
 
--- the structures that stand at the front of a file
-abbrev pub frame_at : List ℕ → Frame
-frame_at bytes = record {
-  header = mach_header_at bytes 0;
-  segment = segment_command_at bytes 32;
-  text = section_header_at bytes 104;
-  symtab = symtab_command_at bytes 184;
+-- what stands in a section that isn't linked is passed over
+abbrev pub linked_kind : ℕ → SymbolKind → SymbolKind
+linked_kind number (Defined section value) = if section == number then Defined section value else Passed
+linked_kind number kind = kind
+
+unfoldable pub linked_symbol : ℕ → Symbol → Symbol
+linked_symbol number symbol = record {
+  name = symbol.name;
+  kind = linked_kind number symbol.kind;
+  external = symbol.external;
+  hidden = symbol.hidden;
+  weak_def = symbol.weak_def;
+  weak_ref = symbol.weak_ref;
+  no_strip = symbol.no_strip;
+  alt = symbol.alt;
 }
 
-abbrev pub is_frame : ℕ → Frame → Bool
-is_frame size frame =
-    is_object frame.header && is_segment frame.segment && is_text frame.text && is_symtab frame.symtab
-    && lies_within size frame
+-- an object of another form comes with a later version
+abbrev pub later : ObjFault
+later = Unsupported Later
 
--- those structures, where they are of the form
-unfoldable pub frame_of : List ℕ → Result Frame FormFault
-frame_of bytes =
-    guarded (nat_le 208 (length bytes) && nat_lt (length bytes) (2 ^ 30) && is_frame (length bytes) (frame_at bytes)) NotOfForm
-    (frame_at bytes)
+-- the symbols are plain, and no two external ones have one name
+unfoldable pub are_plain : List Symbol → Bool
+are_plain symbols = list_all is_plain symbols && are_distinct bytes_eq (external_names symbols)
 
--- what a frame names lies within a file of a size, and its numbers are small
-pub record IsFrame (size : ℕ) (frame : Frame) : Type 0 where
-  pub contents : frame.text.offset + frame.text.size ≤ size
-  pub relocations : frame.text.reloff + 8 * frame.text.nreloc ≤ size
-  pub symbols : frame.symtab.symoff + 16 * frame.symtab.nsyms ≤ size
-  pub strings : frame.symtab.stroff + frame.symtab.strsize ≤ size
-  pub align : frame.text.align ≤ 14
-  pub bytes : frame.text.size ≤ 2 ^ 26
-  pub addresses : frame.text.addr + frame.text.size < 2 ^ 63
-  pub count : frame.symtab.nsyms < 2 ^ 24
+-- the section of a number with the symbols, where its relocations are branches within it
+unfoldable pub text_with : Section → List Symbol → Result TextObject ObjFault
+text_with text symbols =
+    guarded (list_all (is_branch text symbols) text.relocs) later (record { text = text; symbols = symbols })
+
+abbrev pub text_at : Object → Option ℕ → Result TextObject ObjFault
+text_at object None = Err later
+text_at object (Some at) =
+    option_map_or (λ text. text_with text (map (linked_symbol (at + 1)) object.symbols)) (slice_get object.sections at) (Err later)
+
+-- the one section of code with the symbols of an object, where the object has the form
+unfoldable pub linked_of : Object → Result TextObject ObjFault
+linked_of object = if are_plain object.symbols then text_at object (text_index object.sections) else Err later

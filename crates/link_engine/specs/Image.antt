@@ -12,7 +12,7 @@ use Rattle.mo_format.specs.declared.segment.SectionHeader.{SectionHeader}
 use Rattle.mo_format.specs.declared.segment.SegmentCommand.{SegmentCommand}
 use Rattle.mo_types.specs.declared.object.Section.{Section}
 use Rattle.link_engine.specs.declared.image.Placement.{Placement}
-use Rattle.link_engine.specs.declared.object.TextObject.{TextObject}
+use Rattle.link_engine.specs.declared.form.TextObject.{TextObject}
 use Rattle.link_engine.specs.Patching.{contents_of}
 
 -- the address of `__TEXT`

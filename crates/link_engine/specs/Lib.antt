@@ -7,10 +7,9 @@ pub mod Input
 pub mod Names
 pub mod Object
 pub mod Patching
-pub mod Relocs
+pub mod Reading
 pub mod Settles
 pub mod Steps
-pub mod Symbols
 pub mod Verdict
 pub mod Word
 pub mod Writing

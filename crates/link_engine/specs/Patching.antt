@@ -36,6 +36,11 @@ contents_of text symbols = patched text symbols 0 text.relocs text.bytes
 abbrev pub IsApart : ℕ → ℕ → RawReloc → Type 0
 IsApart width place reloc = (place + width ≤ reloc.address) ⊎ (reloc.address + 4 ≤ place)
 
+-- no two relocations touch
+abbrev pub AreApart : List RawReloc → Type 0
+AreApart [] = Unit {0}
+AreApart (reloc ∷ relocs) = AllByRecursion (IsApart 4 reloc.address) relocs × AreApart relocs
+
 -- each relocation's word in the new bytes is that of the old ones with its distance
 abbrev pub ArePatched : Section → List Symbol → List ℕ → List ℕ → List RawReloc → Type 0
 ArePatched text symbols new old relocs =

@@ -1,17 +1,20 @@
 -- How a link ends, against its verdict and its causes.
-use Rattle.std.specs.Prelude.{ℕ, ◌≡◌, ◌⊎◌, List, [], Option, Some, None, Result, Ok, Err, IsErr}
+use Rattle.std.specs.Prelude.{ℕ, ◌≡◌, ◌⊎◌, List, [], Option, Some, None, Result, Ok, Err}
 use Rattle.mo_outside.specs.Files.{FileMap, fetched}
 use Rattle.mo_outside.specs.Tells.{Tells}
 use Rattle.mo_outside.specs.Written.{Written}
 use Rattle.mo_types.specs.Scan.{first_some}
+use Rattle.mo_types.specs.declared.cause.Which.{Which}
+use Rattle.mo_types.specs.declared.object_fault.ObjFault.{ObjFault}
+use Rattle.mo_types.specs.declared.object_fault.ObjFault.TheVariants.{Limit}
 use Rattle.mo_types.specs.declared.answer.Status.{Status}
 use Rattle.mo_types.specs.declared.answer.Status.TheVariants.{Done, Usage, ReadFault, Refused, WriteFault, OutOfMemory}
-use Rattle.link_engine.specs.declared.object.TextObject.{TextObject}
+use Rattle.link_engine.specs.declared.form.TextObject.{TextObject}
 use Rattle.link_engine.specs.declared.plan.Plan.{Plan}
 use Rattle.link_engine.specs.declared.words.Command.{Command}
 use Rattle.link_engine.specs.Command.{command_of}
 use Rattle.link_engine.specs.Entry.{entry_name, entry_value}
-use Rattle.link_engine.specs.Object.{object_of}
+use Rattle.link_engine.specs.Reading.{text_object}
 use Rattle.link_engine.specs.Verdict.{verdict}
 use Rattle.link_engine.specs.Writing.{WritesPart, WritesWhole}
 
@@ -28,14 +31,19 @@ pub record IsMissing (words : List (List ℕ)) (files : FileMap) (path : List �
   pub input : command.input ≡ path
   pub absent : fetched files path ≡ None
 
--- the command's input is there and isn't of the form that is linked
-pub record IsOtherForm (words : List (List ℕ)) (files : FileMap) (path : List ℕ) : Type 0 where
+-- the command's input is there, and a fault is the first one that keeps it from being linked
+pub record IsFaulty (words : List (List ℕ)) (files : FileMap) (path : List ℕ) (fault : ObjFault) : Type 0 where
   pub command : Command
   pub bytes : List ℕ
   pub read : command_of words ≡ Ok command
   pub input : command.input ≡ path
   pub there : fetched files path ≡ Some bytes
-  pub other : IsErr (object_of bytes)
+  pub first : text_object bytes ≡ Err fault
+
+-- the command's input is there, and reaches a limit
+pub record IsLimited (words : List (List ℕ)) (files : FileMap) (which : Which) : Type 0 where
+  pub path : List ℕ
+  pub faulty : IsFaulty words files path (Limit which)
 
 -- the command's input is of the form, and no symbol is an external definition of the entry
 pub record IsUndefined (words : List (List ℕ)) (files : FileMap) (name file : List ℕ) : Type 0 where
@@ -44,7 +52,7 @@ pub record IsUndefined (words : List (List ℕ)) (files : FileMap) (name file : 
   pub object : TextObject
   pub read : command_of words ≡ Ok command
   pub there : fetched files command.input ≡ Some bytes
-  pub form : object_of bytes ≡ Ok object
+  pub form : text_object bytes ≡ Ok object
   pub none : first_some entry_value object.symbols ≡ None
   pub entry : name ≡ entry_name
   pub nobody : file ≡ []

@@ -7,9 +7,9 @@ ghost use Rattle.mo_types.specs.Scan.{first_some};
 ghost use Rattle.link_engine.specs.Entry as entry;
 ghost use Rattle.link_engine.specs.Object.{IsLinkable};
 ghost use Rattle.link_engine.specs.Steps.{IsRefusal};
-ghost use Rattle.link_engine.specs.Symbols.{IsWithin};
+ghost use Rattle.link_engine.specs.Object.{IsWithin};
 
-use crate::object::TextObject;
+use crate::form::TextObject;
 use mo_types::{Bytes, Refusal, Status, Symbol, SymbolKind};
 use std::alloc::Global;
 

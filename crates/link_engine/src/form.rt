@@ -1,152 +1,178 @@
-//! The form of the objects that are linked: two load commands, one section, which is code, and a symbol
-//! table (`loader.h`).
+//! The form of the objects that are linked: one section of code, whose relocations are branches within it.
 
-ghost use Rattle.std.specs.Prelude.{◌≡◌, ◌+◌, ◌*◌, ◌≤◌, ◌<◌, ◌^◌, length, IfOk, IfSome};
+ghost use Rattle.std.specs.Prelude.{◌≡◌, ◌+◌, ◌<◌, length, map, slice_get, Some, true, IfOk, IfSome};
+ghost use Rattle.std.specs.List.{list_all, list_any, position};
+ghost use Rattle.mo_obj.specs.Faults.{IsObjFault};
 ghost use Rattle.mo_types.specs.Gives.{Gives};
+ghost use Rattle.mo_types.specs.Whole.{IsWhole};
+ghost use Rattle.link_engine.specs.Branches.{is_branch};
 ghost use Rattle.link_engine.specs.Form as form;
-ghost use Rattle.link_engine.specs.Form.{IsFormFault, IsFrame};
+ghost use Rattle.link_engine.specs.Object.{IsLinkable};
 
-use memchr::memchr;
-use mo_format::{MachHeader, SectionHeader, SegmentCommand, SymtabCommand};
-use mo_types::OutOfMemory;
-use std::alloc::{AllocError, AllocFailed};
+use crate::branches::are_branches;
+use crate::names::are_distinct_names;
+use mo_types::{
+    Feature, ObjFault, Object, OutOfMemory, Section, SectionList, Symbol, SymbolKind, SymbolList,
+};
+use std::alloc::Global;
 
-/// Why a file isn't read as an object of the form.
-#[derive(Clone, Copy, Debug, PartialEq, Eq)]
-pub enum FormFault {
-    NotOfForm,
-    OutOfMemory,
+/// An object whose one section is code. What other sections define is passed over.
+#[derive(Debug, Drop)]
+pub struct TextObject {
+    pub text: Section,
+    pub symbols: SymbolList,
 }
 
-impl From<AllocError> for FormFault {
-    ghost use Rattle.link_engine.specs.declared.form.FormFault.TheVariants as fault;
+/// What comes with a later version.
+pub const LATER: ObjFault = ObjFault::Unsupported(Feature::Later);
 
-    ghost from_gives = { λ _ e. e ≡ fault.OutOfMemory };
+fn is_unwind(section: &Section) -> bool
+    ensures { result ≡ form.is_unwind section.now }
+{
+    section.segment.as_slice() == b"__LD".as_slice()
+        && section.name.as_slice() == b"__compact_unwind".as_slice()
+}
 
-    fn from(_e: AllocError) -> FormFault {
-        FormFault::OutOfMemory
+fn counts(section: &Section) -> bool
+    ensures { result ≡ form.counts section.now }
+{
+    !section.is_dropped() || is_unwind(section)
+}
+
+fn is_text(section: &Section) -> bool
+    ensures { result ≡ form.is_text section.now }
+{
+    section.name.as_slice() == b"__text".as_slice()
+        && section.segment.as_slice() == b"__TEXT".as_slice()
+        && section.kind == 0
+        && section.size <= 1 << 26
+        && section.align <= 14
+}
+
+fn first_counted(sections: &[Section]) -> Option<usize>
+    ensures value { result ≡ position form.counts sections.now }
+    ensures within { IfSome result (λ at. at < length sections.now) }
+{
+    sections.iter().position(counts)
+}
+
+fn any_counts(sections: &[Section]) -> bool
+    ensures { result ≡ list_any form.counts sections.now }
+{
+    sections.iter().any(counts)
+}
+
+// The index of the one section that counts, where it is code.
+#[tactic(auto, unfolding(crate::specs::Form::text_index))]
+fn text_index(sections: &[Section]) -> Option<usize>
+    ensures exact { result ≡ form.text_index sections.now }
+    ensures within { IfSome result (λ at. at < length sections.now) }
+{
+    let at = first_counted(sections)?;
+    if any_counts(&sections[at + 1..]) || !is_text(&sections[at]) {
+        return None;
+    }
+    Some(at)
+}
+
+fn is_plain(symbol: &Symbol) -> bool
+    ensures { result ≡ form.is_plain symbol.now }
+{
+    match symbol.kind {
+        SymbolKind::Defined { .. } => !symbol.weak_def,
+        SymbolKind::Absolute | SymbolKind::Passed => true,
+        SymbolKind::Undefined | SymbolKind::Common { .. } => false,
     }
 }
 
-impl From<OutOfMemory> for FormFault {
-    ghost use Rattle.link_engine.specs.declared.form.FormFault.TheVariants as fault;
+fn all_plain(symbols: &[Symbol]) -> bool
+    ensures { result ≡ list_all form.is_plain symbols.now }
+{
+    symbols.iter().all(is_plain)
+}
 
-    ghost from_gives = { λ _ e. e ≡ fault.OutOfMemory };
+#[tactic(auto, unfolding(crate::specs::Form::are_plain))]
+fn are_plain(alloc: Global, symbols: &[Symbol]) -> Result<bool, OutOfMemory>
+    ensures { IfOk result (λ answer. answer ≡ form.are_plain symbols.now) }
+{
+    if !all_plain(symbols) {
+        return Ok(false);
+    }
+    are_distinct_names(alloc, symbols)
+}
 
-    fn from(_e: OutOfMemory) -> FormFault {
-        FormFault::OutOfMemory
+fn linked_kind(kind: SymbolKind, number: usize) -> SymbolKind
+    ensures { result ≡ form.linked_kind number kind }
+{
+    match kind {
+        SymbolKind::Defined { section, .. } if usize::from(section) != number => SymbolKind::Passed,
+        kind => kind,
     }
 }
 
-impl<T: Drop> From<AllocFailed<T>> for FormFault {
-    ghost use Rattle.link_engine.specs.declared.form.FormFault.TheVariants as fault;
+#[tactic(auto, unfolding(crate::specs::Form::linked_symbol))]
+fn link_symbol(symbol: &mut Symbol, number: usize)
+    ensures { symbol.new ≡ form.linked_symbol number symbol.old }
+{
+    symbol.kind = linked_kind(symbol.kind, number);
+}
 
-    ghost from_gives = { λ _ e. e ≡ fault.OutOfMemory };
-
-    fn from(_e: AllocFailed<T>) -> FormFault {
-        FormFault::OutOfMemory
+// The symbols, with those passed over that other sections than the one of a number define.
+#[tactic(auto, using(crate::proofs::FormLemmas::links))]
+fn link_symbols(symbols: &mut [Symbol], number: usize)
+    ensures { symbols.new ≡ map (form.linked_symbol number) symbols.old }
+{
+    for symbol in symbols {
+        link_symbol(symbol, number);
     }
 }
 
-/// The structures at the front of an object of the form.
-#[derive(Clone, Copy, Debug, PartialEq, Eq)]
-pub struct Frame {
-    pub header: MachHeader,
-    pub segment: SegmentCommand,
-    pub text: SectionHeader,
-    pub symtab: SymtabCommand,
+// The section of an index, and the symbols as that section's.
+#[tactic(auto, using(crate::proofs::FormLemmas::taken))]
+fn take_text(object: Object, index: usize) -> (Section, SymbolList)
+    requires { index < length object.sections }
+    ensures text { slice_get object.sections index ≡ Some result.0 }
+    ensures symbols { result.1 ≡ map (form.linked_symbol (index + 1)) object.symbols }
+{
+    let Object {
+        sections,
+        symbols,
+        ..
+    } = object;
+    let mut symbols = symbols.into_vec();
+    link_symbols(&mut symbols, index + 1);
+    (
+        sections.into_vec().swap_remove(index),
+        SymbolList::from_vec(symbols),
+    )
 }
 
-/// The place of the first NUL.
-#[tactic(auto, using(crate::proofs::FormLemmas::nuls), unfolding(crate::specs::Form::first_nul))]
-pub fn first_nul(bytes: &[u8]) -> Option<usize>
-    ensures value { result ≡ form.first_nul bytes.now }
-    ensures within { IfSome result (λ at. at < length bytes.now) }
+#[tactic(auto, unfolding(crate::specs::Form::text_with))]
+fn text_with(text: Section, symbols: SymbolList) -> Result<TextObject, ObjFault>
+    ensures exact { result ≡ form.text_with text symbols }
+    ensures text { IfOk result (λ object. object.text ≡ text) }
+    ensures symbols { IfOk result (λ object. object.symbols ≡ symbols) }
+    ensures branches { IfOk result (λ object. list_all (is_branch text symbols) text.relocs ≡ true) }
 {
-    memchr(0, bytes)
-}
-
-/// The bytes of a name before its first NUL, or all where there is none.
-#[tactic(auto, unfolding(crate::specs::Form::name_text))]
-pub fn name_text(name: &[u8]) -> &[u8]
-    ensures { result.now ≡ form.name_text name.now }
-{
-    match first_nul(name) {
-        Some(end) => &name[..end],
-        None => name,
+    if !are_branches(&text, symbols.as_slice()) {
+        return Err(LATER);
     }
+    Ok(TextObject { text, symbols })
 }
 
-fn is_object(header: &MachHeader) -> bool
-    ensures { result ≡ form.is_object header.now }
+/// The one section of code with the symbols of an object, where the object has the form.
+#[tactic(auto, using(crate::proofs::FormLemmas::forms), unfolding(crate::specs::Form::linked_of))]
+pub fn linked_of(alloc: Global, object: Object) -> Result<TextObject, ObjFault>
+    requires { IsWhole object }
+    ensures exact { Gives IsObjFault result (form.linked_of object) }
+    ensures linkable { IfOk result IsLinkable }
 {
-    header.magic == 0xfeed_facf
-        && header.cputype == 0x0100_000c
-        && header.cpusubtype == 0
-        && header.filetype == 1
-        && header.ncmds == 2
-        && 176 <= header.sizeofcmds
-}
-
-fn is_segment(segment: &SegmentCommand) -> bool
-    ensures { result ≡ form.is_segment segment.now }
-{
-    segment.cmd == 0x19 && segment.cmdsize == 152 && segment.nsects == 1
-}
-
-fn is_symtab(symtab: &SymtabCommand) -> bool
-    ensures { result ≡ form.is_symtab symtab.now }
-{
-    symtab.cmd == 0x2 && symtab.cmdsize == 24 && symtab.nsyms < 1 << 24
-}
-
-fn is_text(text: &SectionHeader) -> bool
-    ensures { result ≡ form.is_text text.now }
-{
-    name_text(&text.sectname) == b"__text".as_slice()
-        && name_text(&text.segname) == b"__TEXT".as_slice()
-        && text.flags & 0x0200_00ff == 0
-        && text.align <= 14
-        && text.size <= 1 << 26
-        && text.addr <= (1 << 63) - 1 - text.size
-}
-
-fn lies_within(size: usize, frame: &Frame) -> bool
-    requires { frame.now.text.size ≤ 2 ^ 26 }
-    ensures { result ≡ form.lies_within size frame.now }
-{
-    let size = size as u64;
-    let text = &frame.text;
-    let symtab = &frame.symtab;
-    u64::from(text.offset) + text.size <= size
-        && u64::from(text.reloff) + 8 * u64::from(text.nreloc) <= size
-        && u64::from(symtab.symoff) + 16 * u64::from(symtab.nsyms) <= size
-        && u64::from(symtab.stroff) + u64::from(symtab.strsize) <= size
-}
-
-/// The structures at the front of the bytes, where they are of the form and all that they name lies
-/// within the bytes.
-#[tactic(auto, unfolding(crate::specs::Form::frame_of))]
-pub fn frame_of(bytes: &[u8]) -> Result<Frame, FormFault>
-    ensures exact { Gives IsFormFault result (form.frame_of bytes.now) }
-    ensures within { IfOk result (IsFrame (length bytes.now)) }
-{
-    if bytes.len() < 208 || 1 << 30 <= bytes.len() {
-        return Err(FormFault::NotOfForm);
+    if !are_plain(alloc, object.symbols.as_slice())? {
+        return Err(LATER);
     }
-    let frame = Frame {
-        header: MachHeader::read(bytes, 0),
-        segment: SegmentCommand::read(bytes, 32),
-        text: SectionHeader::read(bytes, 104),
-        symtab: SymtabCommand::read(bytes, 184),
+    let Some(index) = text_index(object.sections.as_slice()) else {
+        return Err(LATER);
     };
-    if !is_object(&frame.header)
-        || !is_segment(&frame.segment)
-        || !is_text(&frame.text)
-        || !is_symtab(&frame.symtab)
-        || !lies_within(bytes.len(), &frame)
-    {
-        return Err(FormFault::NotOfForm);
-    }
-    Ok(frame)
+    let (text, symbols) = take_text(object, index);
+    text_with(text, symbols)
 }

@@ -6,9 +6,9 @@ ghost use Rattle.link_engine.specs.Image as image;
 ghost use Rattle.link_engine.specs.Image.{front, image_of, placement_of, zeros_to};
 ghost use Rattle.link_engine.specs.Object.{IsLinkable, IsText};
 ghost use Rattle.link_engine.specs.Patching.{contents_of};
-ghost use Rattle.link_engine.specs.Symbols.{IsWithin};
+ghost use Rattle.link_engine.specs.Object.{IsWithin};
 
-use crate::object::TextObject;
+use crate::form::TextObject;
 use crate::patch::patch;
 use mo_bytes::round_up;
 use mo_format::{

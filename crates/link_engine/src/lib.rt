@@ -8,12 +8,15 @@ ghost use Rattle.std.specs.Prelude.{◌≡◌, ◌≤◌, ◌⊎◌, ℕ, List, 
 ghost use Rattle.mo_outside.specs.Faults.{Rises};
 ghost use Rattle.mo_outside.specs.Tells.{Appends, AppendsSome, Stays, Tells};
 ghost use Rattle.mo_types.specs.Message.{line_of};
-ghost use Rattle.mo_types.specs.declared.answer.Refusal.TheVariants.{Missing, Undefined, Unsupported};
+ghost use Rattle.mo_types.specs.declared.answer.Refusal.TheVariants.{Limit, Malformed, Missing, Undefined, Unsupported};
 ghost use Rattle.mo_types.specs.declared.answer.Status.TheVariants.{Done, OutOfMemory, ReadFault, Refused, Usage, WriteFault};
-ghost use Rattle.mo_types.specs.declared.cause.Feature.TheVariants.{Later};
+ghost use Rattle.mo_types.specs.declared.cause.Feature.{Feature};
+ghost use Rattle.mo_types.specs.declared.cause.Rule.{Rule};
 ghost use Rattle.mo_types.specs.declared.cause.UsageRule.{UsageRule};
+ghost use Rattle.mo_types.specs.declared.cause.Which.{Which};
+ghost use Rattle.mo_types.specs.declared.object_fault.ObjFault.TheVariants as fault;
 ghost use Rattle.link_engine.specs.Command.{command_of};
-ghost use Rattle.link_engine.specs.Settles.{Completes, ExactlyWhere, IsBuilt, IsMissing, IsOtherForm, IsUndefined, Settles, output_path};
+ghost use Rattle.link_engine.specs.Settles.{Completes, ExactlyWhere, IsBuilt, IsFaulty, IsLimited, IsMissing, IsUndefined, Settles, output_path};
 ghost use Rattle.link_engine.specs.Steps.{IsInput, IsStop};
 ghost use Rattle.link_engine.specs.Verdict.{verdict};
 
@@ -24,12 +27,10 @@ mod form;
 mod image;
 mod laws;
 mod names;
-mod object;
 mod patch;
 mod plan;
-mod relocs;
+mod read;
 mod run;
-mod symbols;
 mod words;
 mod write;
 
@@ -60,8 +61,12 @@ pub fn link<F: Files, O: Out, D: Diag, G: Gate + Sync>(
         → IsInput words.now path × Rises (F.faults files.old) (F.faults files.new) }
     ensures missing { IfSome (F.holds files.old) (λ held. (path : List ℕ)
         → ExactlyWhere (IsMissing words.now held path) (Refused (Missing path)) result (Rises (F.faults files.old) (F.faults files.new))) }
-    ensures later { IfSome (F.holds files.old) (λ held. (path : List ℕ)
-        → ExactlyWhere (IsOtherForm words.now held path) (Refused (Unsupported path Later)) result (Rises (F.faults files.old) (F.faults files.new))) }
+    ensures malformed { IfSome (F.holds files.old) (λ held. (path : List ℕ) (place : ℕ) (rule : Rule)
+        → ExactlyWhere (IsFaulty words.now held path (fault.Malformed place rule)) (Refused (Malformed path place rule)) result (Rises (F.faults files.old) (F.faults files.new))) }
+    ensures unsupported { IfSome (F.holds files.old) (λ held. (path : List ℕ) (feature : Feature)
+        → ExactlyWhere (IsFaulty words.now held path (fault.Unsupported feature)) (Refused (Unsupported path feature)) result (Rises (F.faults files.old) (F.faults files.new))) }
+    ensures limit { IfSome (F.holds files.old) (λ held. (which : Which)
+        → ExactlyWhere (IsLimited words.now held which) (Refused (Limit which)) result (Rises (F.faults files.old) (F.faults files.new))) }
     ensures undefined { IfSome (F.holds files.old) (λ held. (name file : List ℕ)
         → ExactlyWhere (IsUndefined words.now held name file) (Refused (Undefined name file)) result (Rises (F.faults files.old) (F.faults files.new))) }
     ensures done { IfSome (F.holds files.old) (λ held.

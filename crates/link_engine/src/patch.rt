@@ -7,7 +7,7 @@ ghost use Rattle.link_engine.specs.Branches.{is_branch};
 ghost use Rattle.link_engine.specs.Object.{IsText};
 ghost use Rattle.link_engine.specs.Branches as branches;
 ghost use Rattle.link_engine.specs.Patching.{branch_at, patched};
-ghost use Rattle.link_engine.specs.Symbols.{ArePlaced};
+ghost use Rattle.link_engine.specs.Object.{ArePlaced};
 
 use crate::branches::target_of;
 use arm64_insn::put_branch;

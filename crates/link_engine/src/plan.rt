@@ -13,7 +13,7 @@ ghost use Rattle.link_engine.specs.Verdict.{verdict};
 use crate::entry::entry_of;
 use crate::fetch::fetch;
 use crate::image::image;
-use crate::object::read;
+use crate::read::read;
 use crate::words::read_words;
 use mo_outside::Files;
 use mo_types::{ArgList, Bytes, Status};

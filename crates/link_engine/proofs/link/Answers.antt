@@ -2,7 +2,7 @@ use Rattle.std.proofs.Common.{ℕ, List, subst, ◌∙◌}
 use Rattle.mo_outside.specs.Faults.{Rises}
 use Rattle.mo_outside.specs.Tells.{Appends, AppendsSome, Tells}
 use Rattle.link_engine.specs.Settles.{output_path}
-use Rattle.link_engine.proofs.LinkLemmas.{all_complete, all_done, all_later, all_missing, all_undefined, same_line}
+use Rattle.link_engine.proofs.LinkLemmas.{all_complete, all_done, all_limit, all_malformed, all_missing, all_unsupported, all_undefined, same_line}
 use Rattle.link_engine.proofs.link.Goals as goal
 
 pub returns-clause-complete : goal.returns-clause-complete
@@ -21,9 +21,25 @@ returns-clause-missing g c =
     (g.O.Out.files c.args.out.now) (g.O.Out.files c.run-status.new.out) c.run-status.ensures.settles
     (λ path is. (c.run-status.ensures.read_fault path is).1) c.run-status.ensures.write_fault
 
-pub returns-clause-later : goal.returns-clause-later
-returns-clause-later g c =
-    all_later c.args.words.now (g.F.Files.holds c.args.files.now) c.run-status.result.status
+pub returns-clause-malformed : goal.returns-clause-malformed
+returns-clause-malformed g c =
+    all_malformed c.args.words.now (g.F.Files.holds c.args.files.now) c.run-status.result.status
+    (Rises (g.F.Files.faults c.args.files.now) (g.F.Files.faults c.run-status.new.files))
+    (Rises (g.O.Out.faults c.args.out.now) (g.O.Out.faults c.run-status.new.out))
+    (g.O.Out.files c.args.out.now) (g.O.Out.files c.run-status.new.out) c.run-status.ensures.settles
+    (λ path is. (c.run-status.ensures.read_fault path is).1) c.run-status.ensures.write_fault
+
+pub returns-clause-unsupported : goal.returns-clause-unsupported
+returns-clause-unsupported g c =
+    all_unsupported c.args.words.now (g.F.Files.holds c.args.files.now) c.run-status.result.status
+    (Rises (g.F.Files.faults c.args.files.now) (g.F.Files.faults c.run-status.new.files))
+    (Rises (g.O.Out.faults c.args.out.now) (g.O.Out.faults c.run-status.new.out))
+    (g.O.Out.files c.args.out.now) (g.O.Out.files c.run-status.new.out) c.run-status.ensures.settles
+    (λ path is. (c.run-status.ensures.read_fault path is).1) c.run-status.ensures.write_fault
+
+pub returns-clause-limit : goal.returns-clause-limit
+returns-clause-limit g c =
+    all_limit c.args.words.now (g.F.Files.holds c.args.files.now) c.run-status.result.status
     (Rises (g.F.Files.faults c.args.files.now) (g.F.Files.faults c.run-status.new.files))
     (Rises (g.O.Out.faults c.args.out.now) (g.O.Out.faults c.run-status.new.out))
     (g.O.Out.files c.args.out.now) (g.O.Out.files c.run-status.new.out) c.run-status.ensures.settles

@@ -1,0 +1,49 @@
+-- What is read of the input, or why it is refused.
+use Rattle.std.specs.Prelude.{ℕ, ◌^◌, nat_le, List, length, Result, Ok, Err, if◌then◌else◌}
+use Rattle.mo_types.specs.Gives.{◌>>=◌}
+use Rattle.mo_types.specs.Kind.{kind_of}
+use Rattle.mo_types.specs.declared.answer.Refusal.TheVariants as refusal
+use Rattle.mo_types.specs.declared.answer.Status.{Status}
+use Rattle.mo_types.specs.declared.answer.Status.TheVariants as answer
+use Rattle.mo_types.specs.declared.cause.Rule.TheVariants as rule
+use Rattle.mo_types.specs.declared.cause.Which.TheVariants.{FileBytes}
+use Rattle.mo_types.specs.declared.kind.Kind.{Kind}
+use Rattle.mo_types.specs.declared.kind.Kind.TheVariants.{MachO, Archive, Universal, Stub, NotAnInput, Refused}
+use Rattle.mo_types.specs.declared.object.Object.{Object}
+use Rattle.mo_types.specs.declared.object_fault.ObjFault.{ObjFault}
+use Rattle.mo_types.specs.declared.object_fault.ObjFault.TheVariants.{Malformed, Unsupported, Limit, OutOfMemory}
+use Rattle.mo_obj.specs.Object.{object_of}
+use Rattle.link_engine.specs.declared.form.TextObject.{TextObject}
+use Rattle.link_engine.specs.declared.words.Command.{Command}
+use Rattle.link_engine.specs.Form.{later, linked_of}
+
+-- libraries come with a later version
+abbrev pub by_kind : List ℕ → Kind → Result Object ObjFault
+by_kind bytes MachO = object_of bytes
+by_kind bytes Archive = Err later
+by_kind bytes Universal = Err later
+by_kind bytes Stub = Err later
+by_kind bytes NotAnInput = Err (Malformed 0 rule.NotAnInput)
+by_kind bytes (Refused feature) = Err (Unsupported feature)
+
+-- the object that a file of fewer than 2^30 bytes is
+unfoldable pub file_object : List ℕ → Result Object ObjFault
+file_object bytes = if nat_le (2 ^ 30) (length bytes) then Err (Limit FileBytes) else by_kind bytes (kind_of bytes)
+
+-- that object, where it has the form that is linked
+unfoldable pub text_object : List ℕ → Result TextObject ObjFault
+text_object bytes = file_object bytes >>= linked_of
+
+-- the answer to a fault of a file
+abbrev pub refused : List ℕ → ObjFault → Status
+refused path (Malformed place rule) = answer.Refused (refusal.Malformed path place rule)
+refused path (Unsupported feature) = answer.Refused (refusal.Unsupported path feature)
+refused path (Limit which) = answer.Refused (refusal.Limit which)
+refused path OutOfMemory = answer.OutOfMemory
+
+abbrev pub or_refused : List ℕ → Result TextObject ObjFault → Result TextObject Status
+or_refused path (Ok object) = Ok object
+or_refused path (Err fault) = Err (refused path fault)
+
+unfoldable pub read : Command → List ℕ → Result TextObject Status
+read command bytes = or_refused command.input (text_object bytes)

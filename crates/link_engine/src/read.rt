@@ -1,0 +1,80 @@
+//! Reading the input.
+
+ghost use Rattle.std.specs.Prelude.{◌≡◌, IfErr, IfOk};
+ghost use Rattle.mo_obj.specs.Faults.{IsObjFault};
+ghost use Rattle.mo_types.specs.Answer.{IsDetermined};
+ghost use Rattle.mo_types.specs.Gives.{Gives};
+ghost use Rattle.mo_types.specs.Whole.{IsWhole};
+ghost use Rattle.link_engine.specs.Object.{IsLinkable};
+ghost use Rattle.link_engine.specs.Reading as reading;
+ghost use Rattle.link_engine.specs.Steps.{IsRefusal};
+
+use crate::form::{LATER, TextObject, linked_of};
+use crate::words::Command;
+use mo_obj::read_object;
+use mo_types::{Kind, ObjFault, Object, Refusal, Rule, Status, Which, kind_of};
+use std::alloc::Global;
+
+// The object that a file is.
+#[tactic(auto, unfolding(crate::specs::Reading::file_object))]
+fn file_object(alloc: Global, bytes: &[u8]) -> Result<Object, ObjFault>
+    ensures exact { Gives IsObjFault result (reading.file_object bytes.now) }
+    ensures whole { IfOk result IsWhole }
+{
+    if bytes.len() >= 1 << 30 {
+        return Err(ObjFault::Limit(Which::FileBytes));
+    }
+    match kind_of(bytes) {
+        Kind::MachO => read_object(alloc, bytes),
+        Kind::Archive | Kind::Universal | Kind::Stub => Err(LATER),
+        Kind::NotAnInput => Err(ObjFault::Malformed {
+            place: 0,
+            rule: Rule::NotAnInput,
+        }),
+        Kind::Refused(feature) => Err(ObjFault::Unsupported(feature)),
+    }
+}
+
+#[tactic(auto, unfolding(crate::specs::Reading::text_object))]
+fn text_object(alloc: Global, bytes: &[u8]) -> Result<TextObject, ObjFault>
+    ensures exact { Gives IsObjFault result (reading.text_object bytes.now) }
+    ensures linkable { IfOk result IsLinkable }
+{
+    let object = file_object(alloc, bytes)?;
+    linked_of(alloc, object)
+}
+
+// The answer to a fault of the input.
+fn refused(command: &Command, fault: ObjFault) -> Result<TextObject, Status>
+    ensures exact { Gives IsDetermined result (Err (reading.refused command.now.input fault)) }
+    ensures kind { IfErr result IsRefusal }
+    ensures none { IfOk result (λ object. ⊥) }
+{
+    match fault {
+        ObjFault::Malformed { place, rule } => Err(Status::Refused(Refusal::Malformed {
+            file: command.input.clone()?,
+            place,
+            rule,
+        })),
+        ObjFault::Unsupported(feature) => Err(Status::Refused(Refusal::Unsupported {
+            file: command.input.clone()?,
+            feature,
+        })),
+        ObjFault::Limit(which) => Err(Status::Refused(Refusal::Limit { which })),
+        ObjFault::OutOfMemory => Err(Status::OutOfMemory),
+    }
+}
+
+/// The object that the input is, where it has the form that is linked; or the first of these that stands: 2^30
+/// bytes, another kind of file, a rule that it breaks, a feature or form that the linker doesn't have.
+#[tactic(auto, unfolding(crate::specs::Reading::read))]
+pub fn read(alloc: Global, command: &Command, bytes: &[u8]) -> Result<TextObject, Status>
+    ensures exact { Gives IsDetermined result (reading.read command.now bytes.now) }
+    ensures kind { IfErr result IsRefusal }
+    ensures linkable { IfOk result IsLinkable }
+{
+    match text_object(alloc, bytes) {
+        Ok(object) => Ok(object),
+        Err(fault) => refused(command, fault),
+    }
+}
