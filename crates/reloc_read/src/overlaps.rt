@@ -1,6 +1,6 @@
 //! Fields that have bytes in common.
 
-ghost use Rattle.std.specs.Prelude.{◌≡◌, ℕ, ◌<◌, ◌++◌, List, Some, length, map, nat_le, nat_lt, All, IsTrue, IfOk, IfSome, OnOk};
+ghost use Rattle.std.specs.Prelude.{◌≡◌, ◌↔◌, ℕ, ◌<◌, ◌++◌, List, Some, length, map, nat_le, nat_lt, All, IsTrue, IfOk, IfSome, OnOk};
 ghost use Rattle.std.specs.List.{count_by};
 ghost use Rattle.std.specs.List.Sorted.{IsNonDecreasing, IsNonDecreasingBy};
 ghost use Rattle.std.specs.Option.{option_to_list};
@@ -50,11 +50,12 @@ fn fields_of(alloc: Global, relocs: &[RawReloc]) -> Result<Vec<Field>, OutOfMemo
 // Whether each field but the last one ends before the next.
 #[tactic(auto, using(crate::proofs::ApartLemmas::follows))]
 fn follow(found: &[Field]) -> bool
-    ensures { IsTrue result → Follow found.now }
+    requires { All IsSmall found.now }
+    ensures { IsTrue result ↔ Follow found.now }
 {
     for at in 1..found.len() {
         let before = found[at - 1];
-        if before.size == 0 || before.size > found[at].offset.saturating_sub(before.offset) {
+        if before.size > found[at].offset.saturating_sub(before.offset) {
             return false;
         }
     }

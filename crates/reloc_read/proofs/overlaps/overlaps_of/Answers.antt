@@ -9,7 +9,7 @@ use Rattle.reloc_read.proofs.overlaps.overlaps_of.Goals as goal
 pub returns-then-follow : goal.returns-then-follow
 returns-then-follow c =
     apart_from_follow c.args.relocs.now c.in_ok-fields.fields.items c.sort_by_offset.new.fields.items c.in_ok-fields.ensures.fields c.sort_by_offset.ensures.sorted.moved
-    (subst Follow c.as_slice.ensures.value (c.follow.ensures c.if-follow.true))
+    (subst Follow c.as_slice.ensures.value (c.follow.ensures.0 c.if-follow.true))
 
 pub returns : goal.returns
 returns c = record {
