@@ -11,7 +11,7 @@ use Rattle.mo_types.specs.declared.object.RawReloc.{RawReloc}
 use Rattle.mo_types.specs.declared.reference.Field.{Field}
 use Rattle.mo_types.specs.RelocationRules.{field_at, overlap}
 use Rattle.reloc_read.specs.Fields.{AreApart, Follow, overlaps_at}
-use Rattle.reloc_read.proofs.OverlapLemmas.{none_in_range}
+use Rattle.reloc_read.proofs.ScanLemmas.{none_in_range}
 
 -- a range grows by one
 

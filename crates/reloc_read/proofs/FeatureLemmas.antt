@@ -3,7 +3,7 @@ use Rattle.std.proofs.Common.{◌≡◌, ℕ, ◌<◌, ◌≤◌, List, length, 
 use Rattle.mo_types.specs.declared.object.Section.{Section}
 use Rattle.mo_types.specs.declared.object.Symbol.{Symbol}
 use Rattle.reloc_read.specs.Features.{row_names_absolute_at, any_absolute}
-use Rattle.reloc_read.proofs.OverlapLemmas.{NoneBelow, any_in_range, none_in_range, none_at_first, none_so_far}
+use Rattle.reloc_read.proofs.ScanLemmas.{NoneBelow, any_in_range, none_in_range, none_at_first, none_so_far}
 
 pub one_names : (symbols : List Symbol) (section : Section) (at : ℕ) → at < length section.relocs → true ≡ row_names_absolute_at symbols section.relocs at → true ≡ any_absolute symbols section
 one_names symbols section at within pass = sym (any_in_range (row_names_absolute_at symbols section.relocs) 0 (length section.relocs) at (omega arith) (omega arith) (sym pass))

@@ -1,4 +1,5 @@
 pub mod ApartLemmas
+pub mod CountLemmas
 pub mod FaultLemmas
 pub mod FeatureLemmas
 pub mod LinkedLemmas
@@ -7,3 +8,4 @@ pub mod NoFaultLemmas
 pub mod NumberLemmas
 pub mod OverlapLemmas
 pub mod RefLemmas
+pub mod ScanLemmas

@@ -3,3 +3,4 @@ pub mod Faults
 pub mod Features
 pub mod Fields
 pub mod LinkedSection
+pub mod Overlaps

@@ -1,15 +1,15 @@
 //! The least place at which each rule of relocations fails.
 
-ghost use Rattle.std.specs.Prelude.{◌≡◌, ◌+◌, ◌*◌, ◌<◌, ◌^◌, true, length, slice_index_or, IfSome, IfOk};
+ghost use Rattle.std.specs.Prelude.{◌≡◌, ◌+◌, ◌*◌, ◌<◌, ◌^◌, length, slice_index_or, IfSome, IfOk};
 ghost use Rattle.mo_types.specs.declared.object.Section.{Section};
 ghost use Rattle.reloc_read.specs.CutObject.{IsCut};
 ghost use Rattle.reloc_read.specs.Faults as faults;
-ghost use Rattle.reloc_read.specs.Fields.{AreApart};
 ghost use Rattle.reloc_read.specs.LinkedSection.{IsLinked};
+ghost use Rattle.reloc_read.specs.Overlaps.{Tells};
 
 use crate::cut_object::CutObject;
 use crate::linked_section::LinkedSection;
-use crate::overlaps::are_apart;
+use crate::overlaps::{Overlaps, overlaps_of};
 use crate::rules::{pair_fault, place_fault, shape_fault};
 use crate::targets::target_fault;
 use mo_types::{OutOfMemory, Section};
@@ -63,31 +63,31 @@ fn place_of(section: &Section, index: Option<usize>) -> Option<u64>
 }
 
 #[tactic(auto, using(crate::proofs::LinkedLemmas::linked))]
-fn row_faults(linked: &LinkedSection, at: usize, apart: bool) -> Faults
+fn row_faults(linked: &LinkedSection, at: usize, overlaps: &Overlaps) -> Faults
     requires linked { IsLinked linked.now }
     requires index { at < length linked.now.section.now.relocs }
-    requires apart { apart ≡ true → AreApart linked.now.section.now.relocs }
+    requires overlaps { Tells linked.now.section.now.relocs overlaps.now }
     ensures { result ≡ faults.row_faults linked.now.cut.object.now (linked.now.index + 1) linked.now.section.now at }
 {
     let section = linked.section;
     Faults {
         pair: place_of(section, pair_fault(section, at)),
         shape: place_of(section, shape_fault(section, at)),
-        place: place_of(section, place_fault(linked, at, apart)),
+        place: place_of(section, place_fault(linked, at, overlaps)),
         target: place_of(section, target_fault(linked.cut.object, section, at)),
     }
 }
 
-// The faults of a linked section; `apart` says that no two of its fields overlap.
+// The faults of a linked section; `overlaps` tells which of its fields overlap.
 #[tactic(auto, using(crate::proofs::FaultLemmas::rows))]
-fn section_faults(linked: &LinkedSection, apart: bool) -> Faults
+fn section_faults(linked: &LinkedSection, overlaps: &Overlaps) -> Faults
     requires linked { IsLinked linked.now }
-    requires apart { apart ≡ true → AreApart linked.now.section.now.relocs }
+    requires overlaps { Tells linked.now.section.now.relocs overlaps.now }
     ensures { result ≡ faults.section_faults linked.now.cut.object.now (linked.now.index + 1) linked.now.section.now }
 {
     let mut found = NONE;
     for at in 0..linked.section.relocs.len() {
-        found = merge(found, row_faults(linked, at, apart));
+        found = merge(found, row_faults(linked, at, overlaps));
     }
     found
 }
@@ -107,8 +107,8 @@ fn faults_at(alloc: Global, cut: &CutObject, index: usize) -> Result<Faults, Out
         index,
         section,
     };
-    let apart = are_apart(alloc, section.relocs.as_slice())?;
-    Ok(section_faults(&linked, apart))
+    let overlaps = overlaps_of(alloc, section.relocs.as_slice())?;
+    Ok(section_faults(&linked, &overlaps))
 }
 
 /// The least places at which the rules fail.

@@ -8,6 +8,8 @@ ghost use Rattle.mo_types.specs.Refs.{IsRefFault};
 ghost use Rattle.mo_types.specs.Refs as refs;
 ghost use Rattle.mo_types.specs.Whole.{IsWhole};
 
+#[cfg(test)]
+mod clang_objects;
 mod cut_object;
 mod faults;
 mod features;
@@ -20,6 +22,8 @@ mod rules;
 mod targets;
 #[cfg(test)]
 mod tests;
+#[cfg(test)]
+mod tests_clang;
 
 use cut_object::CutObject;
 use faults::all_faults;

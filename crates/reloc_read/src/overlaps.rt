@@ -1,65 +1,32 @@
 //! Fields that have bytes in common.
 
-ghost use Rattle.std.specs.Prelude.{◌≡◌, ◌<◌, ◌++◌, Some, true, length, IsTrue, IfOk, OnOk};
-ghost use Rattle.std.specs.List.{filter_map, range_with_len};
+ghost use Rattle.std.specs.Prelude.{◌≡◌, ◌↔◌, ℕ, ◌<◌, ◌++◌, List, Some, length, map, nat_le, nat_lt, All, IsTrue, IfOk, IfSome, OnOk};
+ghost use Rattle.std.specs.List.{count_by};
+ghost use Rattle.std.specs.List.Sorted.{IsNonDecreasing, IsNonDecreasingBy};
 ghost use Rattle.std.specs.Option.{option_to_list};
 ghost use Rattle.mo_types.specs.RelocationRules as rules;
-ghost use Rattle.reloc_read.specs.Fields as fields;
-ghost use Rattle.reloc_read.specs.Fields.{AreApart, Follow, IsSmall};
+ghost use Rattle.mo_types.specs.declared.object.RawReloc.{RawReloc};
+ghost use Rattle.reloc_read.specs.Fields.{Follow, IsSmall};
+ghost use Rattle.reloc_read.specs.Overlaps as bounds;
+ghost use Rattle.reloc_read.specs.Overlaps.{AreSorted, Tells};
 
 use crate::rows::field_at;
 use mo_types::{Field, OutOfMemory, RawReloc};
 use std::alloc::Global;
 
-fn overlap(a: &Field, b: &Field) -> bool
-    requires first { IsSmall a.now }
-    requires second { IsSmall b.now }
-    ensures { result ≡ rules.overlap a.now b.now }
-{
-    a.offset < b.offset + b.size && b.offset < a.offset + a.size
-}
-
-// Whether the field of the row at another place overlaps this one.
-fn overlaps_at(relocs: &[RawReloc], at: usize, field: &Field, other: usize) -> bool
-    requires { IsSmall field.now }
-    ensures { result ≡ fields.overlaps_at relocs.now at field.now other }
-{
-    if other == at {
-        return false;
-    }
-    match field_at(relocs, other) {
-        Some(theirs) => overlap(field, &theirs),
-        None => false,
-    }
-}
-
-#[tactic(auto, using(crate::proofs::OverlapLemmas::scans))]
-fn scan(relocs: &[RawReloc], at: usize, field: &Field) -> bool
-    requires { IsSmall field.now }
-    ensures { result ≡ rules.overlaps_another relocs.now at field.now }
-{
-    for other in 0..relocs.len() {
-        if overlaps_at(relocs, at, field, other) {
-            return true;
-        }
-    }
-    false
-}
-
-/// Whether the field of the row at a place overlaps that of another row; `apart` says that no two do.
-#[tactic(auto, using(crate::proofs::OverlapLemmas::aparts))]
-pub fn overlaps_another(relocs: &[RawReloc], at: usize, field: &Field, apart: bool) -> bool
-    requires small { IsSmall field.now }
-    requires index { at < length relocs.now }
-    requires is { rules.field_at relocs.now at ≡ Some field.now }
-    requires apart { apart ≡ true → AreApart relocs.now }
-    ensures { result ≡ rules.overlaps_another relocs.now at field.now }
-{
-    !apart && scan(relocs, at, field)
+/// What tells of each field of a section whether it overlaps another one.
+#[derive(Debug, Drop)]
+pub enum Overlaps {
+    /// No two fields overlap.
+    Nowhere,
+    /// Some may: the fields by rising offset, and the offsets at which they end, in rising order.
+    Somewhere { fields: Vec<Field>, ends: Vec<u64> },
 }
 
 fn add(found: &mut Vec<Field>, field: Option<Field>) -> Result<(), OutOfMemory>
-    ensures { OnOk result (found.new.items ≡ found.old.items ++ option_to_list field) }
+    requires small { IfSome field IsSmall }
+    ensures items { OnOk result (found.new.items ≡ found.old.items ++ option_to_list field) }
+    ensures small { All IsSmall found.old.items → OnOk result (All IsSmall found.new.items) }
 {
     if let Some(field) = field {
         found.push(field)?;
@@ -70,7 +37,8 @@ fn add(found: &mut Vec<Field>, field: Option<Field>) -> Result<(), OutOfMemory>
 // The fields of all rows.
 #[tactic(auto, using(crate::proofs::ApartLemmas::collects))]
 fn fields_of(alloc: Global, relocs: &[RawReloc]) -> Result<Vec<Field>, OutOfMemory>
-    ensures { IfOk result (λ found. found.items ≡ filter_map (rules.field_at relocs.now) (range_with_len 0 (length relocs.now))) }
+    ensures fields { IfOk result (λ found. found.items ≡ bounds.fields_of relocs.now) }
+    ensures small { IfOk result (λ found. All IsSmall found.items) }
 {
     let mut found = Vec::with_capacity(alloc, relocs.len())?;
     for at in 0..relocs.len() {
@@ -82,24 +50,80 @@ fn fields_of(alloc: Global, relocs: &[RawReloc]) -> Result<Vec<Field>, OutOfMemo
 // Whether each field but the last one ends before the next.
 #[tactic(auto, using(crate::proofs::ApartLemmas::follows))]
 fn follow(found: &[Field]) -> bool
-    ensures { IsTrue result → Follow found.now }
+    requires { All IsSmall found.now }
+    ensures { IsTrue result ↔ Follow found.now }
 {
     for at in 1..found.len() {
         let before = found[at - 1];
-        if before.size == 0 || before.size > found[at].offset.saturating_sub(before.offset) {
+        if before.size > found[at].offset.saturating_sub(before.offset) {
             return false;
         }
     }
     true
 }
 
-/// Whether no two fields of a section overlap: they are sorted, and then each is held against the next. False
-/// says nothing.
-#[tactic(auto, using(crate::proofs::ApartLemmas::aparts))]
-pub fn are_apart(alloc: Global, relocs: &[RawReloc]) -> Result<bool, OutOfMemory>
-    ensures { IfOk result (λ apart. apart ≡ true → AreApart relocs.now) }
+// Where the fields end.
+fn ends_of(alloc: Global, fields: &[Field]) -> Result<Vec<u64>, OutOfMemory>
+    requires { All IsSmall fields.now }
+    ensures { IfOk result (λ ends. ends.items ≡ map bounds.end_of fields.now) }
 {
-    let mut found = fields_of(alloc, relocs)?;
-    found.sort_unstable_by_key(|field| field.offset);
-    Ok(follow(found.as_slice()))
+    let mut ends = Vec::with_capacity(alloc, fields.len())?;
+    for field in fields {
+        ends.push(field.offset + field.size)?;
+    }
+    Ok(ends)
+}
+
+fn sort_by_offset(fields: &mut Vec<Field>)
+    requires { All IsSmall fields.old.items }
+    ensures sorted { AreSorted fields.old.items fields.new.items }
+    ensures small { All IsSmall fields.new.items }
+{
+    fields.sort_unstable_by_key(|field| field.offset);
+}
+
+/// What tells of each field of a section's rows whether it overlaps another one, in time n log n of n rows.
+#[tactic(auto, using(crate::proofs::ApartLemmas::aparts))]
+pub fn overlaps_of(alloc: Global, relocs: &[RawReloc]) -> Result<Overlaps, OutOfMemory>
+    ensures { IfOk result (Tells relocs.now) }
+{
+    let mut fields = fields_of(alloc, relocs)?;
+    sort_by_offset(&mut fields);
+    if follow(fields.as_slice()) {
+        return Ok(Overlaps::Nowhere);
+    }
+    let mut ends = ends_of(alloc, fields.as_slice())?;
+    ends.sort_unstable();
+    Ok(Overlaps::Somewhere { fields, ends })
+}
+
+// How many fields begin below an offset, where they rise.
+fn begun_below(fields: &[Field], offset: u64) -> usize
+    ensures { IsNonDecreasingBy (λ field. field.offset) fields.now → result ≡ count_by (λ field. nat_lt field.offset offset) fields.now }
+{
+    fields.partition_point(|field| field.offset < offset)
+}
+
+// How many ends aren't above an offset, where they rise.
+fn ended_by(ends: &[u64], offset: u64) -> usize
+    ensures { IsNonDecreasing ends.now → result ≡ count_by (λ end. nat_le end offset) ends.now }
+{
+    ends.partition_point(|end| *end <= offset)
+}
+
+/// Whether the field of the row at a place overlaps that of another row: of the fields that begin below its end,
+/// itself among them, all overlap it but those that end at its start or below.
+#[tactic(auto, using(crate::proofs::OverlapLemmas::overlaps))]
+pub fn overlaps_another(overlaps: &Overlaps, field: &Field) -> bool
+    requires small { IsSmall field.now }
+    ensures { (relocs : List RawReloc) (at : ℕ) → Tells relocs overlaps.now → at < length relocs → rules.field_at relocs at ≡ Some field.now → result ≡ rules.overlaps_another relocs at field.now }
+{
+    match overlaps {
+        Overlaps::Nowhere => false,
+        Overlaps::Somewhere { fields, ends } => {
+            let begun = begun_below(fields.as_slice(), field.offset + field.size);
+            let ended = ended_by(ends.as_slice(), field.offset);
+            begun.saturating_sub(ended) > 1
+        }
+    }
 }

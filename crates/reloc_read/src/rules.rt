@@ -1,13 +1,14 @@
 //! The rules that relocations keep: for a place of a section's table, the relocation at fault there.
 
-ghost use Rattle.std.specs.Prelude.{◌≡◌, ◌+◌, ◌<◌, ◌≤◌, ℕ, length, true, Some, IfSome};
+ghost use Rattle.std.specs.Prelude.{◌≡◌, ◌+◌, ◌<◌, ◌≤◌, ℕ, length, Some, IfSome};
 ghost use Rattle.mo_types.specs.RelocationRules as rules;
 ghost use Rattle.mo_types.specs.declared.object.Object.{Object};
-ghost use Rattle.reloc_read.specs.Fields.{AreApart, IsSmall};
+ghost use Rattle.reloc_read.specs.Fields.{IsSmall};
 ghost use Rattle.reloc_read.specs.LinkedSection.{IsLinked};
+ghost use Rattle.reloc_read.specs.Overlaps.{Tells};
 
 use crate::linked_section::{LinkedSection, cut_at};
-use crate::overlaps::overlaps_another;
+use crate::overlaps::{Overlaps, overlaps_another};
 use crate::rows::{
     field_at, first_before, is_first, is_instruction, is_second, is_subtractor, kind_at, last_at,
 };
@@ -80,36 +81,36 @@ fn is_bad_field(
     at: usize,
     kind: RefKind,
     field: &Field,
-    apart: bool,
+    overlaps: &Overlaps,
 ) -> bool
     requires linked { IsLinked linked.now }
     requires small { IsSmall field.now }
     requires index { at < length linked.now.section.now.relocs }
     requires is { rules.field_at linked.now.section.now.relocs at ≡ Some field.now }
-    requires apart { apart ≡ true → AreApart linked.now.section.now.relocs }
+    requires overlaps { Tells linked.now.section.now.relocs overlaps.now }
     ensures { result ≡ rules.is_bad_field linked.now.cut.object.now (linked.now.index + 1) linked.now.section.now at kind field.now }
 {
     field.offset >= 1 << 31
         || !is_in_one_atom(linked, field)
         || (is_instruction(kind) && field.offset % 4 != 0)
-        || overlaps_another(linked.section.relocs.as_slice(), at, field, apart)
+        || overlaps_another(overlaps, field)
         || !has_fields(linked.section)
 }
 
-/// The first relocation of a row whose field lies where none may lie; `apart` says that no two fields of the
-/// section overlap.
+/// The first relocation of a row whose field lies where none may lie; `overlaps` tells which fields of the section
+/// overlap.
 #[tactic(auto, unfolding(mo_types::specs::RelocationRules::place_fault))]
-pub fn place_fault(linked: &LinkedSection, at: usize, apart: bool) -> Option<usize>
+pub fn place_fault(linked: &LinkedSection, at: usize, overlaps: &Overlaps) -> Option<usize>
     requires linked { IsLinked linked.now }
     requires index { at < length linked.now.section.now.relocs }
-    requires apart { apart ≡ true → AreApart linked.now.section.now.relocs }
+    requires overlaps { Tells linked.now.section.now.relocs overlaps.now }
     ensures value { result ≡ rules.place_fault linked.now.cut.object.now (linked.now.index + 1) linked.now.section.now at }
     ensures within { IfSome result (λ index. index ≤ at) }
 {
     let relocs = linked.section.relocs.as_slice();
     let kind = kind_at(relocs, at)?;
     let field = field_at(relocs, at)?;
-    if is_bad_field(linked, at, kind, &field, apart) {
+    if is_bad_field(linked, at, kind, &field, overlaps) {
         return Some(row_start(relocs, at));
     }
     None

@@ -1,5 +1,5 @@
 use Rattle.reloc_read.specs.Features.{row_names_absolute_at}
-use Rattle.reloc_read.proofs.OverlapLemmas.{NoneBelow}
+use Rattle.reloc_read.proofs.ScanLemmas.{NoneBelow}
 use Rattle.reloc_read.proofs.features.any_absolute.Given as goal
 
 abbrev pub invariant-loop-at : goal.invariant-loop-at
