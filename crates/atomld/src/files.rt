@@ -1,6 +1,6 @@
 //! Files of the file system.
 
-ghost use Rattle.std.specs.Prelude.{◌≡◌, ◌+◌, ◌<◌, ◌≤◌, ◌^◌, [], length, take, drop, ◌≢◌, vec_len, false, None, IfErr, IfOk, IfSome, IsErrOf, OnOk, OnErr};
+ghost use Rattle.std.specs.Prelude.{◌≡◌, ◌+◌, ◌<◌, ◌≤◌, ◌^◌, [], length, take, drop, ◌≢◌, vec_len, false, true, None, IfErr, IfOk, IfSome, IsErrOf, IsUtf8, OnOk, OnErr};
 ghost use Rattle.std.specs.Io.KnownBytes.{Consumes, IsAtEnd};
 ghost use Rattle.std.specs.IoError.{error_kind};
 ghost use Rattle.atomld.specs.Faults.{counted, is_unread};
@@ -122,18 +122,38 @@ fn found<F: Drop>(opened: io::Result<F>) -> Result<Option<F>, FetchFault>
     }
 }
 
+// Fetches the file that was opened, or answers false where no file has the path.
+fn fetch_opened<F: Read + OpenFile>(
+    opened: io::Result<F>,
+    into: &mut Vec<u8>,
+) -> Result<bool, FetchFault>
+where
+    F: Drop,
+    requires { into.old.items ≡ [] }
+    ensures there { IfOk opened (λ _. IfOk result (λ there. there ≡ true)) }
+    ensures bytes { IfOk opened (λ file. OnOk result (IfSome (F.remaining file) (λ held. into.new.items ≡ take fetch_limit held))) }
+    ensures missing { IfErr opened (λ e. error_kind e ≡ ErrorKind.NotFound → result ≡ Ok false) }
+    ensures failed { IfErr opened (λ e. error_kind e ≢ ErrorKind.NotFound → result ≡ Err FetchFault.Failed) }
+    ensures absent { result ≡ Ok false → into.new.items ≡ [] }
+    ensures size { length into.new.items ≤ 2 ^ 30 }
+    ensures err { OnErr result (into.new.items ≡ []) }
+{
+    let Some(file) = found(opened)? else {
+        return Ok(false);
+    };
+    read_file(file, into)?;
+    Ok(true)
+}
+
 fn fetch_from<R: rt::Files>(rt: &R, path: &[u8], into: &mut Vec<u8>) -> Result<bool, FetchFault>
     requires { into.old.items ≡ [] }
+    ensures no_text { ¬ IsUtf8 path.now → result ≡ Err FetchFault.Failed }
     ensures absent { result ≡ Ok false → into.new.items ≡ [] }
     ensures size { length into.new.items ≤ 2 ^ 30 }
     ensures err { OnErr result (into.new.items ≡ []) }
 {
     let path = str::from_utf8(path).map_err(|_| FetchFault::Failed)?;
-    let Some(file) = found(fs::open(rt, path))? else {
-        return Ok(false);
-    };
-    read_file(file, into)?;
-    Ok(true)
+    fetch_opened(fs::open(rt, path), into)
 }
 
 impl<R: rt::Files> Files for DiskFiles<R> {
@@ -147,6 +167,7 @@ impl<R: rt::Files> Files for DiskFiles<R> {
         ensures counts { self.new.faults ≡ counted (is_unread result) self.old.faults }
         ensures faults { self.old.faults ≤ self.new.faults }
         ensures failed { IsErrOf result FetchFault.Failed → Rises self.old.faults self.new.faults }
+        ensures no_text { ¬ IsUtf8 path.now → result ≡ Err FetchFault.Failed }
         ensures absent { result ≡ Ok false → into.new.items ≡ [] }
         ensures size { length into.new.items ≤ 2 ^ 30 }
         ensures err { OnErr result (into.new.items ≡ []) }

@@ -1,8 +1,9 @@
 //! The image as a file of the file system.
 
-ghost use Rattle.std.specs.Prelude.{◌≡◌, ◌<◌, ◌≤◌, length, take, is_err, None, IfOk, IfSome, IsSome, OnOk, OnErr};
+ghost use Rattle.std.specs.Prelude.{◌≡◌, ◌<◌, ◌≤◌, length, take, is_err, None, IfOk, IfSome, IsErr, IsSome, IsUtf8, OnOk, OnErr};
 ghost use Rattle.std.specs.Io.KnownBytes.{Appends};
 ghost use Rattle.atomld.specs.Faults.{counted};
+ghost use Rattle.atomld.specs.Mode.{mode_to_run};
 ghost use Rattle.mo_outside.specs.Faults.{Rises};
 
 use crate::faults::count;
@@ -25,7 +26,9 @@ pub struct DiskOut<R: rt::Files> {
 
 impl<R: rt::Files> DiskOut<R> {
     pub fn new(rt: R) -> DiskOut<R>
-        ensures { result.faults ≡ 0 }
+        ensures rt { result.rt ≡ rt }
+        ensures file { result.file ≡ None }
+        ensures faults { result.faults ≡ 0 }
     {
         DiskOut {
             rt,
@@ -35,9 +38,18 @@ impl<R: rt::Files> DiskOut<R> {
     }
 }
 
-fn create<R: rt::Files>(rt: &R, path: &[u8]) -> Result<R::File, Failed> {
+fn create<R: rt::Files>(rt: &R, path: &[u8]) -> Result<R::File, Failed>
+    ensures { ¬ IsUtf8 path.now → IsErr result }
+{
     let path = str::from_utf8(path).map_err(|_| Failed)?;
     fs::create(rt, path).map_err(|_| Failed)
+}
+
+// The mode of a file with the leave to run it for those who may read it.
+fn runnable(mode: u32) -> u32
+    ensures { result ≡ mode_to_run mode }
+{
+    mode | (mode & READ_BITS) >> 2
 }
 
 // Lets those who may read a file run it. What isn't a regular file stays as it is.
@@ -45,9 +57,9 @@ fn make_executable<F: OpenFile>(file: &F) -> io::Result<()> {
     let metadata = file.metadata()?;
     let mut permissions = metadata.permissions();
     let mode = permissions.mode();
-    let runnable = mode | (mode & READ_BITS) >> 2;
-    if metadata.is_file() && mode != runnable {
-        permissions.set_mode(runnable);
+    let wanted = runnable(mode);
+    if metadata.is_file() && mode != wanted {
+        permissions.set_mode(wanted);
         file.set_permissions(permissions)?;
     }
     Ok(())
@@ -64,6 +76,7 @@ impl<R: rt::Files> Out for DiskOut<R> {
         ensures faults { self.old.faults ≤ self.new.faults }
         ensures failed { OnErr result (Rises self.old.faults self.new.faults) }
         ensures open { OnOk result (IsSome self.new.file) }
+        ensures no_text { ¬ IsUtf8 path.now → IsErr result }
         ensures err { OnErr result (self.new.file ≡ self.old.file) }
     {
         match create(&self.rt, path) {
