@@ -1,12 +1,14 @@
 -- An object of the form is linkable.
-use Rattle.std.proofs.Common.{◌≡◌, ℕ, suc, ◌+◌, ◌-◌, ◌^◌, ◌<◌, ◌≤◌, ◌==◌, List, [], ◌∷◌, ◌++◌, length, take, drop, get_or, set, map, slice_get, slice_index_or, Bool, true, false, if◌then◌else◌, Option, Some, None, Result, Ok, Err, All, IfOk, refl, sym, ap, subst, ◌∙◌, arith, append-nil}
+use Rattle.std.proofs.Common.{◌≡◌, ℕ, suc, ◌+◌, ◌-◌, ◌^◌, ◌<◌, ◌≤◌, ◌==◌, List, [], ◌∷◌, ◌++◌, length, take, drop, get_or, set, map, slice_get, slice_index_or, Bool, true, false, if◌then◌else◌, Option, Some, None, Result, Ok, Err, All, IfErr, IfOk, refl, sym, ap, subst, ◌∙◌, arith, append-nil}
 use Rattle.std.specs.List.{list_all, position}
 use Rattle.std.specs.Option.{option_map_or}
 use Rattle.std.proofs.lemmas.Bool.{eqb-true, leb-true}
 use Rattle.std.proofs.lemmas.List.{drop_all, take_all}
 use Rattle.std.proofs.lemmas.List.Edits.{map_over_more}
 use Rattle.std.proofs.lemmas.Option.{get_or_from_slice_get, slice_get_read}
-use Rattle.mo_types.specs.Whole.{IsDefinedWithin, IsWhole, IsWholeSection}
+use Rattle.mo_types.specs.Refs.{refs_of}
+use Rattle.mo_types.specs.Whole.{is_dropped, IsDefinedWithin, IsWhole, IsWholeSection}
+use Rattle.mo_types.specs.declared.key.FileId.{FileId}
 use Rattle.mo_types.specs.declared.object.Object.{Object}
 use Rattle.mo_types.specs.declared.object.Section.{Section}
 use Rattle.mo_types.specs.declared.object.Symbol.{Symbol}
@@ -17,7 +19,9 @@ use Rattle.link_engine.specs.declared.form.TextObject.{TextObject}
 use Rattle.link_engine.specs.Branches.{is_branch}
 use Rattle.link_engine.specs.Form.{alone_at, counts, is_alone, is_text, linked_kind, linked_symbol, text_index}
 use Rattle.link_engine.specs.Object.{ArePlaced, IsLinkable, IsPlaced, IsText}
+use Rattle.link_engine.proofs.ApartLemmas.{relocs_apart}
 use Rattle.link_engine.proofs.BranchLemmas.{both}
+use Rattle.link_engine.proofs.DistinctLemmas.{true_not}
 
 -- the symbols before a place are linked
 pub record IsLinking (number : ℕ) (before : List Symbol) (at : ℕ) (now : List Symbol) : Type 0 where
@@ -93,10 +97,18 @@ alone_is_text sections (Some at) index text e is = by_test (is_alone sections at
         sym (ap (λ (found : Option Section). option_map_or is_text found false) there) ∙ code
     by_test false fails same = absurd cc
 
-pub linkable : (object : Object) (index : ℕ) (text : Section) (symbols : List Symbol) (made : Result TextObject ObjFault) → IsWhole object → index < length object.sections → Some index ≡ text_index object.sections → slice_get object.sections index ≡ Some text → symbols ≡ map (linked_symbol (index + 1)) object.symbols → IfOk made (λ given. given.text ≡ text) → IfOk made (λ given. given.symbols ≡ symbols) → IfOk made (λ given. list_all (is_branch text symbols) text.relocs ≡ true) → IfOk made IsLinkable
+text_is_linked : (section : Section) → is_text section ≡ true → is_dropped section ≡ false
+text_is_linked section is =
+    let last = both _ _ is in
+    let size = both _ _ last.0 in
+    let kind = both _ _ size.0 in
+    let segment = both _ _ kind.0 in
+    true_not (is_dropped section) (both _ _ segment.0).0
+
+pub linkable : (object : Object) (index : ℕ) (text : Section) (symbols : List Symbol) (made : Result TextObject ObjFault) → IsWhole object → ((file : FileId) → IfErr (refs_of object file) (λ fault. ⊥)) → index < length object.sections → Some index ≡ text_index object.sections → slice_get object.sections index ≡ Some text → symbols ≡ map (linked_symbol (index + 1)) object.symbols → IfOk made (λ given. given.text ≡ text) → IfOk made (λ given. given.symbols ≡ symbols) → IfOk made (λ given. list_all (is_branch text symbols) text.relocs ≡ true) → IfOk made IsLinkable
 unfolding text_index
-linkable object index text symbols (Err fault) whole within found is are texts symbol_lists branches = tt
-linkable object index text symbols (Ok given) whole within found is are texts symbol_lists branches =
+linkable object index text symbols (Err fault) whole refs within found is are texts symbol_lists branches = tt
+linkable object index text symbols (Ok given) whole refs within found is are texts symbol_lists branches =
     let there : (d : Section) → slice_index_or object.sections index d ≡ text = λ d. get_or_from_slice_get object.sections index text d is in
     let section : IsWholeSection text = subst IsWholeSection (there text) (whole.sections index text within) in
     let code : is_text text ≡ true = alone_is_text object.sections (position counts object.sections) index text (sym found) is in
@@ -105,6 +117,7 @@ linkable object index text symbols (Ok given) whole within found is are texts sy
       text = rw texts (text_bounds text section code);
       placed = rw (texts, symbol_lists) placed;
       branches = rw (texts, symbol_lists) branches;
+      apart = rw texts (relocs_apart object index text symbols refs within there (text_is_linked text code) branches);
     }
 
 pub ruleset forms = (linkable)

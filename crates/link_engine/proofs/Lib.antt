@@ -1,3 +1,4 @@
+pub mod ApartLemmas
 pub mod BranchLemmas
 pub mod DistinctLemmas
 pub mod FormLemmas

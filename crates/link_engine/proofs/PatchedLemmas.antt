@@ -11,8 +11,9 @@ use Rattle.mo_bytes.proofs.Numbers.{length-number_bytes, number-number_bytes}
 use Rattle.mo_types.specs.declared.object.RawReloc.{RawReloc}
 use Rattle.mo_types.specs.declared.object.Section.{Section}
 use Rattle.mo_types.specs.declared.object.Symbol.{Symbol}
+use Rattle.link_engine.specs.declared.form.TextObject.{TextObject}
 use Rattle.link_engine.specs.Branches.{is_branch}
-use Rattle.link_engine.specs.Object.{IsText}
+use Rattle.link_engine.specs.Object.{IsLinkable}
 use Rattle.link_engine.specs.Patching.{AreApart, AreBytes, ArePatched, IsApart, branch_at, contents_of, distance_of, patched, patched_by, with_word}
 use Rattle.link_engine.proofs.BranchLemmas.{both, branch_is}
 
@@ -136,13 +137,15 @@ all_words bytes [] are = tt
 all_words bytes (reloc ∷ relocs) are =
     (little_from-lt 0 4 (drop reloc.address bytes) (λ k. rw get_or-drop (are (reloc.address + k))), all_words bytes relocs are)
 
-pub each_is_patched : (text : Section) (symbols : List Symbol) → IsText text → AreBytes text.bytes → list_all (is_branch text symbols) text.relocs ≡ true → AreApart text.relocs → ArePatched text symbols (contents_of text symbols) text.bytes text.relocs
+pub each_is_patched : (object : TextObject) → IsLinkable object → AreBytes object.text.bytes → ArePatched object.text object.symbols (contents_of object.text object.symbols) object.text.bytes object.text.relocs
 unfolding contents_of
-each_is_patched text symbols is bytes e apart =
-    all_patched text symbols text.relocs text.bytes (in_section text symbols text.relocs (length text.bytes) is.contents e) apart
-    (all_words text.bytes text.relocs bytes)
+each_is_patched object is bytes =
+    all_patched object.text object.symbols object.text.relocs object.text.bytes
+    (in_section object.text object.symbols object.text.relocs (length object.text.bytes) is.text.contents is.branches) is.apart
+    (all_words object.text.bytes object.text.relocs bytes)
 
-pub all_others_stay : (text : Section) (symbols : List Symbol) (width place : ℕ) → IsText text → list_all (is_branch text symbols) text.relocs ≡ true → AllByRecursion (IsApart width place) text.relocs → number width (contents_of text symbols) place ≡ number width text.bytes place
+pub all_others_stay : (object : TextObject) (width place : ℕ) → IsLinkable object → AllByRecursion (IsApart width place) object.text.relocs → number width (contents_of object.text object.symbols) place ≡ number width object.text.bytes place
 unfolding contents_of
-all_others_stay text symbols width place is e apart =
-    others_stay text symbols text.relocs text.bytes width place (in_section text symbols text.relocs (length text.bytes) is.contents e) apart
+all_others_stay object width place is apart =
+    others_stay object.text object.symbols object.text.relocs object.text.bytes width place
+    (in_section object.text object.symbols object.text.relocs (length object.text.bytes) is.text.contents is.branches) apart

@@ -25,10 +25,10 @@ is_unwind section = bytes_eq section.segment (codes "__LD") && bytes_eq section.
 abbrev pub counts : Section → Bool
 counts section = not (is_dropped section) || is_unwind section
 
--- `__TEXT,__text` of type 0, of at most 2^26 bytes, aligned to at most 2^14
+-- a linked `__TEXT,__text` of type 0, of at most 2^26 bytes, aligned to at most 2^14
 abbrev pub is_text : Section → Bool
 is_text section =
-    bytes_eq section.name (codes "__text") && bytes_eq section.segment (codes "__TEXT") && section.kind == 0
+    not (is_dropped section) && bytes_eq section.name (codes "__text") && bytes_eq section.segment (codes "__TEXT") && section.kind == 0
     && nat_le section.size (2 ^ 26) && nat_le section.align 14
 
 -- the section at a place is code, and none after it counts

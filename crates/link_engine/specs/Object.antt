@@ -7,6 +7,7 @@ use Rattle.mo_types.specs.declared.object.SymbolKind.{SymbolKind}
 use Rattle.mo_types.specs.declared.object.SymbolKind.TheVariants.{Defined}
 use Rattle.link_engine.specs.declared.form.TextObject.{TextObject}
 use Rattle.link_engine.specs.Branches.{is_branch}
+use Rattle.link_engine.specs.Patching.{AreApart}
 
 -- the bounds of the section
 pub record IsText (text : Section) : Type 0 where
@@ -29,8 +30,9 @@ IsPlaced start size _ = Unit {0}
 abbrev pub ArePlaced : ℕ → ℕ → List Symbol → Type 0
 ArePlaced start size symbols = AllByRecursion (λ symbol. IsPlaced start size symbol.kind) symbols
 
--- the section's bounds, and definitions and branches within it
+-- the section's bounds, definitions and branches within it, and no two branches in one place
 pub record IsLinkable (object : TextObject) : Type 0 where
   pub text : IsText object.text
   pub placed : ArePlaced object.text.address object.text.size object.symbols
   pub branches : list_all (is_branch object.text object.symbols) object.text.relocs ≡ true
+  pub apart : AreApart object.text.relocs

@@ -1,10 +1,12 @@
 //! The form of the objects that are linked: one section of code, whose relocations are branches within it.
 
-ghost use Rattle.std.specs.Prelude.{◌≡◌, ◌+◌, ◌<◌, length, map, slice_get, Some, true, IfOk, IfSome};
+ghost use Rattle.std.specs.Prelude.{◌≡◌, ◌+◌, ◌<◌, length, map, slice_get, Some, true, IfErr, IfOk, IfSome};
 ghost use Rattle.std.specs.List.{list_all, list_any, position};
 ghost use Rattle.mo_obj.specs.Faults.{IsObjFault};
 ghost use Rattle.mo_types.specs.Gives.{Gives};
+ghost use Rattle.mo_types.specs.Refs.{refs_of};
 ghost use Rattle.mo_types.specs.Whole.{IsWhole};
+ghost use Rattle.mo_types.specs.declared.key.FileId.{FileId};
 ghost use Rattle.link_engine.specs.Branches.{is_branch};
 ghost use Rattle.link_engine.specs.Form as form;
 ghost use Rattle.link_engine.specs.Object.{IsLinkable};
@@ -42,7 +44,8 @@ fn counts(section: &Section) -> bool
 fn is_text(section: &Section) -> bool
     ensures { result ≡ form.is_text section.now }
 {
-    section.name.as_slice() == b"__text".as_slice()
+    !section.is_dropped()
+        && section.name.as_slice() == b"__text".as_slice()
         && section.segment.as_slice() == b"__TEXT".as_slice()
         && section.kind == 0
         && section.size <= 1 << 26
@@ -163,7 +166,8 @@ fn text_with(text: Section, symbols: SymbolList) -> Result<TextObject, ObjFault>
 /// The one section of code with the symbols of an object, where the object has the form.
 #[tactic(auto, using(crate::proofs::FormLemmas::forms), unfolding(crate::specs::Form::linked_of))]
 pub fn linked_of(alloc: Global, object: Object) -> Result<TextObject, ObjFault>
-    requires { IsWhole object }
+    requires whole { IsWhole object }
+    requires refs { (file : FileId) → IfErr (refs_of object file) (λ fault. ⊥) }
     ensures exact { Gives IsObjFault result (form.linked_of object) }
     ensures linkable { IfOk result IsLinkable }
 {

@@ -4,7 +4,9 @@ ghost use Rattle.std.specs.Prelude.{◌≡◌, IfErr, IfOk};
 ghost use Rattle.mo_obj.specs.Faults.{IsObjFault};
 ghost use Rattle.mo_types.specs.Answer.{IsDetermined};
 ghost use Rattle.mo_types.specs.Gives.{Gives};
+ghost use Rattle.mo_types.specs.Refs.{refs_of};
 ghost use Rattle.mo_types.specs.Whole.{IsWhole};
+ghost use Rattle.mo_types.specs.declared.key.FileId.{FileId};
 ghost use Rattle.link_engine.specs.Object.{IsLinkable};
 ghost use Rattle.link_engine.specs.Reading as reading;
 ghost use Rattle.link_engine.specs.Steps.{IsRefusal};
@@ -20,6 +22,7 @@ use std::alloc::Global;
 fn file_object(alloc: Global, bytes: &[u8]) -> Result<Object, ObjFault>
     ensures exact { Gives IsObjFault result (reading.file_object bytes.now) }
     ensures whole { IfOk result IsWhole }
+    ensures refs { IfOk result (λ object. (file : FileId) → IfErr (refs_of object file) (λ fault. ⊥)) }
 {
     if bytes.len() >= 1 << 30 {
         return Err(ObjFault::Limit(Which::FileBytes));
