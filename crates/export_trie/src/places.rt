@@ -1,4 +1,4 @@
-ghost use Rattle.std.specs.Prelude.{◌≡◌, ◌+◌, ◌≤◌, ◌<◌, ◌^◌, ℕ, All, length, IfOk, IfSome, slice_index};
+ghost use Rattle.std.specs.Prelude.{◌≡◌, ◌+◌, ◌≤◌, ◌<◌, ◌^◌, ℕ, All, length, IfOk, IfSome, IfNone, slice_index};
 ghost use Rattle.std.specs.List.{AllByRecursion};
 ghost use Rattle.std.specs.Option.{option_copied};
 ghost use Rattle.export_trie.specs.Trie.{data_of};
@@ -35,7 +35,8 @@ fn info_len(export: Option<&ExportAddress>) -> usize
 fn children_len(nodes: &[Node], places: &[usize], above: usize, row: &[usize]) -> Option<usize>
     requires long { length places.now ≡ length nodes.now }
     requires below { AllByRecursion (IsBelow nodes.now above) row.now }
-    ensures { IfSome result (λ bytes. bytes ≡ children_bytes nodes.now places.now above row.now) }
+    ensures exact { IfSome result (λ bytes. bytes ≡ children_bytes nodes.now places.now above row.now) }
+    ensures none { IfNone result (2 ^ 64 ≤ children_bytes nodes.now places.now above row.now) }
 {
     let mut size = 0usize;
     for child in row {
@@ -46,6 +47,7 @@ fn children_len(nodes: &[Node], places: &[usize], above: usize, row: &[usize]) -
     Some(size)
 }
 
+// The bytes of a node, or `None` where they are too many to count.
 #[tactic(auto, unfolding(crate::specs::Sizes::node_len))]
 fn node_len(
     exports: &[&ExportAddress],
@@ -56,7 +58,8 @@ fn node_len(
 ) -> Option<usize>
     requires long { length places.now ≡ length nodes.now }
     requires below { AllByRecursion (IsBelow nodes.now node.len) row.now }
-    ensures { IfSome result (λ bytes. bytes ≡ node_bytes (held exports.now) nodes.now places.now node row.now) }
+    ensures exact { IfSome result (λ bytes. bytes ≡ node_bytes (held exports.now) nodes.now places.now node row.now) }
+    ensures none { IfNone result (2 ^ 64 ≤ node_bytes (held exports.now) nodes.now places.now node row.now) }
 {
     let info = info_len(export_of(exports, node));
     let below = children_len(nodes, places, node.len, row)?;

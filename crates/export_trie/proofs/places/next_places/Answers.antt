@@ -15,7 +15,7 @@ node_len-requires-clause-below c =
 pub loop-at-preserved : goal.loop-at-preserved
 loop-at-preserved c =
     let row = row_is c.args.rows.now c.loop-at.at c.index-rows-at.result c.as_slice.result.now (omega (arith, c.requires.rows)) c.index-rows-at.is c.as_slice.ensures.value in
-    let size = c.in-Some.ensures ∙ ap (node_len (held c.args.exports.now) c.args.nodes.now c.args.places.now (get_or c.args.nodes.now c.loop-at.at (node_at 0 0))) row in
+    let size = c.in-Some.ensures.exact ∙ ap (node_len (held c.args.exports.now) c.args.nodes.now c.args.places.now (get_or c.args.nodes.now c.loop-at.at (node_at 0 0))) row in
     rw c.in_ok-push.ensures.items (record {
       exact = starts_more (held c.args.exports.now) c.args.nodes.now c.args.places.now (rows_of c.args.rows.now) c.loop-at.next.items c.loop-at.at c.loop-at.place c.in-Some.size c.in-Some-checked_add.end (node_at 0 0)
           c.loop-at-test.true (length-rows_of c.args.rows.now ∙ c.requires.rows) c.loop-at.invariant.exact size c.in-Some-checked_add.ensures.1;
