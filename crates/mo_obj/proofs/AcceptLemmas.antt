@@ -1,5 +1,5 @@
 -- An object that is accepted is whole, and its references can be read.
-use Rattle.std.proofs.Common.{tests, ◌≡◌, ℕ, ◌-◌, ◌%◌, ◌^◌, ◌<◌, ◌≤◌, ◌==◌, List, length, Bool, true, false, not, if◌then◌else◌, Option, Some, None, Result, Ok, Err, All, IfErr, IfSome, IsTrue, slice_get, slice_index, refl, sym, ap, subst, ◌∙◌, arith}
+use Rattle.std.proofs.Common.{tests, ◌≡◌, ℕ, ◌-◌, ◌%◌, ◌^◌, ◌<◌, ◌≤◌, ◌==◌, List, length, Bool, true, false, not, if◌then◌else◌, Option, Some, None, Ok, All, IfErr, IfSome, IsTrue, slice_get, slice_index, refl, sym, ap, subst, ◌∙◌, arith}
 use Rattle.std.proofs.lemmas.Option.{slice_get-get_or}
 use Rattle.std.specs.List.{list_any}
 use Rattle.std.specs.Option.{option_map_or}
@@ -11,15 +11,12 @@ use Rattle.mo_types.specs.declared.key.FileId.{FileId}
 use Rattle.mo_types.specs.declared.object.Object.{Object}
 use Rattle.mo_types.specs.declared.object.Section.{Section}
 use Rattle.mo_types.specs.declared.object.Symbol.{Symbol}
-use Rattle.mo_types.specs.declared.reference.Ref.{Ref}
-use Rattle.mo_types.specs.declared.reference_fault.RefFault.{RefFault}
-use Rattle.mo_types.specs.declared.reference_fault.RefFault.TheVariants.{BadPair, BadShape, BadPlace, BadTarget, Unsupported, OutOfMemory}
 use Rattle.mo_obj.specs.Each.{Each}
 use Rattle.mo_obj.specs.Features.{first_feature, or_else, or_that, any_kept, any_overaligned, has_other_type, is_objc, is_odd_code, has_odd_segment, is_text_zerofill, is_external_absolute, is_unwind}
 use Rattle.mo_obj.specs.Relocations.{relocations_of}
 use Rattle.mo_obj.specs.Sections.{IsRoomy, has_broken_literals}
 use Rattle.mo_obj.specs.Symbols.{IsInPlace}
-use Rattle.mo_obj.proofs.RelocationLemmas.{told, told_of_refs}
+use Rattle.mo_obj.proofs.RelocationLemmas.{read_where_nothing}
 
 past_that : (relocs others : Option Feature) → or_that relocs others ≡ None → relocs ≡ None
 past_that None others none = refl
@@ -43,18 +40,9 @@ no_reloc_feature object foreign relocs none =
     past_all (any_kept has_other_type object.sections) (any_kept is_objc object.sections) (any_overaligned object) (any_kept is_odd_code object.sections) (any_kept has_odd_segment object.sections) (any_kept is_text_zerofill object.sections) foreign (list_any is_external_absolute object.symbols) relocs
     (or_else (list_any is_unwind object.sections) feature.Later None) none
 
-read_if_told : (answer : Result (List Ref) RefFault) → told answer ≡ Ok None → IfErr answer (λ fault. ⊥)
-read_if_told (Ok refs) e = tt
-read_if_told (Err (BadPair place)) e = cc
-read_if_told (Err (BadShape place)) e = cc
-read_if_told (Err (BadPlace place)) e = cc
-read_if_told (Err (BadTarget place)) e = cc
-read_if_told (Err (Unsupported f)) e = cc
-read_if_told (Err OutOfMemory) e = cc
-
 pub references_read : (object : Object) (foreign : Bool) (relocs : Option Feature) → relocations_of object ≡ Ok relocs → None ≡ first_feature object foreign relocs → (file : FileId) → IfErr (refs_of object file) (λ fault. ⊥)
 references_read object foreign relocs keeps none file =
-    read_if_told (refs_of object file) (told_of_refs object file ∙ keeps ∙ ap Ok (no_reloc_feature object foreign relocs (sym none)))
+    read_where_nothing object file (keeps ∙ ap Ok (no_reloc_feature object foreign relocs (sym none)))
 
 pub ruleset accepts = (references_read)
 

@@ -8,7 +8,7 @@ ghost use Rattle.mo_obj.specs.Relocations as relocations;
 
 use atom_cut::cut;
 use mo_types::{Feature, FileId, ObjFault, Object, RefFault, Rule};
-use reloc_read::refs_of;
+use reloc_read::check;
 use std::alloc::Global;
 
 // No rule looks at which file it is.
@@ -24,9 +24,8 @@ pub fn relocations_of(alloc: Global, object: &Object) -> Result<Option<Feature>,
     ensures { Gives IsObjFault result (relocations.relocations_of object.now) }
 {
     let atoms = cut(alloc, object, FILE)?;
-    match refs_of(alloc, object, &atoms, FILE) {
-        Ok(_) => Ok(None),
-        Err(RefFault::Unsupported(feature)) => Ok(Some(feature)),
+    match check(alloc, object, &atoms, FILE) {
+        Ok(feature) => Ok(feature),
         Err(RefFault::BadPair { place }) => Err(ObjFault::Malformed {
             place,
             rule: Rule::Pair,
@@ -43,6 +42,7 @@ pub fn relocations_of(alloc: Global, object: &Object) -> Result<Option<Feature>,
             place,
             rule: Rule::Target,
         }),
+        Err(RefFault::Unsupported(feature)) => Ok(Some(feature)),
         Err(RefFault::OutOfMemory) => Err(ObjFault::OutOfMemory),
     }
 }

@@ -1,3 +1,4 @@
+pub mod CheckedLemmas
 pub mod ApartLemmas
 pub mod CountLemmas
 pub mod FaultLemmas

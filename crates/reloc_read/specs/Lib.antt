@@ -1,3 +1,4 @@
+pub mod Checked
 pub mod CutObject
 pub mod Faults
 pub mod Features

@@ -1,12 +1,14 @@
 //! The references of an object: what its relocations say, after the rules that they keep.
 #![tactic(auto)]
 
-ghost use Rattle.std.specs.Prelude.{◌≡◌};
+ghost use Rattle.std.specs.Prelude.{◌≡◌, IfOk};
 ghost use Rattle.mo_types.specs.Atoms.{atoms_of};
 ghost use Rattle.mo_types.specs.Gives.{Gives};
 ghost use Rattle.mo_types.specs.Refs.{IsRefFault};
 ghost use Rattle.mo_types.specs.Refs as refs;
 ghost use Rattle.mo_types.specs.Whole.{IsWhole};
+ghost use Rattle.reloc_read.specs.Checked.{checked};
+ghost use Rattle.reloc_read.specs.Faults.{IsClean};
 
 #[cfg(test)]
 mod clang_objects;
@@ -32,20 +34,20 @@ use mo_types::{AtomList, Feature, FileId, Object, RefFault, RefList};
 use refs::all_refs;
 use std::alloc::Global;
 
-/// The references of a whole object with its atoms, one for each row of the table of relocations, section by
-/// section, and in a section in the order of its relocations; or the first of the rules Pair, Shape, Place and
-/// Target that fails, at its least place, or the first feature that the linker doesn't have
-/// (`mach-o/arm64/reloc.h`).
-#[tactic(auto, unfolding(mo_types::specs::Refs::refs_of))]
-pub fn refs_of(
+/// What the relocations of a whole object with its atoms are: the first of the rules Pair, Shape, Place and Target
+/// that fails, at its least place; or else the first feature that the linker doesn't have, if there is one
+/// (`mach-o/arm64/reloc.h`). No references are made.
+#[tactic(auto, unfolding(crate::specs::Checked::checked))]
+pub fn check(
     alloc: Global,
     object: &Object,
     atoms: &AtomList,
     file: FileId,
-) -> Result<RefList, RefFault>
+) -> Result<Option<Feature>, RefFault>
     requires whole { IsWhole object.now }
     requires atoms { atoms.now ≡ atoms_of object.now file }
-    ensures { Gives IsRefFault result (refs.refs_of object.now file) }
+    ensures exact { Gives IsRefFault result (checked object.now) }
+    ensures clean { IfOk result (λ feature. IsClean object.now) }
 {
     let cut = CutObject {
         object,
@@ -66,10 +68,34 @@ pub fn refs_of(
         return Err(RefFault::BadTarget { place });
     }
     if has_absolute(object) {
-        return Err(RefFault::Unsupported(Feature::Absolute));
+        return Ok(Some(Feature::Absolute));
     }
     if has_authenticated(object) {
-        return Err(RefFault::Unsupported(Feature::PointerAuth));
+        return Ok(Some(Feature::PointerAuth));
     }
+    Ok(None)
+}
+
+/// The references of a whole object with its atoms, one for each row of the table of relocations, section by
+/// section, and in a section in the order of its relocations; or what `check` finds.
+#[tactic(auto, using(crate::proofs::CheckedLemmas::checks))]
+pub fn refs_of(
+    alloc: Global,
+    object: &Object,
+    atoms: &AtomList,
+    file: FileId,
+) -> Result<RefList, RefFault>
+    requires whole { IsWhole object.now }
+    requires atoms { atoms.now ≡ atoms_of object.now file }
+    ensures { Gives IsRefFault result (refs.refs_of object.now file) }
+{
+    if let Some(feature) = check(alloc, object, atoms, file)? {
+        return Err(RefFault::Unsupported(feature));
+    }
+    let cut = CutObject {
+        object,
+        atoms: atoms.as_slice(),
+        file,
+    };
     Ok(all_refs(alloc, &cut)?)
 }

@@ -118,6 +118,12 @@ fn check(
     let object = object(alloc, relocs)?;
     assert!(rt; object.is_whole());
     let atoms = cut(alloc, &object, FILE)?;
+    let unread = match wanted {
+        Ok(_) => Ok(None),
+        Err(RefFault::Unsupported(feature)) => Ok(Some(feature)),
+        Err(fault) => Err(fault),
+    };
+    assert_eq!(rt; super::check(alloc, &object, &atoms, FILE), unread);
     match (refs_of(alloc, &object, &atoms, FILE), wanted) {
         (Ok(found), Ok(wanted)) => assert!(rt; found.as_slice() == wanted),
         (Err(found), Err(wanted)) => assert_eq!(rt; found, wanted),
