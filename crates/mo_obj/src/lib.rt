@@ -20,6 +20,8 @@ mod names;
 mod relocations;
 mod sections;
 mod symbols;
+#[cfg(test)]
+mod tests;
 
 use accept::accept;
 use commands::{commands_of, frame_of};

@@ -1,0 +1,62 @@
+//! Relocations that pass the file's end, and as many sections as there may be.
+use super::read;
+use super::sample::{edit, expect_fault, fault_of};
+use mo_types::OutOfMemory;
+use std::alloc::Global;
+use std::test::Fail;
+
+// One function without relocations: the header of its section at 104, the function at 208, one symbol at 216,
+// its name at 232.
+fn one() -> &'static [u8] {
+    b"\
+\xcf\xfa\xed\xfe\x0c\x00\x00\x01\x00\x00\x00\x00\x01\x00\x00\x00\x02\x00\x00\x00\xb0\x00\x00\x00\
+\x00\x20\x00\x00\x00\x00\x00\x00\x19\x00\x00\x00\x98\x00\x00\x00\x00\x00\x00\x00\x00\x00\x00\x00\
+\x00\x00\x00\x00\x00\x00\x00\x00\x00\x00\x00\x00\x00\x00\x00\x00\x08\x00\x00\x00\x00\x00\x00\x00\
+\xd0\x00\x00\x00\x00\x00\x00\x00\x08\x00\x00\x00\x00\x00\x00\x00\x07\x00\x00\x00\x07\x00\x00\x00\
+\x01\x00\x00\x00\x00\x00\x00\x00\x5f\x5f\x74\x65\x78\x74\x00\x00\x00\x00\x00\x00\x00\x00\x00\x00\
+\x5f\x5f\x54\x45\x58\x54\x00\x00\x00\x00\x00\x00\x00\x00\x00\x00\x00\x00\x00\x00\x00\x00\x00\x00\
+\x08\x00\x00\x00\x00\x00\x00\x00\xd0\x00\x00\x00\x02\x00\x00\x00\x00\x00\x00\x00\x00\x00\x00\x00\
+\x00\x04\x00\x80\x00\x00\x00\x00\x00\x00\x00\x00\x00\x00\x00\x00\x02\x00\x00\x00\x18\x00\x00\x00\
+\xd8\x00\x00\x00\x01\x00\x00\x00\xe8\x00\x00\x00\x07\x00\x00\x00\x00\x00\x80\x52\xc0\x03\x5f\xd6\
+\x01\x00\x00\x00\x0f\x01\x00\x00\x00\x00\x00\x00\x00\x00\x00\x00\x00\x5f\x6d\x61\x69\x6e\x00"
+}
+
+// The object with a section that names 2 relocations at 0x1e0, and zeros up to a size.
+fn with_relocations(alloc: Global, size: usize) -> Result<Vec<u8>, OutOfMemory> {
+    let mut bytes = vec![in alloc; 0u8; size]?;
+    for (byte, new) in bytes.iter_mut().zip(one().iter()) {
+        *byte = *new;
+    }
+    edit(&mut bytes, "160=e0010000 164=02000000");
+    Ok(bytes)
+}
+
+#[test]
+fn relocations_outside(rt: HostRuntime) -> Result<(), Fail> {
+    let bytes = with_relocations(rt.alloc(), 0x1ef)?;
+    let fault = fault_of(rt.alloc(), &bytes, 0x1ef);
+    expect_fault(&rt, fault, "malformed at 104: relocations", "0x1ef bytes")?;
+    // a byte more: they lie inside, and no row of the table has r_type 0 and r_length 0
+    let bytes = with_relocations(rt.alloc(), 0x1f0)?;
+    let fault = fault_of(rt.alloc(), &bytes, 0x1f0);
+    expect_fault(&rt, fault, "malformed at 480: shape", "0x1f0 bytes")
+}
+
+// An object with sections that have no names and no contents, and no symbols: its size in bytes, and the numbers of
+// its sections and of the bytes of its one command.
+fn with_sections(alloc: Global, size: usize, numbers: &str) -> Result<Vec<u8>, OutOfMemory> {
+    let mut bytes = vec![in alloc; 0u8; size]?;
+    edit(&mut bytes, "0=cffaedfe0c00000100000000010000000100 32=19");
+    edit(&mut bytes, numbers);
+    Ok(bytes)
+}
+
+#[test]
+fn sections_are_255_at_most(rt: HostRuntime) -> Result<(), Fail> {
+    let bytes = with_sections(rt.alloc(), 20_504, "96=ff00 20=f84f 36=f84f")?;
+    let object = read(rt.alloc(), &bytes)?;
+    assert_eq!(rt; object.sections.len(), 255);
+    let bytes = with_sections(rt.alloc(), 20_584, "96=0001 20=4850 36=4850")?;
+    let fault = fault_of(rt.alloc(), &bytes, bytes.len());
+    expect_fault(&rt, fault, "malformed at 32: segment", "256 sections")
+}
