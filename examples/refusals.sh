@@ -42,6 +42,14 @@ try 3 'atomld: cannot write folder' -o folder main.o
 try 3 'atomld: cannot write none/image' -o none/image main.o
 [ ! -c /dev/full ] || try 3 'atomld: cannot write /dev/full' -o /dev/full main.o
 
+# limits: a file of 2^30 bytes, and an object of 2^24 symbols, whose table stands behind its header and command
+truncate -s 1G large.o
+try 1 'atomld: limit: filebytes' large.o
+truncate -s $((56 + (16 << 24) + 1)) symbols.o
+printf '%b' '\xcf\xfa\xed\xfe\x0c\0\0\x01\0\0\0\0\x01\0\0\0\x01\0\0\0\x18\0\0\0\0\x20\0\0\0\0\0\0' \
+    '\x02\0\0\0\x18\0\0\0\x38\0\0\0\0\0\0\x01\x38\0\0\x10\x01\0\0\0' | dd of=symbols.o conv=notrunc status=none
+try 1 'atomld: limit: symbols' symbols.o
+
 # where standard error is closed or full, the answer is the same
 status=0; "$program" none.o 2>&- || status=$?
 [ "$status" = 1 ] || { echo "closed standard error: status $status"; failures=$((failures + 1)); }
