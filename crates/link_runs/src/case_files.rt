@@ -1,4 +1,4 @@
-ghost use Rattle.std.specs.Prelude.{None};
+ghost use Rattle.std.specs.Prelude.{◌≡◌, None};
 
 use mo_outside::{FetchFault, Files};
 use std::alloc::Global;
@@ -17,7 +17,10 @@ pub struct CaseFiles<'a, R> {
 }
 
 impl<'a, R: rt::Files + AllocGlobal> CaseFiles<'a, R> {
-    pub fn new(rt: &'a R, folder: &'a str) -> CaseFiles<'a, R> {
+    /// The files of a folder; no fetch of them has failed.
+    pub fn new(rt: &'a R, folder: &'a str) -> CaseFiles<'a, R>
+        ensures faults { result.faults ≡ 0 }
+    {
         CaseFiles {
             rt,
             folder,
