@@ -140,6 +140,9 @@ pub struct Arg(String);
 /// The words of a command line after the program's name.
 pub type ArgList = Items<Arg>;
 
+/// Names or paths, in order.
+pub type NameList = Items<Bytes>;
+
 impl Model for Arg {
     ghost use Rattle.std.specs.Prelude.{List, ℕ, string_bytes};
 

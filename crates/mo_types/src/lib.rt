@@ -20,7 +20,7 @@ mod whole;
 
 pub use answer::{Refusal, Status};
 pub use atom::{Atom, AtomList};
-pub use bytes::{Arg, ArgList, Bytes};
+pub use bytes::{Arg, ArgList, Bytes, NameList};
 pub use cause::{Feature, RangeKind, Rule, UsageRule, Which};
 pub use items::Items;
 pub use key::{AtomKey, FileId};
