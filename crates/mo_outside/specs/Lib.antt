@@ -2,6 +2,7 @@ pub mod Buffers
 pub mod Calls
 pub mod Faults
 pub mod Files
+pub mod Gates
 pub mod Memory
 pub mod Room
 pub mod Tells

@@ -1,12 +1,13 @@
 ghost use Rattle.std.specs.Prelude.{◌≢◌, AllPairs, IfOk};
 
 use crate::{
-    CallList, Diag, Failed, FetchFault, FileList, Files, FreeGate, Gate, MemDiag, MemFiles, MemOut,
-    Out, SureDiag, SureFiles, SureOut,
+    CallList, Diag, Failed, FetchFault, FileList, Files, FreeGate, Gate, MeetGate, MemDiag,
+    MemFiles, MemOut, Out, SureDiag, SureFiles, SureOut,
 };
 use mo_types::{Bytes, Items, OutOfMemory};
 use std::alloc::Global;
 use std::test::Fail;
+use std::thread::join;
 
 fn one_call(alloc: Global, number: u64) -> Result<CallList, OutOfMemory> {
     let mut calls = Items::new(alloc);
@@ -139,4 +140,18 @@ fn messages_are_told(rt: HostRuntime) -> Result<(), Fail> {
         assert_eq!(rt; diag.lines(), lines.map(|text| text.as_bytes()));
     }
     Ok(())
+}
+
+#[test]
+fn two_workers_meet(rt: HostRuntime) {
+    let short = MeetGate::new(10);
+    for worker in [0, 1, 0] {
+        short.pass(worker);
+        assert!(rt; !short.met());
+    }
+    let gate = MeetGate::new(1_000_000_000);
+    gate.pass(2);
+    join(&rt, || gate.pass(0), || gate.pass(1));
+    gate.pass(0);
+    assert!(rt; gate.met());
 }
