@@ -9,3 +9,5 @@ pub mod RelocationRules
 pub mod Rows
 pub mod Scan
 pub mod Whole
+pub mod Goals
+pub mod GoalOrder
