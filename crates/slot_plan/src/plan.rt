@@ -1,0 +1,88 @@
+ghost use Rattle.std.specs.Prelude.{◌≡◌, Contains, IfOk};
+ghost use Rattle.std.specs.List.Sorted.{IsStrictlySortedBy};
+ghost use Rattle.mo_types.specs.Goals.{compare_goals};
+ghost use Rattle.mo_types.specs.declared.goal.Goal.{Goal};
+ghost use Rattle.slot_plan.specs.Slots.{AreSlots, needed, in_got, in_stubs, in_tlv};
+ghost use Rattle.slot_plan.specs.inner.Held.{held, serves};
+
+use crate::list::{SlotList, Slots};
+use crate::need::{Need, NeedList, Way};
+use mo_types::{Goal, OutOfMemory};
+use std::alloc::Global;
+
+/// The slots that some needs ask for: in each list each goal that is needed so once, and no other.
+pub fn slots(alloc: Global, needs: &NeedList) -> Result<Slots, OutOfMemory>
+    ensures got { IfOk result (λ slots. AreSlots (needed in_got needs.now) slots.got) }
+    ensures stubs { IfOk result (λ slots. AreSlots (needed in_stubs needs.now) slots.stubs) }
+    ensures tlv { IfOk result (λ slots. AreSlots (needed in_tlv needs.now) slots.tlv) }
+{
+    let needs = needs.as_slice();
+    Ok(Slots {
+        got: slots_of(alloc, needs, Table::Got)?,
+        stubs: slots_of(alloc, needs, Table::Stubs)?,
+        tlv: slots_of(alloc, needs, Table::Tlv)?,
+    })
+}
+
+// The sections of slots.
+#[derive(Clone, Copy)]
+pub(crate) enum Table {
+    Got,
+    Stubs,
+    Tlv,
+}
+
+impl Table {
+    // Whether a goal that is needed so has a slot in it. A stub loads its goal from the global offset table.
+    fn serves(self, way: Way) -> bool
+        ensures { result ≡ serves self way }
+    {
+        match (self, way) {
+            (Table::Got, Way::Got | Way::Stub) => true,
+            (Table::Stubs, Way::Stub) => true,
+            (Table::Tlv, Way::Tlv) => true,
+            _ => false,
+        }
+    }
+}
+
+// The slots of one section.
+fn slots_of(alloc: Global, needs: &[Need], table: Table) -> Result<SlotList, OutOfMemory>
+    ensures { IfOk result (AreSlots (needed (serves table) needs.now)) }
+{
+    let mut goals = served(alloc, needs, table)?;
+    put_in_order(&mut goals);
+    Ok(SlotList::from_sorted(copies(alloc, goals.as_slice())?))
+}
+
+// The goals that have a slot in a section, as often as they are needed.
+fn served(alloc: Global, needs: &[Need], table: Table) -> Result<Vec<&Goal>, OutOfMemory>
+    ensures { IfOk result (λ goals. held goals.items ≡ needed (serves table) needs.now) }
+{
+    let mut goals = Vec::new(alloc);
+    for need in needs {
+        if table.serves(need.way) {
+            goals.push(&need.goal)?;
+        }
+    }
+    Ok(goals)
+}
+
+// Sorts goals, and leaves each once.
+fn put_in_order(goals: &mut Vec<&Goal>)
+    ensures { AreSlots (held goals.old.items) (held goals.new.items) }
+{
+    goals.sort_unstable();
+    goals.dedup();
+}
+
+// Copies of goals.
+fn copies(alloc: Global, goals: &[&Goal]) -> Result<Vec<Goal>, OutOfMemory>
+    ensures { IfOk result (λ copies. copies.items ≡ held goals.now) }
+{
+    let mut copies = Vec::with_capacity(alloc, goals.len())?;
+    for goal in goals {
+        copies.push((*goal).clone()?)?;
+    }
+    Ok(copies)
+}
