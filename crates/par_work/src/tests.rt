@@ -1,0 +1,141 @@
+//! Shares that were worked out by hand, draws, and jobs whose pieces and order are known.
+ghost use Rattle.std.specs.Prelude.{◌≡◌, ◌≤◌, ◌<◌, ◌^◌, ◌*◌, ℕ, All, length, IfOk};
+
+use crate::{Claims, Task, fan, share};
+use mo_outside::{FreeGate, MeetGate};
+use mo_types::OutOfMemory;
+use std::alloc::Global;
+use std::sync::atomic::AtomicBool;
+use std::sync::atomic::Ordering::SeqCst;
+use std::test::Fail;
+use std::thread::{Threads, yield_now};
+
+// Its seats count the jobs that they ran, and each job gives three times its number.
+struct Triples;
+
+impl Task for Triples {
+    type Seat = u32;
+
+    type Piece = u64;
+
+    ghost jobs = { λ _. 2 ^ 32 };
+
+    ghost fits = { λ _ _. Unit {0} };
+
+    ghost ran = { λ _ _ job piece _. piece ≡ 3 * job };
+
+    fn run(&self, seat: &mut u32, job: u32) -> u64 {
+        *seat = seat.wrapping_add(1);
+        3 * u64::from(job)
+    }
+}
+
+// Job 0 tells whether it saw that job 1 ran, and the others that they ran.
+#[derive(Drop)]
+struct Waits {
+    has_run: AtomicBool,
+}
+
+impl Task for Waits {
+    type Seat = u32;
+
+    type Piece = bool;
+
+    ghost jobs = { λ _. 2 ^ 32 };
+
+    ghost fits = { λ _ _. Unit {0} };
+
+    ghost ran = { λ _ _ _ _ _. Unit {0} };
+
+    fn run(&self, _seat: &mut u32, job: u32) -> bool {
+        match job {
+            0 => self.sees_job_1(),
+            1 => {
+                self.has_run.store(true, SeqCst);
+                true
+            }
+            _ => true,
+        }
+    }
+}
+
+impl Waits {
+    fn sees_job_1(&self) -> bool {
+        for look in 0..1_000_000_000u32 {
+            if self.has_run.load(SeqCst) {
+                return true;
+            }
+            if look % 64 == 63 {
+                yield_now();
+            }
+        }
+        false
+    }
+}
+
+// Whether so many workers give each piece in its place, and count as many jobs as there are.
+fn gives_triples<R: Threads + Sync>(
+    rt: &R,
+    alloc: Global,
+    workers: usize,
+    jobs: u32,
+) -> Result<bool, OutOfMemory>
+    requires { (0 < workers) × (workers < 1000) }
+{
+    let seats = vec![in alloc; 0u32; workers]?;
+    let (ends, pieces) = fan(rt, alloc, &FreeGate, seats, &Triples, jobs)?;
+    let mut counted = 0u64;
+    for end in &ends {
+        counted = counted.wrapping_add(u64::from(*end));
+    }
+    let mut is_in_order = pieces.len() == jobs as usize;
+    for (job, piece) in pieces.iter().enumerate() {
+        is_in_order = is_in_order && *piece / 3 == job as u64 && *piece % 3 == 0;
+    }
+    Ok(is_in_order && counted == u64::from(jobs) && ends.len() == workers)
+}
+
+#[test]
+fn shares_and_the_gate(rt: HostRuntime) -> Result<(), Fail> {
+    for (i, from, to) in [(0, 0, 2), (1, 2, 4), (2, 4, 7)] {
+        assert!(rt; share(7, 3, i) == (from, to));
+    }
+    let gate = MeetGate::new(1_000_000_000);
+    let seats = vec![in rt.alloc(); 0u32; 2]?;
+    let (_, pieces) = fan(&rt, rt.alloc(), &gate, seats, &Triples, 2)?;
+    assert!(rt; gate.met());
+    assert!(rt; pieces.as_slice() == [0, 3].as_slice());
+    Ok(())
+}
+
+#[test]
+fn claim_passes_a_held_job(rt: HostRuntime) -> Result<(), Fail> {
+    let task = Waits {
+        has_run: AtomicBool::new(false),
+    };
+    let seats = vec![in rt.alloc(); 0u32; 2]?;
+    let (_, pieces) = fan(&rt, rt.alloc(), &FreeGate, seats, &task, 4)?;
+    assert!(rt; pieces.as_slice() == [true; 4].as_slice());
+    Ok(())
+}
+
+#[test]
+fn three_draws_of_two_drawers(rt: HostRuntime) -> Result<(), Fail> {
+    let (claims, mut drawer) = Claims::begin(rt.alloc(), 5)?;
+    let first = claims.draw(&mut drawer);
+    let mut other = claims.split(&mut drawer, 2);
+    let second = claims.draw(&mut other);
+    let third = claims.draw(&mut other);
+    claims.join(&mut drawer, other);
+    assert!(rt; claims.close(drawer) == 3);
+    assert!(rt; [first, second, third] == [0, 1, 2]);
+    Ok(())
+}
+
+#[test]
+fn seats_count_their_jobs(rt: HostRuntime) -> Result<(), Fail> {
+    for (workers, jobs) in [(1, 0), (3, 1), (1, 5000), (2, 100_000), (7, 300_001)] {
+        assert!(rt; gives_triples(&rt, rt.alloc(), workers, jobs)?);
+    }
+    Ok(())
+}
