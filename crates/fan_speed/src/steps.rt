@@ -23,9 +23,7 @@ impl Task for Steps {
         *seat = seat.wrapping_add(1);
         let mut state = u64::from(job);
         for _ in 0..self.steps {
-            state = state
-                .wrapping_mul(6364136223846793005)
-                .wrapping_add(1442695040888963407);
+            state = (state ^ (state >> 29)).wrapping_mul(6364136223846793005) ^ 1;
         }
         state
     }
