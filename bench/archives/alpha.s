@@ -1,0 +1,4 @@
+.globl _alpha
+_alpha: ret
+.globl _both
+_both: ret

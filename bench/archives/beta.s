@@ -1,0 +1,4 @@
+.globl _beta
+_beta: ret
+.globl _both
+_both: ret

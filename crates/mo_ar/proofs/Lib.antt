@@ -1,0 +1,10 @@
+pub mod ChainLemmas
+pub mod ContentsLemmas
+pub mod HashLemmas
+pub mod IndexLemmas
+pub mod LawLemmas
+pub mod LeastLemmas
+pub mod PlaceLemmas
+pub mod SliceLemmas
+pub mod StringLemmas
+pub mod TextLemmas

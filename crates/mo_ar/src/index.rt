@@ -1,0 +1,173 @@
+//! The index of offers by name.
+
+ghost use Rattle.std.specs.Prelude.{◌≡◌, ◌+◌, ◌*◌, ◌%◌, ◌^◌, ◌<◌, ◌≤◌, length, map, drop, slice_index, All, IfOk, Some};
+ghost use Rattle.std.specs.Str.{bytes_eq};
+ghost use Rattle.mo_ar.specs.Index as index;
+ghost use Rattle.mo_ar.specs.Index.{BeginsAt, IsChained, IsIndex, IsIndexOf, offers_of};
+ghost use Rattle.mo_ar.specs.Offers as offers;
+ghost use Rattle.mo_ar.specs.Offers.{IsEntry, first_offer, offer_of};
+ghost use Rattle.mo_ar.specs.Text.{part};
+
+use crate::offers::Entry;
+use mo_types::OutOfMemory;
+use std::alloc::Global;
+
+#[tactic(auto, using(crate::proofs::HashLemmas::hashes), unfolding(crate::specs::Index::hash_from))]
+fn hash(name: &[u8]) -> u64
+    ensures { result ≡ index.hash_from 0 name.now }
+{
+    let mut hash = 0;
+    for byte in name {
+        hash = (hash * 33 + u64::from(*byte)) % 0x1_0000_0000;
+    }
+    hash
+}
+
+/// The bucket of a name, of some buckets.
+#[tactic(auto, unfolding(crate::specs::Index::bucket))]
+pub fn bucket(name: &[u8], count: usize) -> usize
+    requires { 0 < count }
+    ensures exact { result ≡ index.bucket count name.now }
+    ensures within { result < count }
+{
+    hash(name) as usize % count
+}
+
+/// The name of an entry.
+pub fn name_of(strings: &[u8], entry: Entry) -> &[u8]
+    requires { IsEntry strings.now entry }
+    ensures { result.now ≡ part strings.now entry.at entry.size }
+{
+    &strings[entry.at as usize..][..entry.size as usize]
+}
+
+// Whether the offer at an index has a name.
+#[tactic(auto, using(crate::proofs::IndexLemmas::names))]
+fn is_name(strings: &[u8], entries: &[Entry], at: usize, name: &[u8]) -> bool
+    requires entries { All (IsEntry strings.now) entries.now }
+    requires index { at < length entries.now }
+    ensures { result ≡ bytes_eq (index.name_at (offers_of strings.now entries.now) at) name.now }
+{
+    name_of(strings, entries[at]) == name
+}
+
+// The least number of a member that the offers from an index on give a name, where the bucket of the name goes
+// on at that index.
+#[tactic(auto, using(crate::proofs::IndexLemmas::finds))]
+fn find(
+    strings: &[u8],
+    entries: &[Entry],
+    nexts: &[u32],
+    bests: &[u32],
+    name: &[u8],
+    count: usize,
+    from: usize,
+) -> Option<u32>
+    requires entries { All (IsEntry strings.now) entries.now }
+    requires chained { IsChained count (offers_of strings.now entries.now) from nexts.now bests.now }
+    requires begins { BeginsAt count (offers_of strings.now entries.now) name.now from }
+    ensures { result ≡ first_offer name.now (drop from (offers_of strings.now entries.now)) }
+{
+    let mut at = from;
+    while at < entries.len() {
+        if is_name(strings, entries, at, name) {
+            return Some(bests[at]);
+        }
+        at = nexts[at] as usize;
+    }
+    None
+}
+
+fn lesser(member: u32, other: Option<u32>) -> u32
+    ensures { result ≡ offers.lesser member other }
+{
+    match other {
+        Some(other) => member.min(other),
+        None => member,
+    }
+}
+
+// Puts the offer at an index in front of its bucket.
+#[tactic(auto, using(crate::proofs::IndexLemmas::puts))]
+fn put(
+    strings: &[u8],
+    entries: &[Entry],
+    heads: &mut [u32],
+    nexts: &mut [u32],
+    bests: &mut [u32],
+    at: usize,
+)
+    requires entries { All (IsEntry strings.now) entries.now }
+    requires place { at < length entries.now }
+    requires few { length entries.now < 2 ^ 32 }
+    requires index { IsIndex (length heads.old) (offers_of strings.now entries.now) (at + 1) heads.old nexts.old bests.old }
+    ensures { IsIndex (length heads.old) (offers_of strings.now entries.now) at heads.new nexts.new bests.new }
+{
+    let entry = entries[at];
+    let name = name_of(strings, entry);
+    let count = heads.len();
+    let b = bucket(name, count);
+    let head = heads[b];
+    let rest = find(strings, entries, nexts, bests, name, count, head as usize);
+    bests[at] = lesser(entry.member, rest);
+    nexts[at] = head;
+    heads[b] = at as u32;
+}
+
+/// Chains of offers whose names fall into one bucket.
+#[derive(Debug, Drop)]
+pub struct Index {
+    heads: Vec<u32>,
+    nexts: Vec<u32>,
+    bests: Vec<u32>,
+}
+
+/// The index of some offers.
+#[tactic(auto, using(crate::proofs::IndexLemmas::builds))]
+pub fn index_of(alloc: Global, strings: &[u8], entries: &[Entry]) -> Result<Index, OutOfMemory>
+    requires entries { All (IsEntry strings.now) entries.now }
+    requires few { length entries.now < 2 ^ 32 }
+    ensures { IfOk result (IsIndexOf (offers_of strings.now entries.now)) }
+{
+    let count = entries.len();
+    let mut heads = vec![in alloc; count as u32; count + 1]?;
+    let mut nexts = vec![in alloc; 0; count]?;
+    let mut bests = vec![in alloc; 0; count]?;
+    let mut at = count;
+    while at > 0 {
+        at -= 1;
+        put(
+            strings,
+            entries,
+            heads.as_mut_slice(),
+            nexts.as_mut_slice(),
+            bests.as_mut_slice(),
+            at,
+        );
+    }
+    Ok(Index {
+        heads,
+        nexts,
+        bests,
+    })
+}
+
+/// The least number of a member that is offered for a name.
+#[tactic(auto, using(crate::proofs::IndexLemmas::looks))]
+pub fn look_up(strings: &[u8], entries: &[Entry], index: &Index, name: &[u8]) -> Option<u32>
+    requires entries { All (IsEntry strings.now) entries.now }
+    requires index { IsIndexOf (offers_of strings.now entries.now) index.now }
+    ensures { result ≡ first_offer name.now (offers_of strings.now entries.now) }
+{
+    let heads = index.heads.as_slice();
+    let b = bucket(name, heads.len());
+    find(
+        strings,
+        entries,
+        index.nexts.as_slice(),
+        index.bests.as_slice(),
+        name,
+        heads.len(),
+        heads[b] as usize,
+    )
+}

@@ -1,0 +1,52 @@
+//! The members' numbers, by the places of their headers.
+
+ghost use Rattle.std.specs.Prelude.{◌≡◌, ◌+◌, ◌/◌, ◌<◌, ◌≤◌, length, IfOk, IfSome};
+ghost use Rattle.mo_ar.specs.Chain.{IsRising};
+ghost use Rattle.mo_ar.specs.Places as numbers;
+ghost use Rattle.mo_ar.specs.Places.{IsNumbered};
+
+use mo_types::OutOfMemory;
+use std::alloc::Global;
+
+// No two headers begin in as many bytes.
+const HEADER_SIZE: usize = 60;
+
+/// A table from places to numbers, for headers that stand apart in a file of this size.
+#[tactic(auto, using(crate::proofs::PlaceLemmas::fills))]
+pub fn numbered(alloc: Global, places: &[usize], size: usize) -> Result<Vec<u32>, OutOfMemory>
+    requires { IsRising size places.now }
+    ensures { IfOk result (λ cells. IsNumbered cells.items places.now) }
+{
+    let mut cells = vec![in alloc; 0; size / HEADER_SIZE + 1]?;
+    for (i, place) in places.iter().enumerate() {
+        let Ok(number) = u32::try_from(i + 1) else {
+            return Err(OutOfMemory);
+        };
+        cells[*place / HEADER_SIZE] = number;
+    }
+    Ok(cells)
+}
+
+// Whether the place with a number is this one.
+fn stands(places: &[usize], number: u32, at: usize) -> bool
+    ensures { result ≡ numbers.stands places.now number at }
+{
+    let index = number as usize;
+    0 < index && index <= places.len() && places[index - 1] == at
+}
+
+/// The number of the member whose header stands at a place.
+#[tactic(auto, using(crate::proofs::PlaceLemmas::finds))]
+pub fn number_of(cells: &[u32], places: &[usize], at: usize) -> Option<u32>
+    requires { IsNumbered cells.now places.now }
+    ensures { result ≡ numbers.number_of places.now at }
+{
+    let cell = at / HEADER_SIZE;
+    if cell >= cells.len() {
+        return None;
+    }
+    if !stands(places, cells[cell], at) {
+        return None;
+    }
+    Some(cells[cell])
+}

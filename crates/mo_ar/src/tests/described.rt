@@ -1,0 +1,81 @@
+//! An archive as one line of text, and small changes to bytes.
+use super::read;
+use crate::Archive;
+use mo_types::{ObjFault, OutOfMemory};
+use std::alloc::{AllocError, Global};
+
+fn put_number(out: &mut Vec<u8>, alloc: Global, number: u64) -> Result<(), AllocError> {
+    let text = format!(in alloc; "{number}")?;
+    out.extend_from_slice(text.as_bytes())
+}
+
+fn put_members(out: &mut Vec<u8>, alloc: Global, archive: &Archive) -> Result<(), OutOfMemory> {
+    for member in archive.members.as_slice() {
+        out.extend_from_slice(member.name.as_slice())?;
+        out.push(b'@')?;
+        put_number(out, alloc, member.from)?;
+        out.push(b'+')?;
+        put_number(out, alloc, member.size)?;
+        out.push(b' ')?;
+    }
+    Ok(())
+}
+
+fn put_offers(out: &mut Vec<u8>, alloc: Global, archive: &Archive) -> Result<(), OutOfMemory> {
+    for i in 0..archive.offers.len() {
+        let Some((name, member)) = archive.offers.get(i) else {
+            continue;
+        };
+        out.push(b' ')?;
+        out.extend_from_slice(name)?;
+        out.push(b'=')?;
+        put_number(out, alloc, u64::from(member))?;
+        out.push(b'/')?;
+        put_number(
+            out,
+            alloc,
+            u64::from(archive.offers.first_offer(name).unwrap_or(0)),
+        )?;
+    }
+    Ok(())
+}
+
+fn described(alloc: Global, archive: &Archive) -> Result<Vec<u8>, OutOfMemory> {
+    let mut out = Vec::new(alloc);
+    put_members(&mut out, alloc, archive)?;
+    out.push(b'|')?;
+    put_offers(&mut out, alloc, archive)?;
+    Ok(out)
+}
+
+/// What some bytes are read as: each member's name, place and size, and behind a bar each offer's name, its member
+/// and the first member that offers the name; or the message of the fault.
+pub fn outcome(alloc: Global, bytes: &[u8]) -> Result<Vec<u8>, OutOfMemory> {
+    match read(alloc, Vec::from_slice(alloc, bytes)?) {
+        Ok(archive) => described(alloc, &archive),
+        Err(fault) => told(alloc, fault),
+    }
+}
+
+fn told(alloc: Global, fault: ObjFault) -> Result<Vec<u8>, OutOfMemory> {
+    let text = format!(in alloc; "{fault}")?;
+    Ok(Vec::from_slice(alloc, text.as_bytes())?)
+}
+
+/// Writes bytes at their places, as `36=0c00 508=1c` says: two hexadecimal digits a byte. What passes the end
+/// is left out.
+pub fn edit(bytes: &mut [u8], edits: &str) {
+    for text in edits.split_whitespace() {
+        if let Some((place, digits)) = text.split_once('=') {
+            write_digits(bytes, place.parse().unwrap_or(usize::MAX), digits);
+        }
+    }
+}
+
+fn write_digits(bytes: &mut [u8], place: usize, digits: &str) {
+    for (i, digit) in digits.chars().enumerate() {
+        if let Some(byte) = bytes.get_mut(place.saturating_add(i / 2)) {
+            *byte = *byte << 4 | digit.to_digit(16).unwrap_or(0) as u8;
+        }
+    }
+}
