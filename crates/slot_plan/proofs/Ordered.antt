@@ -18,10 +18,10 @@ use Rattle.mo_types.proofs.Goals.{same_goal, same_goals}
 use Rattle.slot_plan.specs.declared.need.Need.{Need}
 use Rattle.slot_plan.specs.declared.need.Way.{Way}
 use Rattle.slot_plan.specs.Slots.{AreSlots, needed}
-use Rattle.std.proofs.lemmas.List.Elements.{filter_more}
-use Rattle.std.proofs.lemmas.List.{map-append}
-use Rattle.slot_plan.specs.inner.Held.{held}
-use Rattle.slot_plan.proofs.Rising.{In, in_from_Contains, Contains_from_in, in_map, from_map, rising_map, rising_apart, rising_same, sorted_from_rising}
+use Rattle.std.proofs.lemmas.List.Elements.{filter-append}
+use Rattle.std.proofs.lemmas.List.{map-append, take_more, take_all}
+use Rattle.slot_plan.specs.inner.Held.{held, held_needs, HasTheSame}
+use Rattle.slot_plan.proofs.Rising.{In, in_from_Contains, Contains_from_in, in_map, from_map, in_filter, from_filter, rising_map, rising_apart, rising_same, sorted_from_rising}
 
 abbrev pointed : Bor Goal → Goal
 pointed reference = reference.now
@@ -62,29 +62,114 @@ pub ruleset order_laws = (compare_goals_total, same_goal)
 
 -- ---- the needs that a section serves
 
--- what is needed of one need more
-more : (ways : Way → Bool) (needs : List Need) (i : ℕ) (need : Need) (b : Bool) → i < length needs → need ≡ get_or needs i need → ways need.way ≡ b → needed ways (take (i + 1) needs) ≡ needed ways (take i needs) ++ cond b (need.goal ∷ []) []
+needed-append : (ways : Way → Bool) (xs ys : List Need) → needed ways (xs ++ ys) ≡ needed ways xs ++ needed ways ys
 unfolding needed
-more ways needs i need b within is served =
-    let here : filter (λ (n : Need). ways n.way) (take (i + 1) needs) ≡ filter (λ (n : Need). ways n.way) (take i needs) ++ cond b (need ∷ []) [] =
-    filter_more (λ (n : Need). ways n.way) needs i need within ∙ (rw (← is, served) refl) in
-    ap (map (λ (n : Need). n.goal)) here ∙ (map-append (λ (n : Need). n.goal) (filter (λ (n : Need). ways n.way) (take i needs)) (cond b (need ∷ []) []) ∙ ap (λ (gs : List Goal). map (λ (n : Need). n.goal) (filter (λ (n : Need). ways n.way) (take i needs)) ++ gs) (one b))
-  where
-    one : (b : Bool) → map (λ (n : Need). n.goal) (cond b (need ∷ []) []) ≡ cond b (need.goal ∷ []) []
-    one true = refl
-    one false = refl
+needed-append ways xs ys = ap (map (λ (n : Need). n.goal)) (filter-append (λ (n : Need). ways n.way) xs ys) ∙ map-append (λ (n : Need). n.goal) (filter (λ (n : Need). ways n.way) xs) (filter (λ (n : Need). ways n.way) ys)
+
+one : (ways : Way → Bool) (need : Need) (b : Bool) → ways need.way ≡ b → needed ways (need ∷ []) ≡ cond b (need.goal ∷ []) []
+unfolding needed
+one ways need true served = rw served refl
+one ways need false served = rw served refl
+
+-- what is needed of one need more
+more : (ways : Way → Bool) (needs : List (Bor Need)) (i : ℕ) (d : Bor Need) (b : Bool) → i < length needs → ways (get_or needs i d).now.way ≡ b → needed ways (held_needs (take (i + 1) needs)) ≡ needed ways (held_needs (take i needs)) ++ cond b ((get_or needs i d).now.goal ∷ []) []
+more ways needs i d b within served =
+    ap (λ (rs : List (Bor Need)). needed ways (held_needs rs)) (take_more needs i d within)
+    ∙ (ap (needed ways) (map-append (λ (r : Bor Need). r.now) (take i needs) (get_or needs i d ∷ []))
+    ∙ (needed-append ways (held_needs (take i needs)) ((get_or needs i d).now ∷ [])
+    ∙ ap (λ (gs : List Goal). needed ways (held_needs (take i needs)) ++ gs) (one ways (get_or needs i d).now b served)))
 
 pub starts : (ways : Way → Bool) (front : List (Bor Goal)) → front ≡ [] → held front ≡ needed ways []
 unfolding needed
 starts ways front e = ap held e
 
-pub serves_more : (ways : Way → Bool) (needs : List Need) (i : ℕ) (need : Need) (front new : List (Bor Goal)) (r : Bor Goal) → i < length needs → need ≡ get_or needs i need → ways need.way ≡ true → r.now ≡ need.goal → new ≡ front ++ r ∷ [] → held front ≡ needed ways (take i needs) → held new ≡ needed ways (take (i + 1) needs)
-serves_more ways needs i need front new r within is served at grown so_far =
-    ap held grown ∙ (map-append pointed front (r ∷ []) ∙ (ap (λ (gs : List Goal). gs ++ r.now ∷ []) so_far ∙ (ap (λ (g : Goal). needed ways (take i needs) ++ g ∷ []) at ∙ sym (more ways needs i need true within is served))))
+pub serves_more : (ways : Way → Bool) (needs : List (Bor Need)) (i : ℕ) (d : Bor Need) (front new : List (Bor Goal)) (r : Bor Goal) → i < length needs → ways (get_or needs i d).now.way ≡ true → r.now ≡ (get_or needs i d).now.goal → new ≡ front ++ r ∷ [] → held front ≡ needed ways (held_needs (take i needs)) → held new ≡ needed ways (held_needs (take (i + 1) needs))
+serves_more ways needs i d front new r within served at grown so_far =
+    ap held grown ∙ (map-append pointed front (r ∷ []) ∙ (ap (λ (gs : List Goal). gs ++ r.now ∷ []) so_far ∙ (ap (λ (g : Goal). needed ways (held_needs (take i needs)) ++ g ∷ []) at ∙ sym (more ways needs i d true within served))))
 
-pub serves_less : (ways : Way → Bool) (needs : List Need) (i : ℕ) (need : Need) (front : List (Bor Goal)) → i < length needs → need ≡ get_or needs i need → ways need.way ≡ false → held front ≡ needed ways (take i needs) → held front ≡ needed ways (take (i + 1) needs)
-serves_less ways needs i need front within is served so_far =
-    so_far ∙ (sym (append-nil (needed ways (take i needs))) ∙ sym (more ways needs i need false within is served))
+pub serves_less : (ways : Way → Bool) (needs : List (Bor Need)) (i : ℕ) (d : Bor Need) (front : List (Bor Goal)) → i < length needs → ways (get_or needs i d).now.way ≡ false → held front ≡ needed ways (held_needs (take i needs)) → held front ≡ needed ways (held_needs (take (i + 1) needs))
+serves_less ways needs i d front within served so_far =
+    so_far ∙ (sym (append-nil (needed ways (held_needs (take i needs)))) ∙ sym (more ways needs i d false within served))
+
+-- ---- the needs without repeats
+
+in_left : {X : Type 0} (x : X) (xs ys : List X) → In x xs → In x (xs ++ ys)
+in_left x [] ys h = absurd h
+in_left x (y ∷ xs) ys (inl e) = inl e
+in_left x (y ∷ xs) ys (inr h) = inr (in_left x xs ys h)
+
+in_last : {X : Type 0} (x : X) (xs : List X) → In x (xs ++ x ∷ [])
+in_last x [] = inl refl
+in_last x (y ∷ xs) = inr (in_last x xs)
+
+from_last : {X : Type 0} (x y : X) (xs : List X) → In x (xs ++ y ∷ []) → In x xs ⊎ (y ≡ x)
+from_last x y [] (inl e) = inr e
+from_last x y [] (inr h) = absurd h
+from_last x y (z ∷ xs) (inl e) = inl (inl e)
+from_last x y (z ∷ xs) (inr h) = elim (from_last x y xs h) [ inl there ↦ inl (inr there) | inr e ↦ inr e ]
+
+pub same_starts : (few : List (Bor Need)) → few ≡ [] → HasTheSame [] (held_needs few)
+same_starts few e = rw e (record { all = λ need h. h; only = λ need h. h })
+
+joined : (front few : List Need) (new : Need) → HasTheSame front few → HasTheSame (front ++ new ∷ []) (few ++ new ∷ [])
+joined front few new same = record {
+  all = λ need h. Contains_from_in (few ++ new ∷ []) need (moved need front few same.all (from_last need new front (in_from_Contains (front ++ new ∷ []) need h)));
+  only = λ need h. Contains_from_in (front ++ new ∷ []) need (moved need few front same.only (from_last need new few (in_from_Contains (few ++ new ∷ []) need h)));
+}
+  where
+    moved : (need : Need) (xs ys : List Need) → ((n : Need) → Contains xs n → Contains ys n) → In need xs ⊎ (new ≡ need) → In need (ys ++ new ∷ [])
+    moved need xs ys there (inl h) = in_left need ys (new ∷ []) (in_from_Contains ys need (there need (Contains_from_in xs need h)))
+    moved need xs ys there (inr e) = subst (λ (n : Need). In n (ys ++ new ∷ [])) e (in_last new ys)
+
+met : (front few : List Need) (new : Need) → HasTheSame front few → Contains few new → HasTheSame (front ++ new ∷ []) few
+met front few new same there = record {
+  all = λ need h. known need (from_last need new front (in_from_Contains (front ++ new ∷ []) need h));
+  only = λ need h. Contains_from_in (front ++ new ∷ []) need (in_left need front (new ∷ []) (in_from_Contains front need (same.only need h)));
+}
+  where
+    known : (need : Need) → In need front ⊎ (new ≡ need) → Contains few need
+    known need (inl h) = same.all need (Contains_from_in front need h)
+    known need (inr e) = subst (Contains few) e there
+
+pub same_pushed : (needs : List Need) (i : ℕ) (need : Need) (few new : List (Bor Need)) (r : Bor Need) → HasTheSame (take i needs) (held_needs few) → i < length needs → need ≡ get_or needs i need → r.now ≡ need → new ≡ few ++ r ∷ [] → HasTheSame (take (i + 1) needs) (held_needs new)
+same_pushed needs i need few new r same within is at grown =
+    let shown : held_needs new ≡ held_needs few ++ need ∷ [] = ap held_needs grown ∙ (map-append (λ (r : Bor Need). r.now) few (r ∷ []) ∙ ap (λ (n : Need). held_needs few ++ n ∷ []) at) in
+    let taken : take (i + 1) needs ≡ take i needs ++ need ∷ [] = take_more needs i need within ∙ ap (λ (n : Need). take i needs ++ n ∷ []) (sym is) in
+    rw (shown, taken) (joined (take i needs) (held_needs few) need same)
+
+pub same_there : (needs : List Need) (i : ℕ) (need : Need) (few : List (Bor Need)) → HasTheSame (take i needs) (held_needs few) → i < length needs → need ≡ get_or needs i need → Contains (held_needs few) need → HasTheSame (take (i + 1) needs) (held_needs few)
+same_there needs i need few same within is there =
+    let taken : take (i + 1) needs ≡ take i needs ++ need ∷ [] = take_more needs i need within ∙ ap (λ (n : Need). take i needs ++ n ∷ []) (sym is) in
+    rw taken (met (take i needs) (held_needs few) need same there)
+
+pub same_ends : (needs : List Need) (i : ℕ) (few : List (Bor Need)) → HasTheSame (take i needs) (held_needs few) → length needs ≤ i → HasTheSame needs (held_needs few)
+same_ends needs i few same past = subst (λ (ns : List Need). HasTheSame ns (held_needs few)) (take_all i needs past) same
+
+-- ---- what is needed of the same needs
+
+in_needed : (ways : Way → Bool) (needs : List Need) (need : Need) → In need needs → ways need.way ≡ true → In need.goal (needed ways needs)
+unfolding needed
+in_needed ways needs need h served = in_map (λ (n : Need). n.goal) (filter (λ (n : Need). ways n.way) needs) need (in_filter (λ (n : Need). ways n.way) needs need h served)
+
+from_needed : (ways : Way → Bool) (needs : List Need) (goal : Goal) → In goal (needed ways needs) → (need : Need) × In need needs × (ways need.way ≡ true) × (need.goal ≡ goal)
+unfolding needed
+from_needed ways needs goal h =
+    let at = from_map (λ (n : Need). n.goal) (filter (λ (n : Need). ways n.way) needs) goal h in
+    let kept = from_filter (λ (n : Need). ways n.way) needs at.0 at.1 in
+    (at.0, kept.0, kept.1, at.2)
+
+needed_of_same : (ways : Way → Bool) (needs few : List Need) (goal : Goal) → ((need : Need) → Contains needs need → Contains few need) → Contains (needed ways needs) goal → Contains (needed ways few) goal
+needed_of_same ways needs few goal there h =
+    let at = from_needed ways needs goal (in_from_Contains (needed ways needs) goal h) in
+    let kept : In at.0 few = in_from_Contains few at.0 (there at.0 (Contains_from_in needs at.0 at.1)) in
+    subst (Contains (needed ways few)) at.3 (Contains_from_in (needed ways few) at.0.goal (in_needed ways few at.0 kept at.2))
+
+pub slots_of_same : (ways : Way → Bool) (needs few : List Need) (slots : List Goal) → HasTheSame needs few → AreSlots (needed ways few) slots → AreSlots (needed ways needs) slots
+slots_of_same ways needs few slots same are = record {
+  rising = are.rising;
+  all = λ goal h. are.all goal (needed_of_same ways needs few goal same.all h);
+  only = λ goal h. needed_of_same ways few needs goal same.only (are.only goal h);
+}
 
 -- ---- a look-up
 

@@ -1,6 +1,7 @@
 -- Lists that rise in a total order: their elements, and that their members make them up.
-use Rattle.std.proofs.Common.{◌≡◌, ◌≢◌, ℕ, zero, suc, ◌+◌, ◌<◌, ◌⊎◌, List, [], ◌∷◌, length, get_or, map, refl, sym, ap, subst, ◌∙◌, inl, inr, arith, Contains}
-use Rattle.std.specs.List.{AllByRecursion}
+use Rattle.std.proofs.Common.{◌≡◌, ◌≢◌, ℕ, zero, suc, ◌+◌, ◌<◌, ◌⊎◌, Bool, true, false, List, [], ◌∷◌, length, get_or, map, refl, sym, ap, subst, ◌∙◌, inl, inr, arith, Contains}
+use Rattle.std.specs.List.{AllByRecursion, filter}
+use Rattle.std.proofs.lemmas.Bool.{cases_Bool}
 use Rattle.std.specs.List.Sorted.{IsStrictlySortedBy, IsSortedBy}
 use Rattle.std.specs.declared.cmp.Ordering.{Ordering}
 use Rattle.std.specs.declared.cmp.Ordering.TheVariants.{Less, Equal, Greater}
@@ -51,6 +52,27 @@ pub from_map : {X Y : Type 0} (f : X → Y) (xs : List X) (y : Y) → In y (map 
 from_map f [] y h = absurd h
 from_map f (x ∷ xs) y (inl e) = (x, inl refl, e)
 from_map f (x ∷ xs) y (inr h) = let rest = from_map f xs y h in (rest.0, inr rest.1, rest.2)
+
+pub in_filter : {X : Type 0} (t : X → Bool) (xs : List X) (x : X) → In x xs → t x ≡ true → In x (filter t xs)
+in_filter t [] x h passes = absurd h
+in_filter t (y ∷ ys) x (inl e) passes = let here : t y ≡ true = rw e passes in rw here (inl e)
+in_filter t (y ∷ ys) x (inr h) passes =
+    elim (cases_Bool (t y)) [
+      | inl here ↦ rw here (inr (in_filter t ys x h passes))
+      | inr away ↦ rw away (in_filter t ys x h passes)
+    ]
+
+from_first : {X : Type 0} (t : X → Bool) (y : X) (ys : List X) (x : X) → t y ≡ true → (In x (filter t ys) → In x ys × (t x ≡ true)) → (y ≡ x) ⊎ In x (filter t ys) → In x (y ∷ ys) × (t x ≡ true)
+from_first t y ys x here rest (inl e) = (inl e, subst (λ z. t z ≡ true) e here)
+from_first t y ys x here rest (inr h) = let later = rest h in (inr later.0, later.1)
+
+pub from_filter : {X : Type 0} (t : X → Bool) (xs : List X) (x : X) → In x (filter t xs) → In x xs × (t x ≡ true)
+from_filter t [] x h = absurd h
+from_filter t (y ∷ ys) x h =
+    elim (cases_Bool (t y)) [
+      | inl here ↦ from_first t y ys x here (from_filter t ys x) (rw here at h)
+      | inr away ↦ let later = from_filter t ys x (rw away at h) in (inr later.0, later.1)
+    ]
 
 -- ---- order
 

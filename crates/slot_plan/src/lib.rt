@@ -2,6 +2,7 @@
 //! variables, in which order, and the place of each.
 #![tactic(auto)]
 
+mod few;
 mod laws;
 mod list;
 mod need;

@@ -3,8 +3,9 @@ ghost use Rattle.std.specs.List.Sorted.{IsStrictlySortedBy};
 ghost use Rattle.mo_types.specs.Goals.{compare_goals};
 ghost use Rattle.mo_types.specs.declared.goal.Goal.{Goal};
 ghost use Rattle.slot_plan.specs.Slots.{AreSlots, needed, in_got, in_stubs, in_tlv};
-ghost use Rattle.slot_plan.specs.inner.Held.{held, serves};
+ghost use Rattle.slot_plan.specs.inner.Held.{held, held_needs, serves};
 
+use crate::few::few;
 use crate::list::{SlotList, Slots};
 use crate::need::{Need, NeedList, Way};
 use mo_types::{Goal, OutOfMemory};
@@ -16,6 +17,7 @@ pub fn slots(alloc: Global, needs: &NeedList) -> Result<Slots, OutOfMemory>
     ensures stubs { IfOk result (λ slots. AreSlots (needed in_stubs needs.now) slots.stubs) }
     ensures tlv { IfOk result (λ slots. AreSlots (needed in_tlv needs.now) slots.tlv) }
 {
+    let needs = few(alloc, needs.as_slice())?;
     let needs = needs.as_slice();
     Ok(Slots {
         got: slots_of(alloc, needs, Table::Got)?,
@@ -47,8 +49,8 @@ impl Table {
 }
 
 // The slots of one section.
-fn slots_of(alloc: Global, needs: &[Need], table: Table) -> Result<SlotList, OutOfMemory>
-    ensures { IfOk result (AreSlots (needed (serves table) needs.now)) }
+fn slots_of(alloc: Global, needs: &[&Need], table: Table) -> Result<SlotList, OutOfMemory>
+    ensures { IfOk result (AreSlots (needed (serves table) (held_needs needs.now))) }
 {
     let mut goals = served(alloc, needs, table)?;
     put_in_order(&mut goals);
@@ -56,8 +58,8 @@ fn slots_of(alloc: Global, needs: &[Need], table: Table) -> Result<SlotList, Out
 }
 
 // The goals that have a slot in a section, as often as they are needed.
-fn served(alloc: Global, needs: &[Need], table: Table) -> Result<Vec<&Goal>, OutOfMemory>
-    ensures { IfOk result (λ goals. held goals.items ≡ needed (serves table) needs.now) }
+fn served<'a>(alloc: Global, needs: &[&'a Need], table: Table) -> Result<Vec<&'a Goal>, OutOfMemory>
+    ensures { IfOk result (λ goals. held goals.items ≡ needed (serves table) (held_needs needs.now)) }
 {
     let mut goals = Vec::new(alloc);
     for need in needs {
