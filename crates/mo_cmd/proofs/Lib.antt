@@ -1,0 +1,4 @@
+pub mod NumberLemmas
+pub mod KeyLemmas
+pub mod PartLemmas
+pub mod ValueLemmas

@@ -1,0 +1,189 @@
+-- The command of a command line: each field is the last of its items, all of them in order, or whether one is there.
+use Rattle.std.specs.Prelude.{ℕ, ◌+◌, ◌==◌, ◌&&◌, ◌||◌, nat_lt, Bool, true, false, not, List, [], ◌∷◌, codes, map, filter, length, bytes_eq, slice_index_or, slice_get, unwrap_or, Option, None, Some, Result, Ok, Err, if◌then◌else◌}
+use Rattle.std.specs.List.{last_or}
+use Rattle.std.specs.Option.{option_map}
+use Rattle.mo_types.specs.declared.cause.UsageRule.TheVariants.{NoInput}
+use Rattle.mo_cmd.specs.declared.command.Command.{Command}
+use Rattle.mo_cmd.specs.declared.command.CommandInput.{CommandInput}
+use Rattle.mo_cmd.specs.declared.command.InputForm.{InputForm}
+use Rattle.mo_cmd.specs.declared.command.InputForm.TheVariants.{Path, Library, Framework}
+use Rattle.mo_cmd.specs.declared.command.UsageFault.{UsageFault}
+use Rattle.mo_cmd.specs.declared.command.UsageFault.TheVariants.{At}
+use Rattle.mo_cmd.specs.declared.faults.Whole.{Whole}
+use Rattle.mo_cmd.specs.declared.options.CommandOption.{CommandOption}
+use Rattle.mo_cmd.specs.declared.options.CommandOption.TheVariants as option
+use Rattle.mo_cmd.specs.declared.options.Field.{Field}
+use Rattle.mo_cmd.specs.declared.options.Field.TheVariants as field
+use Rattle.mo_cmd.specs.declared.parts.Part.{Part}
+use Rattle.mo_cmd.specs.declared.parts.Rows.{Rows}
+use Rattle.mo_cmd.specs.declared.parts.Rows.TheVariants.{All, Brought}
+use Rattle.mo_cmd.specs.Options.{field_of, number_of}
+use Rattle.mo_cmd.specs.Parts.{inputs_linked, parts_of}
+use Rattle.mo_cmd.specs.Items.{Item, items_of, item_of, value_of}
+use Rattle.mo_cmd.specs.Numbers.{version_of, threads_of, functions_of, reach_of, pad_of}
+use Rattle.mo_cmd.specs.Faults.{first_fault}
+
+-- the option gives the field
+abbrev pub gives : Field → CommandOption → Bool
+gives wanted meant = number_of (field_of meant) == number_of wanted
+
+-- the items of a field, the last of them, and its value
+abbrev pub given : Field → List Item → List Item
+given wanted items = filter (λ item. gives wanted item.option) items
+
+abbrev pub last_of : Field → List Item → Option Item
+last_of wanted items = last_or None (given wanted items)
+
+abbrev pub last_values : Field → List Item → Option (List (List ℕ))
+last_values wanted items = option_map (λ item. item.values) (last_of wanted items)
+
+abbrev pub last_value : Field → List Item → Option (List ℕ)
+last_value wanted items = option_map value_of (last_values wanted items)
+
+abbrev pub all_values : Field → List Item → List (List ℕ)
+all_values wanted items = map (λ item. value_of item.values) (given wanted items)
+
+abbrev pub is_given : Field → List Item → Bool
+is_given wanted items = not (length (given wanted items) == 0)
+
+-- the number that a text writes, or the default
+abbrev pub number_or : (List ℕ → Option ℕ) → ℕ → Option (List ℕ) → ℕ
+number_or read default None = default
+number_or read default (Some text) = unwrap_or (read text) default
+
+abbrev pub is_text : List ℕ → Option (List ℕ) → Bool
+is_text wanted None = false
+is_text wanted (Some text) = bytes_eq text wanted
+
+abbrev pub is_dylib : Option CommandOption → Bool
+is_dylib (Some option.Dylib) = true
+is_dylib _ = false
+
+abbrev pub is_opcodes : Option CommandOption → Bool
+is_opcodes (Some option.NoFixupChains) = true
+is_opcodes _ = false
+
+abbrev pub last_option : Field → List Item → Option CommandOption
+last_option wanted items = option_map (λ item. item.option) (last_of wanted items)
+
+-- how an input is looked for, and what is wanted of it
+abbrev pub input_form : CommandOption → InputForm
+input_form option.Library = Library
+input_form option.WeakLibraryNamed = Library
+input_form option.ReexportLibraryNamed = Library
+input_form option.Framework = Framework
+input_form option.WeakFramework = Framework
+input_form option.ReexportFramework = Framework
+input_form _ = Path
+
+abbrev pub is_weak : CommandOption → Bool
+is_weak option.WeakLibraryNamed = true
+is_weak option.WeakFramework = true
+is_weak option.WeakLibrary = true
+is_weak _ = false
+
+abbrev pub is_reexported : CommandOption → Bool
+is_reexported option.ReexportLibraryNamed = true
+is_reexported option.ReexportFramework = true
+is_reexported option.ReexportLibrary = true
+is_reexported _ = false
+
+abbrev pub is_forced : CommandOption → Bool
+is_forced option.ForceLoad = true
+is_forced _ = false
+
+abbrev pub input_of : CommandOption → List ℕ → CommandInput
+input_of meant value = record {
+  form = input_form meant; value = value; weak = is_weak meant; reexport = is_reexported meant; forced = is_forced meant;
+}
+
+-- 11.0
+abbrev pub first_macos : ℕ
+first_macos = 0xb0000
+
+abbrev pub value_number : ℕ → List (List ℕ) → List ℕ
+value_number number values = slice_index_or values number []
+
+unfoldable pub command_from : List Item → Command
+command_from items = record {
+  dylib = is_dylib (last_option field.Kind items);
+  all_load = is_given field.AllLoad items;
+  dead_strip = is_given field.DeadStrip items;
+  dynamic = is_text (codes "dynamic_lookup") (last_value field.Undefined items);
+  opcodes = is_opcodes (last_option field.Fixups items);
+  fold = is_text (codes "all") (last_value field.Folding items);
+  export_given = is_given field.ExportFiles items || is_given field.Exports items;
+  output = unwrap_or (last_value field.Output items) (codes "a.out");
+  entry = unwrap_or (last_value field.Entry items) (codes "_main");
+  install = unwrap_or (last_value field.Install items) (unwrap_or (last_value field.Output items) (codes "a.out"));
+  min = number_or version_of first_macos (option_map (value_number 1) (last_values field.Platform items));
+  sdk = number_or version_of first_macos (option_map (value_number 2) (last_values field.Platform items));
+  current = number_or version_of 0 (last_value field.Current items);
+  compatible = number_or version_of 0 (last_value field.Compatible items);
+  headerpad = number_or pad_of 0x20 (last_value field.Headerpad items);
+  threads = number_or threads_of 4 (last_value field.Threads items);
+  reach = number_or reach_of 134217728 (last_value field.Reach items);
+  generate = number_or functions_of 0 (last_value field.Generate items);
+  roots = all_values field.Roots items;
+  flats = all_values field.Flats items;
+  rpaths = all_values field.Rpaths items;
+  library_dirs = all_values field.LibraryDirs items;
+  framework_dirs = all_values field.FrameworkDirs items;
+  export_files = all_values field.ExportFiles items;
+  exports = all_values field.Exports items;
+  unexport_files = all_values field.UnexportFiles items;
+  unexports = all_values field.Unexports items;
+  syslibroot = last_value field.Syslibroot items;
+  map = last_value field.Map items;
+  inputs = map (λ item. input_of item.option (value_of item.values)) (given field.Inputs items);
+}
+
+-- The parts of a field.
+abbrev pub parts_for : Field → List Part → List Part
+parts_for wanted parts = filter (λ part. gives wanted part.option) parts
+
+abbrev pub word_after : Option Part → ℕ
+word_after None = 0
+word_after (Some part) = part.at + 1
+
+-- the word of the first input past those that the link takes
+abbrev pub excess_of : Rows → List Part → ℕ
+excess_of All parts = 0
+excess_of Brought parts = word_after (slice_get (parts_for field.Inputs parts) inputs_linked)
+
+-- The command that moves to opcodes takes 16 bytes of the pad; the last pad is at fault where it has fewer.
+abbrev pub narrow_of : Bool → ℕ → Option Part → ℕ
+narrow_of opcodes pad last = if opcodes && nat_lt pad 16 then word_after last else 0
+
+abbrev pub whole_of : Rows → List Part → Command → Whole
+whole_of rows parts command = record {
+  dylib = command.dylib;
+  excess = excess_of rows parts;
+  narrow = narrow_of command.opcodes command.headerpad (last_or None (parts_for field.Headerpad parts));
+}
+
+-- the first fault, else that no word names an input, else the command
+abbrev pub decided : Option UsageFault → Bool → Command → Result Command UsageFault
+decided (Some fault) has_input command = Err fault
+decided None true command = Ok command
+decided None false command = Err (At 0 NoInput)
+
+abbrev pub has_input : List Item → Bool
+has_input items = is_given field.Inputs items || is_given field.Generate items
+
+-- the command that the rows give to words
+unfoldable pub command_by : Rows → List (List ℕ) → Result Command UsageFault
+command_by rows words =
+    decided (first_fault (whole_of rows (parts_of rows words) (command_from (items_of rows words))) words (parts_of rows words))
+    (has_input (items_of rows words)) (command_from (items_of rows words))
+
+-- with all rows, and with those that the link has yet
+abbrev pub whole_command_of : List (List ℕ) → Result Command UsageFault
+whole_command_of words = command_by All words
+
+abbrev pub command_of : List (List ℕ) → Result Command UsageFault
+command_of words = command_by Brought words
+
+abbrev pub IsUsage : UsageFault → Type 0
+IsUsage (At word rule) = Unit {0}
+IsUsage _ = ⊥

@@ -1,0 +1,6 @@
+pub mod Options
+pub mod Numbers
+pub mod Parts
+pub mod Faults
+pub mod Items
+pub mod Command

@@ -1,0 +1,118 @@
+ghost use Rattle.std.specs.Prelude.{◌≡◌, ◌<◌, length, All, IfOk};
+ghost use Rattle.mo_cmd.specs.Parts as parts;
+
+use crate::options::{CommandOption, option_named};
+use mo_types::{Arg, OutOfMemory};
+use std::alloc::Global;
+
+/// Which rows of the table of options count.
+#[derive(Clone, Copy, Debug, PartialEq, Eq)]
+pub enum Rows {
+    /// All of them.
+    All,
+    /// Those that the link has yet.
+    Brought,
+}
+
+/// An option or a path of the command line, and the index of its word.
+#[derive(Clone, Copy, Debug, PartialEq, Eq)]
+pub struct Part {
+    pub option: CommandOption,
+    pub at: usize,
+}
+
+/// Whether a NUL stands in a word.
+pub fn has_nul(word: &[u8]) -> bool
+    ensures { result ≡ parts.has_nul word.now }
+{
+    word.contains(&0)
+}
+
+fn is_plain(word: &[u8]) -> bool
+    ensures { result ≡ parts.is_plain word.now }
+{
+    match word {
+        [] => false,
+        [byte, ..] => *byte != b'-',
+    }
+}
+
+fn is_attached(option: CommandOption, word: &[u8]) -> bool
+    ensures { result ≡ parts.is_attached option word.now }
+{
+    let name = option.name();
+    name.len() < word.len() && word.starts_with(name)
+}
+
+fn option_attached(word: &[u8]) -> CommandOption
+    ensures { result ≡ parts.option_attached word.now }
+{
+    if is_attached(CommandOption::LibraryDir, word) {
+        CommandOption::LibraryDir
+    } else if is_attached(CommandOption::FrameworkDir, word) {
+        CommandOption::FrameworkDir
+    } else if is_attached(CommandOption::Library, word) {
+        CommandOption::Library
+    } else if is_attached(CommandOption::WeakLibraryNamed, word) {
+        CommandOption::WeakLibraryNamed
+    } else if is_attached(CommandOption::ReexportLibraryNamed, word) {
+        CommandOption::ReexportLibraryNamed
+    } else {
+        CommandOption::Unknown
+    }
+}
+
+#[tactic(auto, unfolding(crate::specs::Parts::option_of))]
+fn option_of(word: &[u8]) -> CommandOption
+    ensures { result ≡ parts.option_of word.now }
+{
+    if has_nul(word) {
+        return CommandOption::Unknown;
+    }
+    if is_plain(word) {
+        return CommandOption::Path;
+    }
+    match option_named(word) {
+        Some(option) => option,
+        None => option_attached(word),
+    }
+}
+
+fn is_linked(option: CommandOption) -> bool
+    ensures { result ≡ parts.is_linked option }
+{
+    matches!(
+        option,
+        CommandOption::Path | CommandOption::Output | CommandOption::Threads
+    )
+}
+
+fn among(rows: Rows, option: CommandOption) -> CommandOption
+    ensures { result ≡ parts.among rows option }
+{
+    match rows {
+        Rows::All => option,
+        Rows::Brought if is_linked(option) => option,
+        Rows::Brought => CommandOption::Unknown,
+    }
+}
+
+/// The parts of a command line, in the order of their words.
+#[tactic(auto, using(crate::proofs::PartLemmas::walking))]
+pub fn parts_of(alloc: Global, rows: Rows, words: &[Arg]) -> Result<Vec<Part>, OutOfMemory>
+    ensures exact { IfOk result (λ found. found.items ≡ parts.parts_of rows words.now) }
+    ensures within { IfOk result (λ found. All (λ part. part.at < length words.now) found.items) }
+{
+    let mut found = Vec::new(alloc);
+    let mut skipped = 0;
+    for (at, word) in words.iter().enumerate() {
+        if skipped > 0 {
+            skipped -= 1;
+        } else {
+            let option = among(rows, option_of(word.as_bytes()));
+            found.push(Part { option, at })?;
+            skipped = option.values();
+        }
+    }
+    Ok(found)
+}
