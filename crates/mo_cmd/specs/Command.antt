@@ -1,7 +1,6 @@
 -- The command of a command line: each field is the last of its items, all of them in order, or whether one is there.
-use Rattle.std.specs.Prelude.{ℕ, ◌+◌, ◌==◌, ◌&&◌, ◌||◌, nat_lt, Bool, true, false, not, List, [], ◌∷◌, codes, map, filter, length, bytes_eq, slice_index_or, slice_get, unwrap_or, Option, None, Some, Result, Ok, Err, if◌then◌else◌}
-use Rattle.std.specs.List.{last_or}
-use Rattle.std.specs.Option.{option_map}
+use Rattle.std.specs.Prelude.{ℕ, ◌+◌, ◌-◌, ◌==◌, ◌&&◌, ◌||◌, nat_lt, Bool, true, false, not, List, [], ◌∷◌, codes, map, filter, length, bytes_eq, slice_index_or, slice_get, unwrap_or, Option, None, Some, Result, Ok, Err, if◌then◌else◌}
+use Rattle.std.specs.Option.{option_map, option_and_then}
 use Rattle.mo_types.specs.declared.cause.UsageRule.TheVariants.{NoInput}
 use Rattle.mo_cmd.specs.declared.command.Command.{Command}
 use Rattle.mo_cmd.specs.declared.command.CommandInput.{CommandInput}
@@ -10,6 +9,11 @@ use Rattle.mo_cmd.specs.declared.command.InputForm.TheVariants.{Path, Library, F
 use Rattle.mo_cmd.specs.declared.command.UsageFault.{UsageFault}
 use Rattle.mo_cmd.specs.declared.command.UsageFault.TheVariants.{At}
 use Rattle.mo_cmd.specs.declared.faults.Whole.{Whole}
+use Rattle.mo_cmd.specs.declared.build.Switches.{Switches}
+use Rattle.mo_cmd.specs.declared.build.Numbers.{Numbers}
+use Rattle.mo_cmd.specs.declared.lists.Texts.{Texts}
+use Rattle.mo_cmd.specs.declared.lists.Names.{Names}
+use Rattle.mo_cmd.specs.declared.lists.Exports.{Exports}
 use Rattle.mo_cmd.specs.declared.options.CommandOption.{CommandOption}
 use Rattle.mo_cmd.specs.declared.options.CommandOption.TheVariants as option
 use Rattle.mo_cmd.specs.declared.options.Field.{Field}
@@ -21,7 +25,7 @@ use Rattle.mo_cmd.specs.Options.{field_of, number_of}
 use Rattle.mo_cmd.specs.Parts.{inputs_linked, parts_of}
 use Rattle.mo_cmd.specs.Items.{Item, items_of, item_of, value_of}
 use Rattle.mo_cmd.specs.Numbers.{version_of, threads_of, functions_of, reach_of, pad_of}
-use Rattle.mo_cmd.specs.Faults.{first_fault}
+use Rattle.mo_cmd.specs.Faults.{first_fault, is_reexport}
 
 -- the option gives the field
 abbrev pub gives : Field → CommandOption → Bool
@@ -31,8 +35,11 @@ gives wanted meant = number_of (field_of meant) == number_of wanted
 abbrev pub given : Field → List Item → List Item
 given wanted items = filter (λ item. gives wanted item.option) items
 
+abbrev pub last : {A : Type 0} → List A → Option A
+last xs = slice_get xs (length xs - 1)
+
 abbrev pub last_of : Field → List Item → Option Item
-last_of wanted items = last_or None (given wanted items)
+last_of wanted items = last (given wanted items)
 
 abbrev pub last_values : Field → List Item → Option (List (List ℕ))
 last_values wanted items = option_map (λ item. item.values) (last_of wanted items)
@@ -48,8 +55,7 @@ is_given wanted items = not (length (given wanted items) == 0)
 
 -- the number that a text writes, or the default
 abbrev pub number_or : (List ℕ → Option ℕ) → ℕ → Option (List ℕ) → ℕ
-number_or read default None = default
-number_or read default (Some text) = unwrap_or (read text) default
+number_or read default text = unwrap_or (option_and_then read text) default
 
 abbrev pub is_text : List ℕ → Option (List ℕ) → Bool
 is_text wanted None = false
@@ -82,19 +88,13 @@ is_weak option.WeakFramework = true
 is_weak option.WeakLibrary = true
 is_weak _ = false
 
-abbrev pub is_reexported : CommandOption → Bool
-is_reexported option.ReexportLibraryNamed = true
-is_reexported option.ReexportFramework = true
-is_reexported option.ReexportLibrary = true
-is_reexported _ = false
-
 abbrev pub is_forced : CommandOption → Bool
 is_forced option.ForceLoad = true
 is_forced _ = false
 
 abbrev pub input_of : CommandOption → List ℕ → CommandInput
 input_of meant value = record {
-  form = input_form meant; value = value; weak = is_weak meant; reexport = is_reexported meant; forced = is_forced meant;
+  form = input_form meant; value = value; weak = is_weak meant; reexport = is_reexport meant; forced = is_forced meant;
 }
 
 -- 11.0
@@ -104,8 +104,8 @@ first_macos = 0xb0000
 abbrev pub value_number : ℕ → List (List ℕ) → List ℕ
 value_number number values = slice_index_or values number []
 
-unfoldable pub command_from : List Item → Command
-command_from items = record {
+abbrev pub switches_of : List Item → Switches
+switches_of items = record {
   dylib = is_dylib (last_option field.Kind items);
   all_load = is_given field.AllLoad items;
   dead_strip = is_given field.DeadStrip items;
@@ -113,9 +113,10 @@ command_from items = record {
   opcodes = is_opcodes (last_option field.Fixups items);
   fold = is_text (codes "all") (last_value field.Folding items);
   export_given = is_given field.ExportFiles items || is_given field.Exports items;
-  output = unwrap_or (last_value field.Output items) (codes "a.out");
-  entry = unwrap_or (last_value field.Entry items) (codes "_main");
-  install = unwrap_or (last_value field.Install items) (unwrap_or (last_value field.Output items) (codes "a.out"));
+}
+
+abbrev pub numbers_of : List Item → Numbers
+numbers_of items = record {
   min = number_or version_of first_macos (option_map (value_number 1) (last_values field.Platform items));
   sdk = number_or version_of first_macos (option_map (value_number 2) (last_values field.Platform items));
   current = number_or version_of 0 (last_value field.Current items);
@@ -124,42 +125,100 @@ command_from items = record {
   threads = number_or threads_of 4 (last_value field.Threads items);
   reach = number_or reach_of 134217728 (last_value field.Reach items);
   generate = number_or functions_of 0 (last_value field.Generate items);
+}
+
+abbrev pub output_of : List Item → List ℕ
+output_of items = unwrap_or (last_value field.Output items) (codes "a.out")
+
+abbrev pub texts_of : List Item → Texts
+texts_of items = record {
+  output = output_of items;
+  entry = unwrap_or (last_value field.Entry items) (codes "_main");
+  install = unwrap_or (last_value field.Install items) (output_of items);
+  syslibroot = last_value field.Syslibroot items;
+  map = last_value field.Map items;
+}
+
+abbrev pub names_of : List Item → Names
+names_of items = record {
   roots = all_values field.Roots items;
   flats = all_values field.Flats items;
   rpaths = all_values field.Rpaths items;
   library_dirs = all_values field.LibraryDirs items;
   framework_dirs = all_values field.FrameworkDirs items;
+}
+
+abbrev pub exports_of : List Item → Exports
+exports_of items = record {
   export_files = all_values field.ExportFiles items;
   exports = all_values field.Exports items;
   unexport_files = all_values field.UnexportFiles items;
   unexports = all_values field.Unexports items;
-  syslibroot = last_value field.Syslibroot items;
-  map = last_value field.Map items;
-  inputs = map (λ item. input_of item.option (value_of item.values)) (given field.Inputs items);
 }
+
+abbrev pub inputs_of : List Item → List CommandInput
+inputs_of items = map (λ item. input_of item.option (value_of item.values)) (given field.Inputs items)
+
+abbrev pub assembled : Switches → Numbers → Texts → Names → Exports → List CommandInput → Command
+assembled switches numbers texts names exports inputs = record {
+  dylib = switches.dylib;
+  all_load = switches.all_load;
+  dead_strip = switches.dead_strip;
+  dynamic = switches.dynamic;
+  opcodes = switches.opcodes;
+  fold = switches.fold;
+  export_given = switches.export_given;
+  output = texts.output;
+  entry = texts.entry;
+  install = texts.install;
+  min = numbers.min;
+  sdk = numbers.sdk;
+  current = numbers.current;
+  compatible = numbers.compatible;
+  headerpad = numbers.headerpad;
+  threads = numbers.threads;
+  reach = numbers.reach;
+  generate = numbers.generate;
+  roots = names.roots;
+  flats = names.flats;
+  rpaths = names.rpaths;
+  library_dirs = names.library_dirs;
+  framework_dirs = names.framework_dirs;
+  export_files = exports.export_files;
+  exports = exports.exports;
+  unexport_files = exports.unexport_files;
+  unexports = exports.unexports;
+  syslibroot = texts.syslibroot;
+  map = texts.map;
+  inputs = inputs;
+}
+
+-- the command of items
+unfoldable pub command_from : List Item → Command
+command_from items =
+    assembled (switches_of items) (numbers_of items) (texts_of items) (names_of items) (exports_of items) (inputs_of items)
 
 -- The parts of a field.
 abbrev pub parts_for : Field → List Part → List Part
 parts_for wanted parts = filter (λ part. gives wanted part.option) parts
 
-abbrev pub word_after : Option Part → ℕ
-word_after None = 0
-word_after (Some part) = part.at + 1
+abbrev pub index_of : Option Part → Option ℕ
+index_of part = option_map (λ each. each.at) part
 
--- the word of the first input past those that the link takes
-abbrev pub excess_of : Rows → List Part → ℕ
-excess_of All parts = 0
-excess_of Brought parts = word_after (slice_get (parts_for field.Inputs parts) inputs_linked)
+-- the index of the first input past those that the link takes
+abbrev pub excess_of : Rows → List Part → Option ℕ
+excess_of All parts = None
+excess_of Brought parts = index_of (slice_get (parts_for field.Inputs parts) inputs_linked)
 
 -- The command that moves to opcodes takes 16 bytes of the pad; the last pad is at fault where it has fewer.
-abbrev pub narrow_of : Bool → ℕ → Option Part → ℕ
-narrow_of opcodes pad last = if opcodes && nat_lt pad 16 then word_after last else 0
+abbrev pub narrow_of : Bool → ℕ → Option Part → Option ℕ
+narrow_of opcodes pad last = if opcodes && nat_lt pad 16 then index_of last else None
 
-abbrev pub whole_of : Rows → List Part → Command → Whole
-whole_of rows parts command = record {
-  dylib = command.dylib;
+abbrev pub whole_of : Rows → List Part → Switches → Numbers → Whole
+whole_of rows parts switches numbers = record {
+  dylib = switches.dylib;
   excess = excess_of rows parts;
-  narrow = narrow_of command.opcodes command.headerpad (last_or None (parts_for field.Headerpad parts));
+  narrow = narrow_of switches.opcodes numbers.headerpad (last (parts_for field.Headerpad parts));
 }
 
 -- the first fault, else that no word names an input, else the command
@@ -171,11 +230,13 @@ decided None false command = Err (At 0 NoInput)
 abbrev pub has_input : List Item → Bool
 has_input items = is_given field.Inputs items || is_given field.Generate items
 
+abbrev pub decided_of : Rows → List (List ℕ) → List Part → List Item → Result Command UsageFault
+decided_of rows words parts items =
+    decided (first_fault (whole_of rows parts (switches_of items) (numbers_of items)) words parts) (has_input items) (command_from items)
+
 -- the command that the rows give to words
 unfoldable pub command_by : Rows → List (List ℕ) → Result Command UsageFault
-command_by rows words =
-    decided (first_fault (whole_of rows (parts_of rows words) (command_from (items_of rows words))) words (parts_of rows words))
-    (has_input (items_of rows words)) (command_from (items_of rows words))
+command_by rows words = decided_of rows words (parts_of rows words) (items_of rows words)
 
 -- with all rows, and with those that the link has yet
 abbrev pub whole_command_of : List (List ℕ) → Result Command UsageFault

@@ -63,12 +63,16 @@ is_reexport option.ReexportLibrary = true
 is_reexport option.ReexportLibraryNamed = true
 is_reexport _ = false
 
+abbrev pub is_at : Option ℕ → Part → Bool
+is_at None part = false
+is_at (Some index) part = part.at == index
+
 -- the first rule of this list that a part breaks, of which the values are those that follow its word
 abbrev pub rule_of : Whole → Part → List (List ℕ) → Option UsageRule
 rule_of whole part values =
-    if is_unknown part.option || part.at + 1 == whole.excess then Some Unknown
+    if is_unknown part.option || is_at whole.excess part then Some Unknown
     else if nat_lt (length values) (values_of part.option) then Some NoValue
-    else if not (are_good part.option values) || part.at + 1 == whole.narrow then Some BadValue
+    else if not (are_good part.option values) || is_at whole.narrow part then Some BadValue
     else if is_reexport part.option && not whole.dylib then Some DylibOnly
     else None
 

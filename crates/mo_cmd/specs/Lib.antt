@@ -4,3 +4,4 @@ pub mod Parts
 pub mod Faults
 pub mod Items
 pub mod Command
+pub mod Sorted

@@ -10,15 +10,15 @@ use crate::parts::{Part, has_nul};
 use crate::values::{following, nth};
 use mo_types::{Arg, UsageRule};
 
-/// What a rule on one part needs to know of the whole command line. A word's number counts from 1, and 0 is no word.
+/// What a rule on one part needs to know of the whole command line.
 #[derive(Clone, Copy, Debug)]
 pub struct Whole {
     /// The image is a dynamic library.
     pub dylib: bool,
-    /// The word of the first input past those that are linked.
-    pub excess: usize,
-    /// The word of the last pad, where it has no room for opcodes.
-    pub narrow: usize,
+    /// The index of the first input past those that are linked.
+    pub excess: Option<usize>,
+    /// The index of the last pad, where it has no room for opcodes.
+    pub narrow: Option<usize>,
 }
 
 /// Whether a name holds `*`, `?` or `[`.
@@ -63,7 +63,8 @@ fn are_good(option: CommandOption, values: &[Arg]) -> bool
     }
 }
 
-fn is_reexport(option: CommandOption) -> bool
+/// Whether an option is for a dynamic library alone.
+pub fn is_reexport(option: CommandOption) -> bool
     ensures { result ≡ faults.is_reexport option }
 {
     matches!(
@@ -80,19 +81,26 @@ fn is_unknown(option: CommandOption) -> bool
     matches!(option, CommandOption::Unknown)
 }
 
+fn is_at(index: Option<usize>, part: Part) -> bool
+    ensures { result ≡ faults.is_at index part }
+{
+    match index {
+        Some(index) => part.at == index,
+        None => false,
+    }
+}
+
 // The first rule that a part breaks at its word.
 fn rule_of(whole: Whole, part: Part, values: &[Arg]) -> Option<UsageRule>
-    requires { part.at + 1 < 2 ^ 64 }
     ensures { result ≡ faults.rule_of whole part values.now }
 {
-    let word = part.at + 1;
-    if is_unknown(part.option) || word == whole.excess {
+    if is_unknown(part.option) || is_at(whole.excess, part) {
         return Some(UsageRule::Unknown);
     }
     if values.len() < part.option.values() {
         return Some(UsageRule::NoValue);
     }
-    if !are_good(part.option, values) || word == whole.narrow {
+    if !are_good(part.option, values) || is_at(whole.narrow, part) {
         return Some(UsageRule::BadValue);
     }
     if is_reexport(part.option) && !whole.dylib {

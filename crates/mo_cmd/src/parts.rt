@@ -2,7 +2,7 @@ ghost use Rattle.std.specs.Prelude.{◌≡◌, ◌<◌, length, All, IfOk};
 ghost use Rattle.mo_cmd.specs.Parts as parts;
 
 use crate::options::{CommandOption, option_named};
-use mo_types::{Arg, OutOfMemory};
+use mo_types::{Arg, Items, OutOfMemory};
 use std::alloc::Global;
 
 /// Which rows of the table of options count.
@@ -20,6 +20,9 @@ pub struct Part {
     pub option: CommandOption,
     pub at: usize,
 }
+
+/// The parts of a command line, in the order of their words.
+pub type PartList = Items<Part>;
 
 /// Whether a NUL stands in a word.
 pub fn has_nul(word: &[u8]) -> bool
@@ -78,6 +81,9 @@ fn option_of(word: &[u8]) -> CommandOption
     }
 }
 
+/// How many inputs the link takes; a path past them counts as unknown.
+pub const INPUTS_LINKED: usize = 1;
+
 fn is_linked(option: CommandOption) -> bool
     ensures { result ≡ parts.is_linked option }
 {
@@ -99,11 +105,11 @@ fn among(rows: Rows, option: CommandOption) -> CommandOption
 
 /// The parts of a command line, in the order of their words.
 #[tactic(auto, using(crate::proofs::PartLemmas::walking))]
-pub fn parts_of(alloc: Global, rows: Rows, words: &[Arg]) -> Result<Vec<Part>, OutOfMemory>
-    ensures exact { IfOk result (λ found. found.items ≡ parts.parts_of rows words.now) }
-    ensures within { IfOk result (λ found. All (λ part. part.at < length words.now) found.items) }
+pub fn parts_of(alloc: Global, rows: Rows, words: &[Arg]) -> Result<PartList, OutOfMemory>
+    ensures exact { IfOk result (λ found. found ≡ parts.parts_of rows words.now) }
+    ensures within { IfOk result (λ found. All (λ part. part.at < length words.now) found) }
 {
-    let mut found = Vec::new(alloc);
+    let mut found = Items::new(alloc);
     let mut skipped = 0;
     for (at, word) in words.iter().enumerate() {
         if skipped > 0 {

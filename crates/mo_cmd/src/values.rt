@@ -1,4 +1,4 @@
-ghost use Rattle.std.specs.Prelude.{◌≡◌, [], drop, length, slice_index_or};
+ghost use Rattle.std.specs.Prelude.{◌≡◌, [], ◌∷◌, drop, length, slice_index_or};
 ghost use Rattle.mo_cmd.specs.Options.{name_of};
 ghost use Rattle.mo_cmd.specs.Items as items;
 
@@ -70,13 +70,20 @@ fn after_name(option: CommandOption, word: &[u8]) -> &[u8]
     }
 }
 
-/// The value of an option, or the first of its values.
-pub fn value(words: &[Arg], part: Part) -> &[u8]
-    ensures { result.now ≡ items.value_of (items.values_at words.now part) }
+fn nth_alone(number: usize, word: &[u8]) -> &[u8]
+    ensures { result.now ≡ slice_index_or (word.now ∷ []) number [] }
+{
+    if number == 0 { word } else { b"" }
+}
+
+/// A value of an option by its number, from 0 on, or nothing.
+#[tactic(auto, using(crate::proofs::ValueLemmas::values))]
+pub fn nth_value(words: &[Arg], part: Part, number: usize) -> &[u8]
+    ensures { result.now ≡ slice_index_or (items.values_at words.now part) number [] }
 {
     match form_of(part.option) {
-        Form::Separate => nth(following(words, part), 0),
-        Form::Attached => after_name(part.option, nth(words, part.at)),
-        Form::Whole => nth(words, part.at),
+        Form::Separate => nth(following(words, part), number),
+        Form::Attached => nth_alone(number, after_name(part.option, nth(words, part.at))),
+        Form::Whole => nth_alone(number, nth(words, part.at)),
     }
 }
