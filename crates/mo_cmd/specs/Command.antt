@@ -221,18 +221,26 @@ whole_of rows parts switches numbers = record {
   narrow = narrow_of switches.opcodes numbers.headerpad (last (parts_for field.Headerpad parts));
 }
 
--- the first fault, else that no word names an input, else the command
-abbrev pub decided : Option UsageFault → Bool → Command → Result Command UsageFault
-decided (Some fault) has_input command = Err fault
-decided None true command = Ok command
-decided None false command = Err (At 0 NoInput)
-
 abbrev pub has_input : List Item → Bool
 has_input items = is_given field.Inputs items || is_given field.Generate items
 
+-- the first fault of a part, else that nothing names an input
+abbrev pub or_no_input : Bool → Option UsageFault → Option UsageFault
+or_no_input has_input (Some fault) = Some fault
+or_no_input true None = None
+or_no_input false None = Some (At 0 NoInput)
+
+abbrev pub line_fault : Rows → List (List ℕ) → List Part → Switches → Numbers → Bool → Option UsageFault
+line_fault rows words parts switches numbers has_input =
+    or_no_input has_input (first_fault (whole_of rows parts switches numbers) words parts)
+
+abbrev pub decided : Option UsageFault → Command → Result Command UsageFault
+decided (Some fault) command = Err fault
+decided None command = Ok command
+
 abbrev pub decided_of : Rows → List (List ℕ) → List Part → List Item → Result Command UsageFault
 decided_of rows words parts items =
-    decided (first_fault (whole_of rows parts (switches_of items) (numbers_of items)) words parts) (has_input items) (command_from items)
+    decided (line_fault rows words parts (switches_of items) (numbers_of items) (has_input items)) (command_from items)
 
 -- the command that the rows give to words
 unfoldable pub command_by : Rows → List (List ℕ) → Result Command UsageFault

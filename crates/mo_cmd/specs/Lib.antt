@@ -1,7 +1,7 @@
-pub mod Options
-pub mod Numbers
-pub mod Parts
+pub mod Command
 pub mod Faults
 pub mod Items
-pub mod Command
+pub mod Numbers
+pub mod Options
+pub mod Parts
 pub mod Sorted

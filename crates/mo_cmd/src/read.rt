@@ -1,9 +1,12 @@
 //! Reading words: their parts, the fault of the first part that has one, and the command.
 
+ghost use Rattle.std.specs.Prelude.{◌≡◌, ◌<◌, All, length};
 ghost use Rattle.mo_types.specs.Gives.{Gives};
+ghost use Rattle.mo_cmd.specs.Command as command;
 ghost use Rattle.mo_cmd.specs.Command.{IsUsage, command_by, command_of, whole_command_of};
+ghost use Rattle.mo_cmd.specs.Sorted.{IsSorted, sorted_items};
 
-use crate::build::{has_input, numbers_of, switches_of, whole_of};
+use crate::build::{Numbers, Switches, has_input, numbers_of, switches_of, whole_of};
 use crate::command::{Command, UsageFault};
 use crate::faults::first_fault;
 use crate::lists::command_from;
@@ -11,6 +14,34 @@ use crate::parts::{Rows, parts_of};
 use crate::sorted::Sorted;
 use mo_types::{Arg, ArgList, UsageRule};
 use std::alloc::Global;
+
+fn or_no_input(has_input: bool, fault: Option<UsageFault>) -> Option<UsageFault>
+    ensures { result ≡ command.or_no_input has_input fault }
+{
+    if fault.is_some() || has_input {
+        return fault;
+    }
+    Some(UsageFault::At {
+        word: 0,
+        rule: UsageRule::NoInput,
+    })
+}
+
+fn line_fault(
+    rows: Rows,
+    words: &[Arg],
+    sorted: &Sorted,
+    switches: Switches,
+    numbers: Numbers,
+) -> Option<UsageFault>
+    requires sorted { IsSorted sorted.now }
+    requires within { All (λ part. part.at < length words.now) sorted.now.parts }
+    ensures { result ≡ command.line_fault rows words.now sorted.now.parts switches numbers (command.has_input (sorted_items words.now sorted.now)) }
+{
+    let whole = whole_of(rows, sorted, switches, numbers);
+    let fault = first_fault(whole, words, sorted.parts.as_slice());
+    or_no_input(has_input(sorted), fault)
+}
 
 #[tactic(auto, using(crate::proofs::ReadLemmas::reading))]
 fn read_by(alloc: Global, rows: Rows, words: &[Arg]) -> Result<Command, UsageFault>
@@ -20,17 +51,10 @@ fn read_by(alloc: Global, rows: Rows, words: &[Arg]) -> Result<Command, UsageFau
     let sorted = Sorted::new(alloc, parts)?;
     let switches = switches_of(words, &sorted);
     let numbers = numbers_of(words, &sorted);
-    let whole = whole_of(rows, &sorted, switches, numbers);
-    if let Some(fault) = first_fault(whole, words, sorted.parts.as_slice()) {
-        return Err(fault);
+    match line_fault(rows, words, &sorted, switches, numbers) {
+        Some(fault) => Err(fault),
+        None => Ok(command_from(alloc, words, &sorted, switches, numbers)?),
     }
-    if !has_input(&sorted) {
-        return Err(UsageFault::At {
-            word: 0,
-            rule: UsageRule::NoInput,
-        });
-    }
-    Ok(command_from(alloc, words, &sorted, switches, numbers)?)
 }
 
 /// Reads the words of a command line after the program's name (ld(1)), by the options that the link has yet:
