@@ -6,3 +6,5 @@ pub mod SortLemmas
 pub mod ItemLemmas
 pub mod ListLemmas
 pub mod ReadLemmas
+pub mod LineLemmas
+pub mod PathLemmas

@@ -5,14 +5,18 @@ mod build;
 mod command;
 mod faults;
 mod lists;
+mod name_list;
 mod numbers;
 mod options;
 mod parts;
+mod paths;
 mod read;
 mod sorted;
 mod values;
 
 pub use command::{Command, CommandInput, CommandInputList, InputForm, UsageFault};
+pub use name_list::read_list;
 pub use options::{CommandOption, Field};
 pub use parts::Rows;
+pub use paths::paths_for;
 pub use read::{read_all_words, read_words};
