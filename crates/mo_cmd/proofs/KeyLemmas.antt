@@ -35,16 +35,16 @@ miss : (those : List CommandOption) (word : List ℕ) → AreKeyed those → is_
 miss [] word keyed other = refl
 miss (option ∷ rest) word keyed other =
     let apart : is_word word option ≡ false = false_unless (is_word word option) (λ (same : is_word word option ≡ true).
-      let is : candidate word ≡ option = is_candidate option word keyed.0 same in
-      let no : is_word word option ≡ false = subst (λ (each : CommandOption). is_word word each ≡ false) is other in cc) in
+    let is : candidate word ≡ option = is_candidate option word keyed.0 same in
+    let no : is_word word option ≡ false = subst (λ (each : CommandOption). is_word word each ≡ false) is other in cc) in
     rw apart (miss rest word keyed.2 other)
 
 miss_short : (those : List CommandOption) (word : List ℕ) → AreKeyed those → length word < 2 → find (is_word word) those ≡ None
 miss_short [] word keyed short = refl
 miss_short (option ∷ rest) word keyed short =
     let apart : is_word word option ≡ false = false_unless (is_word word option) (λ (same : is_word word option ≡ true).
-      let long : ltb 1 (length word) ≡ true = subst (λ (w : List ℕ). ltb 1 (length w) ≡ true) ((bytes_eq-Decides (name_of option) word).0 same) keyed.1 in
-      contradiction (length word) long short) in
+    let long : ltb 1 (length word) ≡ true = subst (λ (w : List ℕ). ltb 1 (length w) ≡ true) ((bytes_eq-Decides (name_of option) word).0 same) keyed.1 in
+    contradiction (length word) long short) in
     rw apart (miss_short rest word keyed.2 short)
   where
     contradiction : (n : ℕ) → ltb 1 n ≡ true → n < 2 → ⊥

@@ -100,8 +100,8 @@ next_line text end found =
     let whole : take end text ++ get_or text end 0 ∷ drop (end + 1) text ≡ text =
     ap (λ rest. take end text ++ rest) (rw (drop-cons text end 0, add-one) refl) ∙ take-append-drop end text in
     let inner : All IsInner (take end text) = All-from_get_or IsInner (take end text) 0 (λ at within.
-      let early : at < end = omega arith in
-      subst IsInner (sym (get_or-take end text at 0 early)) (false_unless (is_line_end (get_or text at 0)) (found.0.before at (omega arith) early))) in
+    let early : at < end = omega arith in
+    subst IsInner (sym (get_or-take end text at 0 early)) (false_unless (is_line_end (get_or text at 0)) (found.0.before at (omega arith) early))) in
     ap (λ rest. take end text ∷ lines_of rest) (take_rest text (end + 1)) ∙ sym (slice_split_at is_line_end (take end text) (get_or text end 0) (drop (end + 1) text) inner found.1) ∙ ap lines_of whole
 
 pub ruleset cuts = (last_line, next_line)

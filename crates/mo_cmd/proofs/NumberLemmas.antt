@@ -56,7 +56,7 @@ pub count_passes : (base most : ℕ) (text : List ℕ) (at number byte digit mor
 count_passes base most text at number byte digit more counting some within is read sum past =
     let next : IsCounting base text (at + 1) more = count_goes_on base text at number byte digit more counting within is read sum in
     sym (counted base most text (omega arith) ∙ above most (number_after base 0 text) (λ value is_value.
-      let below : more ≤ value = grows base more value (drop (at + 1) text) some (next.same ∙ is_value) in omega arith))
+    let below : more ≤ value = grows base more value (drop (at + 1) text) some (next.same ∙ is_value) in omega arith))
 
 pub count_ends : (base most : ℕ) (text : List ℕ) (at number : ℕ) → IsCounting base text at number → 0 < length text → length text ≤ at → number ≤ most → Some number ≡ number_up_to base most text
 count_ends base most text at number counting some past within =

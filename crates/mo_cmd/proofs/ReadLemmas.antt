@@ -23,7 +23,7 @@ by_fault : (rows : Rows) (words : List (List ℕ)) (sorted : Sorted) (switches :
 by_fault rows words sorted switches numbers found same on counted first =
     by_sorted rows words sorted same ∙ ap (λ (fault : Option UsageFault). decided fault (command_from (sorted_items words sorted)))
     (ap (λ (s : Switches). line_fault rows words sorted.parts s (numbers_of (sorted_items words sorted)) (has_input (sorted_items words sorted))) (sym on)
-      ∙ ap (λ (n : Numbers). line_fault rows words sorted.parts switches n (has_input (sorted_items words sorted))) (sym counted) ∙ sym first)
+    ∙ ap (λ (n : Numbers). line_fault rows words sorted.parts switches n (has_input (sorted_items words sorted))) (sym counted) ∙ sym first)
 
 pub fault_read : (rows : Rows) (words : List (List ℕ)) (sorted : Sorted) (switches : Switches) (numbers : Numbers) (fault : UsageFault) → sorted.parts ≡ parts_of rows words
     → switches ≡ switches_of (sorted_items words sorted) → numbers ≡ numbers_of (sorted_items words sorted) → Some fault ≡ line_fault rows words sorted.parts switches numbers (has_input (sorted_items words sorted))

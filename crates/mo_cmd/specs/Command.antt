@@ -94,7 +94,11 @@ is_forced _ = false
 
 abbrev pub input_of : CommandOption → List ℕ → CommandInput
 input_of meant value = record {
-  form = input_form meant; value = value; weak = is_weak meant; reexport = is_reexport meant; forced = is_forced meant;
+  form = input_form meant;
+  value = value;
+  weak = is_weak meant;
+  reexport = is_reexport meant;
+  forced = is_forced meant;
 }
 
 -- 11.0

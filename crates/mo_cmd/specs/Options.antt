@@ -147,6 +147,7 @@ option_named word = find (λ each. bytes_eq (name_of each) word) options
 unfoldable pub key_of : List ℕ → ℕ
 key_of word =
     (16 * (length word % 7) + 6 * slice_index word 1 + 11 * slice_index word (length word / 2) + slice_index word (length word - 1)) % 112
+
 -- the field's place among the fields
 abbrev pub number_of : Field → ℕ
 number_of field.Kind = 0

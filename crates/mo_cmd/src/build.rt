@@ -217,7 +217,11 @@ pub fn whole_of(rows: Rows, sorted: &Sorted, switches: Switches, numbers: Number
     Whole {
         dylib: switches.dylib,
         excess: excess_of(rows, sorted),
-        narrow: narrow_of(switches.opcodes, numbers.headerpad, sorted.last(Field::Headerpad)),
+        narrow: narrow_of(
+            switches.opcodes,
+            numbers.headerpad,
+            sorted.last(Field::Headerpad),
+        ),
     }
 }
 

@@ -152,9 +152,7 @@ fn is_weak(option: CommandOption) -> bool
 {
     matches!(
         option,
-        CommandOption::WeakLibraryNamed
-            | CommandOption::WeakFramework
-            | CommandOption::WeakLibrary
+        CommandOption::WeakLibraryNamed | CommandOption::WeakFramework | CommandOption::WeakLibrary
     )
 }
 
@@ -189,7 +187,11 @@ fn inputs_at(alloc: Global, words: &[Arg], parts: &[Part]) -> Result<CommandInpu
 
 /// The inputs of a command line, in order.
 #[tactic(auto, using(crate::proofs::ItemLemmas::inputs_same))]
-pub fn inputs_of(alloc: Global, words: &[Arg], sorted: &Sorted) -> Result<CommandInputList, OutOfMemory>
+pub fn inputs_of(
+    alloc: Global,
+    words: &[Arg],
+    sorted: &Sorted,
+) -> Result<CommandInputList, OutOfMemory>
     requires { IsSorted sorted.now }
     ensures { IfOk result (λ inputs. inputs ≡ command.inputs_of (sorted_items words.now sorted.now)) }
 {

@@ -275,8 +275,7 @@ impl CommandOption {
         ensures { result ≡ options.field_of self }
     {
         match self {
-            CommandOption::Execute
-            | CommandOption::Dylib => Field::Kind,
+            CommandOption::Execute | CommandOption::Dylib => Field::Kind,
             CommandOption::Output => Field::Output,
             CommandOption::PlatformVersion => Field::Platform,
             CommandOption::Entry => Field::Entry,
@@ -298,12 +297,10 @@ impl CommandOption {
             | CommandOption::Path => Field::Inputs,
             CommandOption::AllLoad => Field::AllLoad,
             CommandOption::DeadStrip => Field::DeadStrip,
-            CommandOption::InstallName
-            | CommandOption::DylibInstallName => Field::Install,
-            CommandOption::CurrentVersion
-            | CommandOption::DylibCurrentVersion => Field::Current,
-            CommandOption::CompatibilityVersion
-            | CommandOption::DylibCompatibilityVersion => Field::Compatible,
+            CommandOption::InstallName | CommandOption::DylibInstallName => Field::Install,
+            CommandOption::CurrentVersion | CommandOption::DylibCurrentVersion => Field::Current,
+            CommandOption::CompatibilityVersion | CommandOption::DylibCompatibilityVersion =>
+                Field::Compatible,
             CommandOption::Rpath => Field::Rpaths,
             CommandOption::ExportedSymbolsList => Field::ExportFiles,
             CommandOption::ExportedSymbol => Field::Exports,
@@ -315,8 +312,7 @@ impl CommandOption {
             CommandOption::BranchReach => Field::Reach,
             CommandOption::Generate => Field::Generate,
             CommandOption::Icf => Field::Folding,
-            CommandOption::FixupChains
-            | CommandOption::NoFixupChains => Field::Fixups,
+            CommandOption::FixupChains | CommandOption::NoFixupChains => Field::Fixups,
             _ => Field::Nothing,
         }
     }

@@ -171,7 +171,14 @@ fn searched(
     let stem = stem_of(alloc, input.form, input.value.as_slice())?;
     let root = root_of(command);
     let mut found = Items::new(alloc);
-    add_all_given(alloc, &mut found, root, directories, stem.as_slice(), input.form)?;
+    add_all_given(
+        alloc,
+        &mut found,
+        root,
+        directories,
+        stem.as_slice(),
+        input.form,
+    )?;
     add_defaults(alloc, &mut found, root, stem.as_slice(), input.form)?;
     Ok(found)
 }
