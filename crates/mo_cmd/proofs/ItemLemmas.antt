@@ -1,16 +1,15 @@
 -- The items of each field are those of its parts.
-use Rattle.std.proofs.Common.{◌≡◌, ℕ, ◌+◌, ◌-◌, ◌∷◌, [], List, length, map, filter, Bool, true, false, cond, not, eqb, Option, Some, None, refl, sym, ap, ◌∙◌, subst, arith}
+use Rattle.std.proofs.Common.{◌≡◌, ℕ, ◌-◌, ◌∷◌, [], List, length, map, Bool, true, false, cond, Option, Some, None, refl, sym, ap, ◌∙◌}
 use Rattle.std.specs.Prelude.{slice_get, slice_index_or}
 use Rattle.std.specs.Option.{option_map}
 use Rattle.std.proofs.lemmas.Option.{slice_get-map}
 use Rattle.std.proofs.lemmas.List.{length-map}
-use Rattle.mo_cmd.specs.declared.options.CommandOption.{CommandOption}
 use Rattle.mo_cmd.specs.declared.options.Field.{Field}
 use Rattle.mo_cmd.specs.declared.options.Field.TheVariants.{Inputs}
 use Rattle.mo_cmd.specs.declared.parts.Part.{Part}
 use Rattle.mo_cmd.specs.declared.sorted.Sorted.{Sorted}
 use Rattle.mo_cmd.specs.Items.{Item, item_of, values_at, value_of}
-use Rattle.mo_cmd.specs.Command.{gives, given, last, last_of, last_values, last_value, value_number, last_option, is_given, all_values, parts_for, input_of, inputs_of}
+use Rattle.mo_cmd.specs.Command.{gives, given, last, last_of, last_values, value_number, last_option, all_values, parts_for, input_of, inputs_of}
 use Rattle.mo_cmd.specs.Sorted.{sorted_items}
 
 chosen : (test : Bool) (words : List (List ℕ)) (part : Part) (items : List Item) (parts : List Part) → items ≡ map (item_of words) parts

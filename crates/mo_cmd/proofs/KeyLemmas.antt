@@ -1,5 +1,5 @@
 -- The keys of the options' words: an option is found by the key of its word, and no other one has that word.
-use Rattle.std.proofs.Common.{◌≡◌, ℕ, zero, suc, ◌+◌, ◌&&◌, ◌<◌, ◌≤◌, ◌∷◌, [], List, length, get_or, Bool, true, false, cond, ◌||◌, Option, Some, None, eqb, ltb, refl, sym, ap, ◌∙◌, subst, arith}
+use Rattle.std.proofs.Common.{◌≡◌, ℕ, zero, suc, ◌&&◌, ◌<◌, ◌∷◌, [], List, length, get_or, Bool, true, false, cond, ◌||◌, Some, None, eqb, ltb, refl, sym, ap, ◌∙◌, subst, arith}
 use Rattle.std.specs.Prelude.{bytes_eq}
 use Rattle.std.specs.List.{find, list_any, list_all}
 use Rattle.std.proofs.lemmas.Slice.Eq.{bytes_eq-Decides}

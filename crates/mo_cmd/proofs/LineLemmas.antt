@@ -1,16 +1,14 @@
 -- The lines of a list, and the white space at their ends.
-use Rattle.std.proofs.Common.{◌≡◌, ℕ, zero, suc, ◌+◌, ◌-◌, ◌<◌, ◌≤◌, ◌++◌, ◌∷◌, [], List, length, take, drop, get_or, reverse, Bool, true, false, cond, ◌||◌, eqb, All, Option, Some, None, Result, Ok, Err, refl, sym, ap, ◌∙◌, subst, arith, add-one, drop-cons, append-nil, append_assoc}
-use Rattle.std.specs.List.{list_any, slice_split}
-use Rattle.std.proofs.lemmas.Grind.{common_steps}
+use Rattle.std.proofs.Common.{◌≡◌, ℕ, ◌+◌, ◌-◌, ◌<◌, ◌≤◌, ◌++◌, ◌∷◌, [], List, length, take, drop, get_or, reverse, Bool, true, false, cond, ◌||◌, eqb, All, Some, None, Ok, Err, refl, sym, ap, ◌∙◌, subst, arith, add-one, drop-cons, append-nil, append_assoc}
+use Rattle.std.specs.List.{list_any}
 use Rattle.std.proofs.lemmas.List.{take-append-drop, take_all, take_more, take_rest, get_or-take, length-take-le, reverse-append, reverse-reverse}
 use Rattle.std.proofs.lemmas.List.Elements.{All-from_get_or}
 use Rattle.std.proofs.lemmas.List.Splits.{slice_split_none, slice_split_at}
 use Rattle.memchr.specs.Find.{IsFirstByte, is_byte}
 use Rattle.mo_types.specs.declared.cause.Feature.TheVariants.{Wildcard}
-use Rattle.mo_types.specs.declared.object_fault.ObjFault.{ObjFault}
 use Rattle.mo_types.specs.declared.object_fault.ObjFault.TheVariants.{Unsupported}
 use Rattle.mo_cmd.specs.Faults.{has_wildcard}
-use Rattle.mo_cmd.specs.Lists.{is_white, without_front, without_end, trimmed, is_name, names_in, lines_of, lines_left, unless_wild, list_of}
+use Rattle.mo_cmd.specs.Lists.{is_white, without_front, without_end, trimmed, is_name, names_in, lines_of, list_of}
 
 -- Trimming
 

@@ -1,10 +1,10 @@
 -- The digits of a number, read one after the other.
-use Rattle.std.proofs.Common.{◌≡◌, ℕ, ◌+◌, ◌*◌, ◌<◌, ◌≤◌, ◌∷◌, [], List, length, drop, get_or, Bool, true, false, Option, Some, None, eqb, refl, sym, ap, ◌∙◌, subst, arith, add-one, drop-cons}
+use Rattle.std.proofs.Common.{◌≡◌, ℕ, ◌+◌, ◌*◌, ◌<◌, ◌≤◌, ◌∷◌, [], List, length, drop, get_or, false, Option, Some, None, eqb, refl, sym, ap, ◌∙◌, arith, add-one, drop-cons}
 use Rattle.std.proofs.lemmas.List.{drop_all}
 use Rattle.std.specs.Option.{option_and_then}
 use Rattle.std.specs.Prelude.{nat_le}
 use Rattle.std.proofs.lemmas.Grind.{common_steps}
-use Rattle.mo_cmd.specs.Numbers.{digit_in, number_after, number_of, number_up_to, where_true}
+use Rattle.mo_cmd.specs.Numbers.{digit_in, number_after, number_up_to, where_true}
 
 pub record IsCounting (base : ℕ) (text : List ℕ) (at number : ℕ) : Type 0 where
   pub same : number_after base number (drop at text) ≡ number_after base 0 text

@@ -1,5 +1,5 @@
 -- The default directories, one after the other.
-use Rattle.std.proofs.Common.{◌≡◌, ℕ, ◌++◌, ◌∷◌, [], List, refl, sym, ap, ◌∙◌, append_assoc, append-nil}
+use Rattle.std.proofs.Common.{◌≡◌, ℕ, ◌++◌, ◌∷◌, [], List, sym, ap, ◌∙◌, append_assoc, append-nil}
 use Rattle.std.specs.Prelude.{flat_map}
 use Rattle.mo_cmd.specs.declared.command.InputForm.{InputForm}
 use Rattle.mo_cmd.specs.Paths.{in_directory, defaults_of}

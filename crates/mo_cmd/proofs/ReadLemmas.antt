@@ -1,16 +1,13 @@
 -- The command of words is that of their parts.
-use Rattle.std.proofs.Common.{◌≡◌, ℕ, List, Bool, true, false, Option, Some, None, Result, Ok, Err, refl, sym, ap, ◌∙◌, subst}
-use Rattle.mo_types.specs.Gives.{Gives}
+use Rattle.std.proofs.Common.{◌≡◌, ℕ, List, Option, Some, None, Ok, Err, refl, sym, ap, ◌∙◌}
 use Rattle.mo_cmd.specs.declared.command.Command.{Command}
 use Rattle.mo_cmd.specs.declared.command.UsageFault.{UsageFault}
 use Rattle.mo_cmd.specs.declared.build.Numbers.{Numbers}
 use Rattle.mo_cmd.specs.declared.build.Switches.{Switches}
-use Rattle.mo_cmd.specs.declared.parts.Part.{Part}
 use Rattle.mo_cmd.specs.declared.parts.Rows.{Rows}
 use Rattle.mo_cmd.specs.declared.sorted.Sorted.{Sorted}
 use Rattle.mo_cmd.specs.Parts.{parts_of}
-use Rattle.mo_cmd.specs.Faults.{first_fault}
-use Rattle.mo_cmd.specs.Command.{IsUsage, command_by, command_from, decided, decided_of, has_input, line_fault, switches_of, numbers_of}
+use Rattle.mo_cmd.specs.Command.{command_by, command_from, decided, decided_of, has_input, line_fault, switches_of, numbers_of}
 use Rattle.mo_cmd.specs.Sorted.{sorted_items}
 
 by_sorted : (rows : Rows) (words : List (List ℕ)) (sorted : Sorted) → sorted.parts ≡ parts_of rows words → command_by rows words ≡ decided_of rows words sorted.parts (sorted_items words sorted)

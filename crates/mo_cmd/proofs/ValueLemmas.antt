@@ -1,5 +1,5 @@
 -- The values of an option.
-use Rattle.std.proofs.Common.{◌≡◌, ℕ, ◌+◌, ◌-◌, ◌<◌, ◌≤◌, [], List, length, take, drop, refl, sym, ap, ◌∙◌, arith}
+use Rattle.std.proofs.Common.{◌≡◌, ℕ, ◌+◌, ◌-◌, ◌≤◌, [], List, length, take, drop, sym, ap, ◌∙◌, arith}
 use Rattle.std.proofs.Math.Seq.{take-nil}
 use Rattle.std.proofs.lemmas.List.{drop_all, take_all, take_rest}
 use Rattle.mo_cmd.specs.declared.parts.Part.{Part}

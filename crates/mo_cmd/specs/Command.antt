@@ -1,5 +1,5 @@
 -- The command of a command line: each field is the last of its items, all of them in order, or whether one is there.
-use Rattle.std.specs.Prelude.{ℕ, ◌+◌, ◌-◌, ◌==◌, ◌&&◌, ◌||◌, nat_lt, Bool, true, false, not, List, [], ◌∷◌, codes, map, filter, length, bytes_eq, slice_index_or, slice_get, unwrap_or, Option, None, Some, Result, Ok, Err, if◌then◌else◌}
+use Rattle.std.specs.Prelude.{ℕ, ◌-◌, ◌==◌, ◌&&◌, ◌||◌, nat_lt, Bool, true, false, not, List, [], codes, map, filter, length, bytes_eq, slice_index_or, slice_get, unwrap_or, Option, None, Some, Result, Ok, Err, if◌then◌else◌}
 use Rattle.std.specs.Option.{option_map, option_and_then}
 use Rattle.mo_types.specs.declared.cause.UsageRule.TheVariants.{NoInput}
 use Rattle.mo_cmd.specs.declared.command.Command.{Command}
@@ -23,7 +23,7 @@ use Rattle.mo_cmd.specs.declared.parts.Rows.{Rows}
 use Rattle.mo_cmd.specs.declared.parts.Rows.TheVariants.{All, Brought}
 use Rattle.mo_cmd.specs.Options.{field_of, number_of}
 use Rattle.mo_cmd.specs.Parts.{inputs_linked, parts_of}
-use Rattle.mo_cmd.specs.Items.{Item, items_of, item_of, value_of}
+use Rattle.mo_cmd.specs.Items.{Item, items_of, value_of}
 use Rattle.mo_cmd.specs.Numbers.{version_of, threads_of, functions_of, reach_of, pad_of}
 use Rattle.mo_cmd.specs.Faults.{first_fault, is_reexport}
 

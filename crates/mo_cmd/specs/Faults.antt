@@ -1,8 +1,8 @@
 -- The faults of a command line. A word's number counts from 1. The part that comes first decides; in it the option's
 -- word comes before its values, and there the first rule of this list.
-use Rattle.std.specs.Prelude.{ℕ, ◌+◌, ◌==◌, ◌&&◌, ◌||◌, nat_lt, Bool, true, false, not, is_some, List, [], ◌∷◌, codes, length, map, bytes_eq, slice_index_or, Option, None, Some, if◌then◌else◌}
+use Rattle.std.specs.Prelude.{ℕ, ◌+◌, ◌==◌, ◌&&◌, ◌||◌, nat_lt, Bool, true, false, not, is_some, List, [], codes, length, bytes_eq, slice_index_or, Option, None, Some, if◌then◌else◌}
 use Rattle.std.specs.List.{list_any, position}
-use Rattle.std.specs.Option.{option_map, option_map_or}
+use Rattle.std.specs.Option.{option_map}
 use Rattle.mo_types.specs.Scan.{first_some}
 use Rattle.mo_types.specs.declared.cause.UsageRule.{UsageRule}
 use Rattle.mo_types.specs.declared.cause.UsageRule.TheVariants.{Unknown, NoValue, BadValue, DylibOnly}
@@ -12,11 +12,9 @@ use Rattle.mo_cmd.specs.declared.faults.Whole.{Whole}
 use Rattle.mo_cmd.specs.declared.options.CommandOption.{CommandOption}
 use Rattle.mo_cmd.specs.declared.options.CommandOption.TheVariants as option
 use Rattle.mo_cmd.specs.declared.parts.Part.{Part}
-use Rattle.mo_cmd.specs.declared.values.Form.{Form}
-use Rattle.mo_cmd.specs.declared.values.Form.TheVariants.{Separate}
 use Rattle.mo_cmd.specs.Options.{values_of}
 use Rattle.mo_cmd.specs.Parts.{has_nul}
-use Rattle.mo_cmd.specs.Items.{following, form_of, value_of}
+use Rattle.mo_cmd.specs.Items.{following, value_of}
 use Rattle.mo_cmd.specs.Numbers.{version_of, threads_of, functions_of, reach_of, pad_of}
 
 -- `*`, `?` or `[`

@@ -1,6 +1,6 @@
 -- Lists of names, as those of exported symbols (ld(1)): one name a line, without white space at its ends; empty lines
 -- and lines that begin with `#` are passed over.
-use Rattle.std.specs.Prelude.{ℕ, ◌==◌, ◌&&◌, ◌||◌, Bool, true, false, not, List, [], ◌∷◌, map, filter, reverse, Option, None, Some, Result, Ok, Err, if◌then◌else◌}
+use Rattle.std.specs.Prelude.{ℕ, ◌==◌, ◌||◌, Bool, true, false, not, List, [], ◌∷◌, map, filter, reverse, Option, None, Some, Result, Ok, Err, if◌then◌else◌}
 use Rattle.std.specs.List.{list_any, slice_split}
 use Rattle.mo_types.specs.declared.cause.Feature.TheVariants.{Wildcard}
 use Rattle.mo_types.specs.declared.object_fault.ObjFault.{ObjFault}

@@ -1,5 +1,5 @@
 -- What the words of a command line are: options with their values, paths, and words that no row has.
-use Rattle.std.specs.Prelude.{ℕ, zero, suc, ◌+◌, ◌==◌, ◌&&◌, nat_lt, nat_eq, Bool, true, false, not, List, [], ◌∷◌, length, take, drop, Option, None, Some, if◌then◌else◌}
+use Rattle.std.specs.Prelude.{ℕ, zero, suc, ◌+◌, ◌==◌, ◌&&◌, nat_lt, nat_eq, Bool, true, false, not, List, [], ◌∷◌, length, if◌then◌else◌}
 use Rattle.std.specs.List.{list_any, starts_with}
 use Rattle.std.specs.Option.{option_map_or}
 use Rattle.mo_cmd.specs.declared.options.CommandOption.{CommandOption}
