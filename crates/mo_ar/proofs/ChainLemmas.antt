@@ -3,8 +3,11 @@ use Rattle.std.proofs.Common.{tests, ◌≡◌, ℕ, zero, suc, ◌+◌, ◌<◌
 use Rattle.std.specs.Option.{option_map_or}
 use Rattle.std.proofs.lemmas.List.{map-append, get_or_append_left}
 use Rattle.std.proofs.Math.Seq.{get_or-append_seam}
-use Rattle.mo_ar.specs.Chain.{Link, Leads, IsChain, IsRising, IsWalked, chain, chain_from, end_of}
-use Rattle.mo_ar.specs.Member.{IsWithin, is_header, long_name, member_at, name_at, named, next_of, size_at, sized}
+use Rattle.mo_ar.specs.Chain.{Link, Leads, IsChain, chain, chain_from, end_of}
+use Rattle.mo_ar.specs.inner.Tables.{IsRising}
+use Rattle.mo_ar.specs.inner.Tables.{IsWalked}
+use Rattle.mo_ar.specs.Member.{is_header, long_name, member_at, name_at, named, next_of, size_at, sized}
+use Rattle.mo_ar.specs.inner.Tables.{IsWithin}
 use Rattle.mo_ar.specs.declared.chain.Walked.{Walked}
 use Rattle.mo_ar.specs.declared.member.Member.{Member}
 

@@ -5,8 +5,9 @@ use Rattle.std.proofs.lemmas.List.Elements.{All-append, All-cons, All-nil}
 use Rattle.std.specs.Option.{option_map}
 use Rattle.mo_types.proofs.Each.{IsReading, starts_reading, goes_on, stops, has_read}
 use Rattle.mo_ar.specs.Contents.{fault, is_whole, offer_at, offer_or_fault, offers_in, pair_count, strings_of}
-use Rattle.mo_ar.specs.Index.{offers_of}
-use Rattle.mo_ar.specs.Offers.{IsEntry, offer_of}
+use Rattle.mo_ar.specs.inner.Index.{offers_of}
+use Rattle.mo_ar.specs.inner.Index.{IsEntry}
+use Rattle.mo_ar.specs.inner.Index.{offer_of}
 use Rattle.mo_ar.specs.declared.offers.Entry.{Entry}
 
 -- the pairs below an index are read

@@ -1,7 +1,7 @@
 -- The hash of a name, byte by byte.
 use Rattle.std.proofs.Common.{◌≡◌, ℕ, ◌+◌, ◌*◌, ◌%◌, ◌^◌, ◌<◌, ◌≤◌, List, length, drop, get_or, refl, sym, ◌∙◌, arith, add-one, drop-cons}
 use Rattle.std.proofs.lemmas.List.{drop_all}
-use Rattle.mo_ar.specs.Index.{hash_from}
+use Rattle.mo_ar.specs.inner.Index.{hash_from}
 
 -- the bytes below an index are read
 pub record IsHashing (name : List ℕ) (i hash : ℕ) : Type 0 where

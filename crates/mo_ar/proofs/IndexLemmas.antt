@@ -6,8 +6,9 @@ use Rattle.std.proofs.lemmas.Bool.{cases_eq}
 use Rattle.std.proofs.lemmas.Option.{slice_get_cases, slice_get-get_or}
 use Rattle.std.proofs.lemmas.Slice.Eq.{bytes_eq-Decides}
 use Rattle.std.specs.Str.{bytes_eq}
-use Rattle.mo_ar.specs.Index.{BeginsAt, IsChained, IsHead, IsIndex, IsLinked, bucket, name_at, offers_of}
-use Rattle.mo_ar.specs.Offers.{first_offer, lesser, offer_of}
+use Rattle.mo_ar.specs.inner.Index.{BeginsAt, IsChained, IsHead, IsIndex, IsLinked, bucket, name_at, offers_of}
+use Rattle.mo_ar.specs.Offers.{first_offer, lesser}
+use Rattle.mo_ar.specs.inner.Index.{offer_of}
 use Rattle.mo_ar.specs.Text.{part}
 use Rattle.mo_ar.specs.declared.offers.Entry.{Entry}
 use Rattle.mo_ar.specs.declared.offers.Offer.{Offer}

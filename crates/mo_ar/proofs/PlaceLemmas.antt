@@ -2,8 +2,10 @@
 use Rattle.std.proofs.Common.{tests, ◌≡◌, ℕ, zero, suc, ◌+◌, ◌-◌, ◌/◌, ◌<◌, ◌≤◌, ◌==◌, List, [], ◌∷◌, length, get_or, true, false, Some, None, refl, sym, ◌∙◌, arith, below_more}
 use Rattle.std.proofs.Math.ListN.{set, length-set}
 use Rattle.std.proofs.lemmas.List.{get_or-set_same, get_or-set_other, get_or_past}
-use Rattle.mo_ar.specs.Chain.{IsRising}
-use Rattle.mo_ar.specs.Places.{IsNumbered, number_from, number_of, stands}
+use Rattle.mo_ar.specs.inner.Tables.{IsRising}
+use Rattle.mo_ar.specs.Places.{number_from, number_of}
+use Rattle.mo_ar.specs.inner.Tables.{IsNumbered}
+use Rattle.mo_ar.specs.inner.Tables.{stands}
 
 -- the places below an index have their numbers
 pub record IsFilling (size : ℕ) (places cells : List ℕ) (n : ℕ) : Type 0 where

@@ -1,8 +1,7 @@
 -- The chain of an archive's headers.
-use Rattle.std.specs.Prelude.{ℕ, zero, suc, ◌+◌, ◌≡◌, ◌<◌, ◌≤◌, List, [], ◌∷◌, length, map, slice_index, Some, None}
+use Rattle.std.specs.Prelude.{ℕ, zero, suc, ◌≡◌, List, [], ◌∷◌, length, Some, None}
 use Rattle.std.specs.Option.{option_map_or}
 use Rattle.mo_ar.specs.Member.{member_at, next_of}
-use Rattle.mo_ar.specs.declared.chain.Walked.{Walked}
 use Rattle.mo_ar.specs.declared.member.Member.{Member}
 
 -- a member and the place of its header
@@ -35,15 +34,3 @@ chain bytes at = chain_from bytes (length bytes) at
 abbrev pub end_of : ℕ → List Link → ℕ
 end_of at [] = at
 end_of at (link ∷ links) = end_of (next_of link.member) links
-
--- headers stand apart, each after the one before it, in a file of this size
-pub record IsRising (size : ℕ) (places : List ℕ) : Type 0 where
-  pub apart : (i k : ℕ) → i < k → k < length places → slice_index places i + 60 ≤ slice_index places k
-  pub within : (i : ℕ) → i < length places → slice_index places i + 60 ≤ size
-
--- what a walk along the chain answers
-pub record IsWalked (bytes : List ℕ) (from : ℕ) (walked : Walked) : Type 0 where
-  pub places : walked.places.items ≡ map (λ link. link.place) (chain bytes from)
-  pub members : walked.members.items ≡ map (λ link. link.member) (chain bytes from)
-  pub end : walked.end ≡ end_of from (chain bytes from)
-  pub rising : IsRising (length bytes) walked.places.items

@@ -1,7 +1,7 @@
 -- The table of contents of an archive (`mach-o/ranlib.h`; the layout of ranlib(5)): the bytes of its pairs, the
 -- pairs, the bytes of its strings, the strings. A pair has the place of a name among the strings and the place of a
 -- member's header in the file.
-use Rattle.std.specs.Prelude.{ℕ, ◌+◌, ◌*◌, ◌/◌, ◌%◌, ◌≡◌, ◌≤◌, ◌==◌, ◌&&◌, ◌||◌, Bool, nat_le, List, length, drop, codes, Option, Some, None, Result, Ok, Err, if◌then◌else◌}
+use Rattle.std.specs.Prelude.{ℕ, ◌+◌, ◌*◌, ◌/◌, ◌%◌, ◌==◌, ◌&&◌, ◌||◌, Bool, nat_le, List, length, drop, codes, Option, Some, None, Result, Ok, Err, if◌then◌else◌}
 use Rattle.std.specs.Str.{bytes_eq}
 use Rattle.memchr.specs.Find.{is_byte, places, first_of}
 use Rattle.mo_bytes.specs.Number.{number}
@@ -9,11 +9,8 @@ use Rattle.mo_types.specs.Gives.{each_from}
 use Rattle.mo_types.specs.declared.cause.Rule.TheVariants.{Contents}
 use Rattle.mo_types.specs.declared.object_fault.ObjFault.{ObjFault}
 use Rattle.mo_types.specs.declared.object_fault.ObjFault.TheVariants.{Malformed}
-use Rattle.mo_ar.specs.Index.{offers_of}
-use Rattle.mo_ar.specs.Faults.{IsObjFault}
 use Rattle.mo_ar.specs.Places.{number_of}
 use Rattle.mo_ar.specs.Text.{part}
-use Rattle.mo_ar.specs.declared.offers.Entry.{Entry}
 use Rattle.mo_ar.specs.declared.offers.Offer.{Offer}
 
 -- the name of the member that is the table
@@ -45,10 +42,6 @@ abbrev pub is_whole : List ℕ → Bool
 is_whole table =
     nat_le 8 (length table) && pairs_size table % 8 == 0 && nat_le (8 + pairs_size table) (length table)
     && nat_le (8 + pairs_size table + strings_size table) (length table)
-
--- a table whose pairs and strings lie within it
-pub record IsTable (table : List ℕ) : Type 0 where
-  pub within : 8 + pairs_size table + strings_size table ≤ length table
 
 unfoldable pub strings_of : List ℕ → List ℕ
 strings_of table = part table (8 + pairs_size table) (strings_size table)
@@ -85,8 +78,3 @@ offer_or_fault table places i = or_fault (offer_at table places i)
 -- what all pairs offer, in their order, where the members' headers stand at these places
 unfoldable pub offers_in : List ℕ → List ℕ → Result (List Offer) ObjFault
 offers_in table places = if is_whole table then each_from (offer_or_fault table places) 0 (pair_count table) else Err fault
-
--- entries are read whose offers are these, or there is this fault
-abbrev pub GivesEntries : {Z : Type 0} → (Z → List Entry) → List ℕ → Result Z ObjFault → Result (List Offer) ObjFault → Type 0
-GivesEntries items strings (Ok entries) given = given ≡ Ok (offers_of strings (items entries))
-GivesEntries items strings (Err e) given = IsObjFault e → given ≡ Err e

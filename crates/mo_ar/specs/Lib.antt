@@ -2,11 +2,10 @@ pub mod Archive
 pub mod Chain
 pub mod Contents
 pub mod Faults
-pub mod Index
+pub mod inner
 pub mod Member
 pub mod OfferAt
 pub mod Offers
 pub mod Places
 pub mod Slice
-pub mod Spans
 pub mod Text

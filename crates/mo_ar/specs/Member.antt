@@ -1,5 +1,5 @@
 -- A member of an archive and its header, struct ar_hdr of 60 bytes (ar(5); `ar.h`).
-use Rattle.std.specs.Prelude.{ℕ, ◌+◌, ◌-◌, ◌%◌, ◌≤◌, ◌&&◌, Bool, nat_eq, nat_le, List, length, drop, codes, Option, Some, None, if◌then◌else◌}
+use Rattle.std.specs.Prelude.{ℕ, ◌+◌, ◌-◌, ◌%◌, ◌&&◌, Bool, nat_eq, nat_le, List, length, drop, codes, Option, Some, None, if◌then◌else◌}
 use Rattle.std.specs.List.{starts_with}
 use Rattle.std.specs.Str.{bytes_eq}
 use Rattle.mo_ar.specs.Text.{part, trimmed, decimal}
@@ -49,8 +49,3 @@ member_at bytes at = if is_header bytes at then sized bytes at (size_at bytes at
 -- where the next header stands: behind the data, at an even place
 abbrev pub next_of : Member → ℕ
 next_of member = member.from + member.size + (member.from + member.size) % 2
-
--- a member whose header stands at a place, in a file of this size
-pub record IsWithin (size at : ℕ) (member : Member) : Type 0 where
-  pub header : at + 60 ≤ member.from
-  pub contents : member.from + member.size ≤ size

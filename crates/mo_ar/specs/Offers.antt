@@ -1,16 +1,7 @@
 -- What an archive offers, and the look-up by name.
-use Rattle.std.specs.Prelude.{ℕ, ◌+◌, ◌≡◌, ◌≤◌, min, List, [], ◌∷◌, length, slice_get, All, Option, Some, None, if◌then◌else◌}
+use Rattle.std.specs.Prelude.{ℕ, ◌≡◌, ◌≤◌, min, List, [], ◌∷◌, slice_get, All, Option, Some, None, if◌then◌else◌}
 use Rattle.std.specs.Str.{bytes_eq}
-use Rattle.mo_ar.specs.Text.{part}
-use Rattle.mo_ar.specs.declared.offers.Entry.{Entry}
 use Rattle.mo_ar.specs.declared.offers.Offer.{Offer}
-
--- an offer by the place of its name among the strings
-abbrev pub offer_of : List ℕ → Entry → Offer
-offer_of strings entry = record { name = part strings entry.at entry.size; member = entry.member }
-
-abbrev pub IsEntry : List ℕ → Entry → Type 0
-IsEntry strings entry = entry.at + entry.size ≤ length strings
 
 abbrev pub lesser : ℕ → Option ℕ → ℕ
 lesser member None = member

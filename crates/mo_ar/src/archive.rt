@@ -6,9 +6,9 @@ ghost use Rattle.mo_types.specs.Kind as kinds;
 ghost use Rattle.mo_types.specs.declared.kind.Kind.TheVariants as kind;
 ghost use Rattle.mo_ar.specs.Archive as archives;
 ghost use Rattle.mo_ar.specs.Contents as contents;
-ghost use Rattle.mo_ar.specs.Chain.{IsRising};
+ghost use Rattle.mo_ar.specs.inner.Tables.{IsRising};
 ghost use Rattle.mo_ar.specs.Faults.{IsObjFault};
-ghost use Rattle.mo_ar.specs.Spans.{IsSpan};
+ghost use Rattle.mo_ar.specs.inner.Tables.{IsSpan};
 
 use crate::chain::walk;
 use crate::contents::{FAULT, entries_of, is_contents, is_whole, strings_of};

@@ -1,7 +1,7 @@
 //! The chain of an archive's headers (ar(5)).
 
 ghost use Rattle.std.specs.Prelude.{IfOk};
-ghost use Rattle.mo_ar.specs.Chain.{IsWalked};
+ghost use Rattle.mo_ar.specs.inner.Tables.{IsWalked};
 
 use crate::member::{Member, member_at, next_of};
 use mo_types::{Bytes, OutOfMemory};

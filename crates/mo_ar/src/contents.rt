@@ -4,9 +4,11 @@ ghost use Rattle.std.specs.Prelude.{◌≡◌, ◌+◌, ◌*◌, ◌/◌, ◌<�
 ghost use Rattle.std.specs.Option.{option_map};
 ghost use Rattle.mo_bytes.specs.Number as numbers;
 ghost use Rattle.mo_ar.specs.Contents as contents;
-ghost use Rattle.mo_ar.specs.Contents.{IsTable, GivesEntries};
-ghost use Rattle.mo_ar.specs.Offers.{IsEntry, offer_of};
-ghost use Rattle.mo_ar.specs.Places.{IsNumbered};
+ghost use Rattle.mo_ar.specs.inner.Tables.{IsTable};
+ghost use Rattle.mo_ar.specs.inner.Tables.{GivesEntries};
+ghost use Rattle.mo_ar.specs.inner.Index.{IsEntry};
+ghost use Rattle.mo_ar.specs.inner.Index.{offer_of};
+ghost use Rattle.mo_ar.specs.inner.Tables.{IsNumbered};
 
 use crate::offers::Entry;
 use crate::places::number_of;

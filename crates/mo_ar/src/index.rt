@@ -2,17 +2,19 @@
 
 ghost use Rattle.std.specs.Prelude.{◌≡◌, ◌+◌, ◌*◌, ◌%◌, ◌^◌, ◌<◌, ◌≤◌, length, map, drop, slice_index, All, IfOk, Some};
 ghost use Rattle.std.specs.Str.{bytes_eq};
-ghost use Rattle.mo_ar.specs.Index as index;
-ghost use Rattle.mo_ar.specs.Index.{BeginsAt, IsChained, IsIndex, IsIndexOf, offers_of};
+ghost use Rattle.mo_ar.specs.inner.Index as index;
+ghost use Rattle.mo_ar.specs.inner.Index.{BeginsAt, IsChained, IsIndex, IsIndexOf, offers_of};
 ghost use Rattle.mo_ar.specs.Offers as offers;
-ghost use Rattle.mo_ar.specs.Offers.{IsEntry, first_offer, offer_of};
+ghost use Rattle.mo_ar.specs.Offers.{first_offer};
+ghost use Rattle.mo_ar.specs.inner.Index.{IsEntry};
+ghost use Rattle.mo_ar.specs.inner.Index.{offer_of};
 ghost use Rattle.mo_ar.specs.Text.{part};
 
 use crate::offers::Entry;
 use mo_types::OutOfMemory;
 use std::alloc::Global;
 
-#[tactic(auto, using(crate::proofs::HashLemmas::hashes), unfolding(crate::specs::Index::hash_from))]
+#[tactic(auto, using(crate::proofs::HashLemmas::hashes), unfolding(crate::specs::inner::Index::hash_from))]
 fn hash(name: &[u8]) -> u64
     ensures { result ≡ index.hash_from 0 name.now }
 {
@@ -24,7 +26,7 @@ fn hash(name: &[u8]) -> u64
 }
 
 /// The bucket of a name, of some buckets.
-#[tactic(auto, unfolding(crate::specs::Index::bucket))]
+#[tactic(auto, unfolding(crate::specs::inner::Index::bucket))]
 pub fn bucket(name: &[u8], count: usize) -> usize
     requires { 0 < count }
     ensures exact { result ≡ index.bucket count name.now }

@@ -2,7 +2,7 @@
 
 ghost use Rattle.std.specs.Prelude.{◌≡◌, ◌+◌, ◌^◌, ◌≤◌, ◌<◌, true, length, IfOk, IfSome};
 ghost use Rattle.mo_ar.specs.Member as members;
-ghost use Rattle.mo_ar.specs.Member.{IsWithin};
+ghost use Rattle.mo_ar.specs.inner.Tables.{IsWithin};
 ghost use Rattle.mo_ar.specs.Text as texts;
 
 use crate::text::{decimal, trimmed_len};

@@ -1,8 +1,9 @@
 //! What an archive offers, with an index by name.
 
 ghost use Rattle.std.specs.Prelude.{◌≡◌, ◌<◌, ◌^◌, [], length, All, IfOk, IfSome, IfNone};
-ghost use Rattle.mo_ar.specs.Index.{offers_of};
-ghost use Rattle.mo_ar.specs.Offers.{IsEntry, IsLeastOffer, IsUnoffered, first_offer};
+ghost use Rattle.mo_ar.specs.inner.Index.{offers_of};
+ghost use Rattle.mo_ar.specs.Offers.{IsLeastOffer, IsUnoffered, first_offer};
+ghost use Rattle.mo_ar.specs.inner.Index.{IsEntry};
 ghost use Rattle.mo_ar.specs.OfferAt.{IsOfferAt};
 
 use crate::index::{Index, index_of, look_up, name_of};
@@ -23,7 +24,7 @@ pub struct OfferList {
 impl Model for OfferList {
     ghost use Rattle.std.specs.Prelude.{List};
     ghost use Rattle.mo_ar.specs.declared.offers.Offer.{Offer};
-    ghost use Rattle.mo_ar.specs.Index.{IsIndexed, offers_of};
+    ghost use Rattle.mo_ar.specs.inner.Index.{IsIndexed, offers_of};
 
     ghost Value = { List Offer };
 
@@ -34,14 +35,14 @@ impl Model for OfferList {
 
 impl OfferList {
     /// No offers.
-    pub fn empty(alloc: Global) -> Result<OfferList, OutOfMemory>
+    pub(crate) fn empty(alloc: Global) -> Result<OfferList, OutOfMemory>
         ensures { IfOk result (λ list. list ≡ []) }
     {
         OfferList::from_entries(alloc, Bytes::new(alloc), Vec::new(alloc))
     }
 
     /// The offers whose names are these parts of the strings.
-    pub fn from_entries(
+    pub(crate) fn from_entries(
         alloc: Global,
         strings: Bytes,
         entries: Vec<Entry>,

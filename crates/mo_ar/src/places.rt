@@ -1,9 +1,10 @@
 //! The members' numbers, by the places of their headers.
 
 ghost use Rattle.std.specs.Prelude.{◌≡◌, ◌+◌, ◌/◌, ◌<◌, ◌≤◌, length, IfOk, IfSome};
-ghost use Rattle.mo_ar.specs.Chain.{IsRising};
+ghost use Rattle.mo_ar.specs.inner.Tables.{IsRising};
+ghost use Rattle.mo_ar.specs.inner.Tables as tables;
 ghost use Rattle.mo_ar.specs.Places as numbers;
-ghost use Rattle.mo_ar.specs.Places.{IsNumbered};
+ghost use Rattle.mo_ar.specs.inner.Tables.{IsNumbered};
 
 use mo_types::OutOfMemory;
 use std::alloc::Global;
@@ -29,7 +30,7 @@ pub fn numbered(alloc: Global, places: &[usize], size: usize) -> Result<Vec<u32>
 
 // Whether the place with a number is this one.
 fn stands(places: &[usize], number: u32, at: usize) -> bool
-    ensures { result ≡ numbers.stands places.now number at }
+    ensures { result ≡ tables.stands places.now number at }
 {
     let index = number as usize;
     0 < index && index <= places.len() && places[index - 1] == at

@@ -1,6 +1,6 @@
 -- The search goes on along the bucket, and ends where the bucket does.
 use Rattle.std.proofs.Common.{sym, ◌∙◌}
-use Rattle.mo_ar.specs.Index.{offers_of}
+use Rattle.mo_ar.specs.inner.Index.{offers_of}
 use Rattle.mo_ar.proofs.IndexLemmas.{as_many, find_ends, find_goes_on}
 use Rattle.mo_ar.proofs.index.find.Goals as goal
 

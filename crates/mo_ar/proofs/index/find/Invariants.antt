@@ -1,5 +1,5 @@
 use Rattle.std.proofs.Common.{◌-◌, length}
-use Rattle.mo_ar.specs.Index.{offers_of}
+use Rattle.mo_ar.specs.inner.Index.{offers_of}
 use Rattle.mo_ar.proofs.IndexLemmas.{IsFinding}
 use Rattle.mo_ar.proofs.index.find.Given as goal
 

@@ -1,5 +1,5 @@
 use Rattle.std.proofs.Common.{◌≤◌, length}
-use Rattle.mo_ar.specs.Index.{IsIndex, offers_of}
+use Rattle.mo_ar.specs.inner.Index.{IsIndex, offers_of}
 use Rattle.mo_ar.proofs.index.index_of.Given as goal
 
 abbrev pub invariant-loop-at : goal.invariant-loop-at

@@ -1,10 +1,21 @@
 -- The index of offers by name: names of one bucket are chained, in the order of the offers.
 use Rattle.std.specs.Prelude.{ℕ, ◌+◌, ◌*◌, ◌%◌, ◌^◌, ◌≡◌, ◌≤◌, ◌<◌, List, [], ◌∷◌, length, map, drop, slice_index, slice_get, All, Some}
 use Rattle.std.specs.Option.{option_map_or}
-use Rattle.mo_ar.specs.Offers.{IsEntry, first_offer, offer_of}
+use Rattle.mo_ar.specs.Offers.{first_offer}
+use Rattle.mo_ar.specs.Text.{part}
 use Rattle.mo_ar.specs.declared.index.Index.{Index}
 use Rattle.mo_ar.specs.declared.offers.Entry.{Entry}
 use Rattle.mo_ar.specs.declared.offers.Offer.{Offer}
+
+-- an offer by the place of its name among the strings
+abbrev pub offer_of : List ℕ → Entry → Offer
+offer_of strings entry = record { name = part strings entry.at entry.size; member = entry.member }
+
+abbrev pub IsEntry : List ℕ → Entry → Type 0
+IsEntry strings entry = entry.at + entry.size ≤ length strings
+
+abbrev pub offers_of : List ℕ → List Entry → List Offer
+offers_of strings entries = map (offer_of strings) entries
 
 -- a hash of the bytes of a name
 unfoldable pub hash_from : ℕ → List ℕ → ℕ
@@ -52,9 +63,6 @@ pub record IsIndex (m : ℕ) (offers : List Offer) (from : ℕ) (heads nexts bes
   pub some : 0 < m
   pub heads_are : (b : ℕ) → b < m → IsHead m offers from b (slice_index heads b)
   pub chained : IsChained m offers from nexts bests
-
-abbrev pub offers_of : List ℕ → List Entry → List Offer
-offers_of strings entries = map (offer_of strings) entries
 
 -- an index of these offers
 abbrev pub IsIndexOf : List Offer → Index → Type 0
