@@ -8,3 +8,4 @@ pub mod ListLemmas
 pub mod ReadLemmas
 pub mod LineLemmas
 pub mod PathLemmas
+pub mod SpellingLemmas

@@ -7,3 +7,4 @@ pub mod Parts
 pub mod Sorted
 pub mod Paths
 pub mod Lists
+pub mod Laws

@@ -4,6 +4,7 @@
 mod build;
 mod command;
 mod faults;
+mod laws;
 mod lists;
 mod name_list;
 mod numbers;
@@ -17,6 +18,10 @@ mod tests;
 mod values;
 
 pub use command::{Command, CommandInput, CommandInputList, InputForm, UsageFault};
+pub use laws::{
+    a_command_is_that_of_its_items, a_path_alone_has_the_defaults, items_are_read_back,
+    words_are_consumed,
+};
 pub use name_list::read_list;
 pub use options::{CommandOption, Field};
 pub use parts::Rows;
