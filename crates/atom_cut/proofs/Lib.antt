@@ -1,4 +1,5 @@
 pub mod AtomLemmas
+pub mod ContentLemmas
 pub mod CutLemmas
 pub mod KeyLemmas
 pub mod LiteralLemmas

@@ -1,41 +1,27 @@
 -- The pieces of a section, from its cuts.
 use Rattle.std.proofs.Common.{◌≡◌, ℕ, zero, suc, ◌+◌, ◌-◌, ◌<◌, ◌≤◌, ◌++◌, ◌∷◌, [], List, length, get_or, take, drop, Bool, true, false, cond, filter, refl, sym, ap, ◌∙◌, arith, append_assoc, append-nil, add-one, drop-cons}
 use Rattle.std.specs.List.{range_with_len}
-use Rattle.std.proofs.lemmas.List.{drop_all, get_or-drop, nil_from_length}
+use Rattle.std.proofs.lemmas.List.{drop_all, get_or-drop}
 use Rattle.mo_types.specs.declared.atom.Atom.{Atom}
 use Rattle.mo_types.specs.declared.key.FileId.{FileId}
 use Rattle.mo_types.specs.declared.object.Object.{Object}
 use Rattle.mo_types.specs.declared.object.Section.{Section}
 use Rattle.mo_types.specs.Atoms.{cuts, is_cut, piece, pieces}
-use Rattle.mo_types.specs.Whole.{IsWholeSection, is_zerofill}
 use Rattle.atom_cut.specs.Cutting.{RiseTo}
 
-nothing : (a n : ℕ) → ◌≡◌ {A = List ℕ} [] (take n (drop a []))
-nothing zero zero = refl
-nothing zero (suc n) = refl
-nothing (suc a) zero = refl
-nothing (suc a) (suc n) = refl
-
--- a zerofill section has no bytes
-pub zerofill_is_empty : (section : Section) (from to : ℕ) → IsWholeSection section → is_zerofill section.kind ≡ true → section.bytes ≡ take (to - from) (drop from section.bytes)
-zerofill_is_empty section from to whole is =
-    let none : length section.bytes ≡ 0 = rw is at whole.bytes in
-    let empty : section.bytes ≡ [] = nil_from_length section.bytes none in
-    rw empty (nothing from (to - from))
-
-pub bytes_are_there : (section : Section) → IsWholeSection section → is_zerofill section.kind ≡ false → length section.bytes ≡ section.size
-bytes_are_there section whole is = rw is at whole.bytes
-
-pub ruleset contents = (zerofill_is_empty, bytes_are_there)
-
 -- the numbers at a place
-pub next_at : (size : ℕ) (cuts : List ℕ) (k : ℕ) → RiseTo size cuts → k < length cuts → (get_or cuts k 0 ≤ get_or cuts (k + 1) size) × (get_or cuts (k + 1) size ≤ size)
+next_at : (size : ℕ) (cuts : List ℕ) (k : ℕ) → RiseTo size cuts → k < length cuts → (get_or cuts k 0 ≤ get_or cuts (k + 1) size) × (get_or cuts (k + 1) size ≤ size)
 next_at size [] k rise within = absurd (omega arith)
 next_at size (cut ∷ cuts) zero rise within = (rise.0, rise.1)
 next_at size (cut ∷ cuts) (suc k) rise within =
     let rest : (get_or cuts k 0 ≤ get_or cuts (k + 1) size) × (get_or cuts (k + 1) size ≤ size) = next_at size cuts k rise.2 (omega arith) in
     let e : suc k + 1 ≡ suc (k + 1) = omega arith in
     (rw e rest.0, rw e rest.1)
+
+pub next_is_after : (size : ℕ) (cuts : List ℕ) (k to : ℕ) → RiseTo size cuts → k < length cuts → to ≡ get_or cuts (k + 1) size → get_or cuts k 0 ≤ to
+next_is_after size cuts k to rise within next =
+    let low : get_or cuts k 0 ≤ get_or cuts (k + 1) size = (next_at size cuts k rise within).0 in
+    omega arith
 
 -- the pieces made so far, and those that come
 pub record ArePieces (file : FileId) (number : ℕ) (section : Section) (cuts : List ℕ) (start atoms : List Atom) (at : ℕ) : Type 0 where
@@ -64,7 +50,7 @@ pub pieces_end : (file : FileId) (number : ℕ) (section : Section) (cuts : List
 pieces_end file number section cuts start atoms at are past =
     sym (append-nil atoms) ∙ sym (ap (λ xs. atoms ++ pieces file number section xs) (drop_all at cuts past)) ∙ are.same
 
-pub ruleset pieces_loop = (next_at, pieces_begin, pieces_go_on, pieces_end)
+pub ruleset pieces_loop = (next_is_after, pieces_begin, pieces_go_on, pieces_end)
 
 -- the cuts of a section rise to its size
 

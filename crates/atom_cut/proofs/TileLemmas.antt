@@ -1,13 +1,14 @@
 -- What holds of the atoms of a section.
-use Rattle.std.proofs.Common.{◌≡◌, ℕ, zero, suc, ◌+◌, ◌-◌, ◌≤◌, ◌++◌, ◌∷◌, [], inl, inr, List, length, take, drop, Bool, true, false, refl, sym, ap, ◌∙◌, subst, arith, if◌then◌else◌}
+use Rattle.std.proofs.Common.{◌≡◌, ℕ, zero, suc, ◌+◌, ◌-◌, ◌≤◌, ◌++◌, ◌∷◌, [], inl, inr, List, Some, length, take, drop, Bool, true, false, refl, sym, ap, ◌∙◌, subst, arith, if◌then◌else◌}
 use Rattle.std.specs.List.{flat_map}
 use Rattle.std.proofs.lemmas.Bool.{false≢true, cases_lt}
 use Rattle.std.proofs.lemmas.List.{drop_all, drop-drop, take-append-drop}
-use Rattle.mo_types.specs.declared.atom.Atom.{Atom}
 use Rattle.mo_types.specs.declared.key.FileId.{FileId}
 use Rattle.mo_types.specs.declared.object.Object.{Object}
 use Rattle.mo_types.specs.declared.object.Section.{Section}
+use Rattle.mo_types.specs.AtomBytes.{atom_bytes}
 use Rattle.mo_types.specs.Atoms.{cuts, cut_of, greatest, is_cut, piece, pieces, section_atoms}
+use Rattle.mo_types.specs.RelocationRules.{section_numbered}
 use Rattle.mo_types.specs.Whole.{IsWholeSection, is_dropped, is_zerofill}
 use Rattle.atom_cut.specs.Cutting.{RiseTo}
 use Rattle.atom_cut.specs.Laws.{IsGreatest, Tile}
@@ -47,30 +48,32 @@ no_more_bytes section whole = at_most (is_zerofill section.kind) (length section
     at_most true n size e = omega arith
     at_most false n size e = omega arith
 
-bytes_of_atoms : List Atom → List ℕ
-bytes_of_atoms atoms = flat_map (λ (atom : Atom). atom.bytes) atoms
-
-pieces_have_bytes : (file : FileId) (number : ℕ) (section : Section) (from : ℕ) (rest : List ℕ) → length section.bytes ≤ section.size → RiseTo section.size (from ∷ rest) → flat_map (λ (atom : Atom). atom.bytes) (pieces file number section (from ∷ rest)) ≡ drop from section.bytes
+piece_bytes : (object : Object) (file : FileId) (number : ℕ) (section : Section) (from to : ℕ) → section_numbered object.sections number ≡ Some section → atom_bytes object (piece file number section from to) ≡ take (to - from) (drop from section.bytes)
 unfolding piece
-pieces_have_bytes file number section from [] fits rise =
+piece_bytes object file number section from to here = rw here refl
+
+pieces_have_bytes : (object : Object) (file : FileId) (number : ℕ) (section : Section) (from : ℕ) (rest : List ℕ) → section_numbered object.sections number ≡ Some section → length section.bytes ≤ section.size → RiseTo section.size (from ∷ rest) → flat_map (atom_bytes object) (pieces file number section (from ∷ rest)) ≡ drop from section.bytes
+pieces_have_bytes object file number section from [] here fits rise =
     let low : from ≤ section.size = rise.0 in
     let e : from + (section.size - from) ≡ section.size = omega arith in
     let none : drop (section.size - from) (drop from section.bytes) ≡ [] = drop-drop (section.size - from) from section.bytes ∙ ap (λ n. drop n section.bytes) e ∙ drop_all section.size section.bytes fits in
-    ap (λ xs. take (section.size - from) (drop from section.bytes) ++ xs) (sym none) ∙ take-append-drop (section.size - from) (drop from section.bytes)
-pieces_have_bytes file number section from (next ∷ rest) fits rise =
+    ap (λ xs. xs ++ []) (piece_bytes object file number section from section.size here)
+    ∙ ap (λ xs. take (section.size - from) (drop from section.bytes) ++ xs) (sym none) ∙ take-append-drop (section.size - from) (drop from section.bytes)
+pieces_have_bytes object file number section from (next ∷ rest) here fits rise =
     let low : from ≤ next = rise.0 in
     let e : from + (next - from) ≡ next = omega arith in
     let after : drop next section.bytes ≡ drop (next - from) (drop from section.bytes) = ap (λ n. drop n section.bytes) (sym e) ∙ sym (drop-drop (next - from) from section.bytes) in
-    ap (λ xs. take (next - from) (drop from section.bytes) ++ xs) (pieces_have_bytes file number section next rest fits rise.2 ∙ after)
+    ap (λ xs. xs ++ flat_map (atom_bytes object) (pieces file number section (next ∷ rest))) (piece_bytes object file number section from next here)
+    ∙ ap (λ xs. take (next - from) (drop from section.bytes) ++ xs) (pieces_have_bytes object file number section next rest here fits rise.2 ∙ after)
     ∙ take-append-drop (next - from) (drop from section.bytes)
 
-cuts_have_bytes : (object : Object) (file : FileId) (number : ℕ) (section : Section) → length section.bytes ≤ section.size → RiseTo section.size (cuts object number section) → flat_map (λ (atom : Atom). atom.bytes) (pieces file number section (cuts object number section)) ≡ section.bytes
+cuts_have_bytes : (object : Object) (file : FileId) (number : ℕ) (section : Section) → section_numbered object.sections number ≡ Some section → length section.bytes ≤ section.size → RiseTo section.size (cuts object number section) → flat_map (atom_bytes object) (pieces file number section (cuts object number section)) ≡ section.bytes
 unfolding cuts
-cuts_have_bytes object file number section fits rise = pieces_have_bytes file number section 0 _ fits rise
+cuts_have_bytes object file number section here fits rise = pieces_have_bytes object file number section 0 _ here fits rise
 
-pub section_keeps_bytes : (object : Object) (file : FileId) (number : ℕ) (section : Section) → IsWholeSection section → is_dropped section ≡ false → flat_map (λ (atom : Atom). atom.bytes) (section_atoms object file number section) ≡ section.bytes
-section_keeps_bytes object file number section whole linked =
-    rw (linked_atoms object file number section linked) (cuts_have_bytes object file number section (no_more_bytes section whole) (cuts_rise object number section))
+pub section_keeps_bytes : (object : Object) (file : FileId) (number : ℕ) (section : Section) → IsWholeSection section → is_dropped section ≡ false → section_numbered object.sections number ≡ Some section → flat_map (atom_bytes object) (section_atoms object file number section) ≡ section.bytes
+section_keeps_bytes object file number section whole linked here =
+    rw (linked_atoms object file number section linked) (cuts_have_bytes object file number section here (no_more_bytes section whole) (cuts_rise object number section))
 
 pub ruleset bytes_of_section = (section_keeps_bytes)
 

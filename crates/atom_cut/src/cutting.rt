@@ -33,7 +33,7 @@ fn add_section(
     }
     let cuts = cuts_of(alloc, object, index, offsets)?;
     let number = index as u16 + 1;
-    add_pieces(alloc, atoms, file, number, section, cuts.as_slice())
+    add_pieces(atoms, file, number, section, cuts.as_slice())
 }
 
 /// The atoms of an object, by rising key. An object with `MH_SUBSECTIONS_VIA_SYMBOLS` is cut at the symbols

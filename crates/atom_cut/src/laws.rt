@@ -1,10 +1,11 @@
 //! What holds of atoms. Each function is a law, which its contract states, and does nothing.
 
-ghost use Rattle.std.specs.Prelude.{◌≡◌, ◌≤◌, ℕ, false};
+ghost use Rattle.std.specs.Prelude.{◌≡◌, ◌≤◌, ℕ, Some, false};
 ghost use Rattle.std.specs.List.{AllPairs, flat_map};
+ghost use Rattle.mo_types.specs.AtomBytes.{atom_bytes};
 ghost use Rattle.mo_types.specs.Atoms.{atoms_of, cut_of, is_cut, section_atoms};
+ghost use Rattle.mo_types.specs.RelocationRules.{section_numbered};
 ghost use Rattle.mo_types.specs.Whole.{IsWholeSection, is_dropped};
-ghost use Rattle.mo_types.specs.declared.atom.Atom.{Atom};
 ghost use Rattle.mo_types.specs.declared.key.FileId.{FileId};
 ghost use Rattle.mo_types.specs.declared.object.Object.{Object};
 ghost use Rattle.mo_types.specs.declared.object.Section.{Section};
@@ -16,10 +17,10 @@ pub fn atoms_tile()
     ensures { (object : Object) (file : FileId) (number : ℕ) (section : Section) → is_dropped section ≡ false → Tile 0 section.size (section_atoms object file number section) }
 {}
 
-/// The bytes of a linked section's atoms, one after the other, are those of the section.
+/// The bytes of the atoms of an object's linked section, one after the other, are those of the section.
 #[tactic(auto, using(crate::proofs::TileLemmas::bytes_of_section))]
 pub fn no_byte_is_lost()
-    ensures { (object : Object) (file : FileId) (number : ℕ) (section : Section) → IsWholeSection section → is_dropped section ≡ false → flat_map (λ (atom : Atom). atom.bytes) (section_atoms object file number section) ≡ section.bytes }
+    ensures { (object : Object) (file : FileId) (number : ℕ) (section : Section) → IsWholeSection section → is_dropped section ≡ false → section_numbered object.sections number ≡ Some section → flat_map (atom_bytes object) (section_atoms object file number section) ≡ section.bytes }
 {}
 
 /// An offset belongs to the atom with the greatest cut not above it.

@@ -1,6 +1,7 @@
 //! The atoms of an object: the pieces into which its linked sections are cut, each placed as a whole.
 #![tactic(auto)]
 
+mod contents;
 mod cutting;
 mod laws;
 mod offsets;
@@ -9,5 +10,6 @@ mod section_cuts;
 #[cfg(test)]
 mod tests;
 
+pub use contents::bytes_of;
 pub use cutting::cut;
 pub use laws::{atoms_tile, keys_rise, no_byte_is_lost, offset_belongs_to_the_greatest_cut};

@@ -1,4 +1,4 @@
-use super::cut;
+use super::{bytes_of, cut};
 use mo_types::{
     AtomKey, Bytes, FileId, Object, OutOfMemory, RelocList, Section, SectionList, Symbol,
     SymbolKind, SymbolList,
@@ -13,7 +13,7 @@ const FILE: FileId = FileId {
 };
 
 // The name and address of each symbol, and whether it is an alternative entry.
-const SYMBOLS: [(&[u8], u64, bool); 6] = [
+const SYMBOLS: [(&'static [u8], u64, bool); 6] = [
     (b"_last", 0x110, false),
     (b"_fourth", 0x10c, false),
     (b"_first", 0x100, false),
@@ -26,7 +26,7 @@ fn symbols(alloc: Global) -> Result<SymbolList, OutOfMemory> {
     let mut symbols = SymbolList::new(alloc);
     for (name, value, alt) in &SYMBOLS {
         symbols.push(Symbol {
-            name: Bytes::from_slice(alloc, name)?,
+            name: Bytes::from_static(name),
             kind: SymbolKind::Defined {
                 section: 1,
                 value: *value,
@@ -42,17 +42,39 @@ fn symbols(alloc: Global) -> Result<SymbolList, OutOfMemory> {
     Ok(symbols)
 }
 
+const MANY: u64 = 5000;
+
+fn many_symbols(alloc: Global) -> Result<SymbolList, OutOfMemory> {
+    let mut symbols = SymbolList::new(alloc);
+    for number in 0..MANY {
+        symbols.push(Symbol {
+            name: Bytes::from_static(b"_s"),
+            kind: SymbolKind::Defined {
+                section: 1,
+                value: 0x100 + 4 * number,
+            },
+            external: false,
+            hidden: false,
+            weak_def: false,
+            weak_ref: false,
+            no_strip: false,
+            alt: false,
+        })?;
+    }
+    Ok(symbols)
+}
+
 // A section at the address 0x100, aligned to 2^4.
 fn section(
     alloc: Global,
-    segment: &[u8],
+    segment: &'static [u8],
     kind: u8,
     size: u64,
-    bytes: &[u8],
-) -> Result<Section, OutOfMemory> {
-    Ok(Section {
-        segment: Bytes::from_slice(alloc, segment)?,
-        name: Bytes::from_slice(alloc, b"__text")?,
+    bytes: &'static [u8],
+) -> Section {
+    Section {
+        segment: Bytes::from_static(segment),
+        name: Bytes::from_static(b"__text"),
         address: 0x100,
         size,
         align: 4,
@@ -60,9 +82,9 @@ fn section(
         attributes: 0,
         file_offset: 0x200,
         reloc_offset: 0,
-        bytes: Bytes::from_slice(alloc, bytes)?,
+        bytes: Bytes::from_static(bytes),
         relocs: RelocList::new(alloc),
-    })
+    }
 }
 
 // The offset, size, alignment and first byte of an atom; 255 stands where it has no byte.
@@ -73,7 +95,7 @@ const CODE: &[u8] = &[0, 1, 2, 3, 4, 5, 6, 7, 8, 9, 10, 11, 12, 13, 14, 15];
 const STRINGS: &[u8] = b"ab\0\0cdefgh\0jklm\0";
 
 // The type, size and bytes of a section, and its atoms.
-static CUT_AT_SYMBOLS: [(u8, u64, &[u8], &[Row]); 6] = [
+static CUT_AT_SYMBOLS: [(u8, u64, &'static [u8], &[Row]); 6] = [
     (0, 16, CODE, &[(0, 12, 4, 0), (12, 4, 2, 12)]),
     (
         2,
@@ -113,7 +135,7 @@ fn check(
     };
     assert!(rt; object.is_whole());
     let atoms = cut(alloc, &object, FILE)?;
-    assert_eq!(rt; atoms.len(), rows.len());
+    assert!(rt; atoms.len() == rows.len());
     for (atom, row) in atoms.as_slice().iter().zip(rows) {
         let key = AtomKey {
             file: FILE,
@@ -121,8 +143,29 @@ fn check(
             offset: row.0,
         };
         assert!(rt; atom.key == key && atom.size == row.1 && atom.align == row.2);
-        let byte = atom.bytes.as_slice().first().copied().unwrap_or(255);
-        assert_eq!(rt; byte, row.3);
+        let byte = bytes_of(&object, atom).first().copied().unwrap_or(255);
+        assert!(rt; byte == row.3);
+    }
+    Ok(())
+}
+
+// A section is cut at each of many symbols.
+fn check_many(rt: &(impl Abort + AllocGlobal), section: Section) -> Result<(), Fail> {
+    let alloc = rt.alloc();
+    let mut sections = SectionList::new(alloc);
+    sections.push(section)?;
+    let object = Object {
+        subsections: true,
+        sections,
+        symbols: many_symbols(alloc)?,
+    };
+    assert!(rt; object.is_whole());
+    let atoms = cut(alloc, &object, FILE)?;
+    assert!(rt; atoms.len() as u64 == MANY);
+    let mut end = 0;
+    for atom in atoms.as_slice() {
+        assert!(rt; atom.key.offset == end && atom.size == 4);
+        end += 4;
     }
     Ok(())
 }
@@ -130,11 +173,13 @@ fn check(
 #[test]
 fn sections_are_cut_by_their_type(rt: HostRuntime) -> Result<(), Fail> {
     for (kind, size, bytes, rows) in &CUT_AT_SYMBOLS {
-        let section = section(rt.alloc(), b"__TEXT", *kind, *size, bytes)?;
+        let section = section(rt.alloc(), b"__TEXT", *kind, *size, *bytes);
         check(&rt, true, section, rows)?;
     }
-    let text = section(rt.alloc(), b"__TEXT", 0, 16, CODE)?;
+    let text = section(rt.alloc(), b"__TEXT", 0, 16, CODE);
     check(&rt, false, text, &[(0, 16, 4, 0)])?;
-    let dropped = section(rt.alloc(), b"__DWARF", 0, 16, CODE)?;
+    let zeros = section(rt.alloc(), b"__DATA", 1, 4 * MANY, &[]);
+    check_many(&rt, zeros)?;
+    let dropped = section(rt.alloc(), b"__DWARF", 0, 16, CODE);
     check(&rt, true, dropped, &[])
 }

@@ -32,16 +32,35 @@ fn can_be_written(exports: &[ExportAddress]) -> bool
     true
 }
 
-fn written(alloc: Global, rows: &[Row]) -> Result<Bytes, Fail> {
+fn written(alloc: Global, rows: &[Row]) -> Result<Vec<u8>, Fail> {
     let mut exports = Vec::new(alloc);
     for (name, flags, address) in rows {
-        let name = Bytes::from_slice(alloc, *name)?;
+        let name = Bytes::from_static(*name);
         exports.push(ExportAddress {
             name,
             flags: *flags,
             address: *address,
         })?;
     }
+    spelled(alloc, exports)
+}
+
+const MANY: u64 = 10_000;
+
+fn many_exports(alloc: Global) -> Result<Vec<ExportAddress>, Fail> {
+    let mut exports = Vec::new(alloc);
+    for number in 0..MANY {
+        let name = format!(in alloc; "_name{number}")?;
+        exports.push(ExportAddress {
+            name: Bytes::from_slice(alloc, name.as_bytes())?,
+            flags: 0,
+            address: number,
+        })?;
+    }
+    Ok(exports)
+}
+
+fn spelled(alloc: Global, exports: Vec<ExportAddress>) -> Result<Vec<u8>, Fail> {
     if !can_be_written(exports.as_slice()) {
         return Err(Fail::from("two names are one, or a name holds a NUL"));
     }
@@ -83,6 +102,24 @@ fn trie_of_none(rt: HostRuntime) -> Result<(), Fail> {
     let trie = written(rt.alloc(), &[])?;
     assert_eq!(rt; trie.as_slice(), [0; 8].as_slice());
     assert_eq!(rt; find(trie.as_slice(), b""), Found::Absent);
+    Ok(())
+}
+
+#[test]
+fn trie_of_many(rt: HostRuntime) -> Result<(), Fail> {
+    let trie = spelled(rt.alloc(), many_exports(rt.alloc())?)?;
+    for number in [0, 1, 10, 4711, MANY - 1, MANY] {
+        let name = format!(in rt.alloc(); "_name{number}")?;
+        let want = if number < MANY {
+            Found::At {
+                flags: 0,
+                address: number,
+            }
+        } else {
+            Found::Absent
+        };
+        assert!(rt; find(trie.as_slice(), name.as_bytes()) == want, "{name}");
+    }
     Ok(())
 }
 

@@ -8,19 +8,19 @@ use crate::nodes::nodes;
 use crate::order::by_name;
 use crate::places::places;
 use crate::spell::{pad, spell};
-use mo_types::{Bytes, OutOfMemory};
+use mo_types::OutOfMemory;
 use std::alloc::Global;
 
 /// The export trie of some exports, whose names are distinct and hold no NUL (`loader.h`:
 /// LC_DYLD_EXPORTS_TRIE), with zeros up to a multiple of eight bytes.
-pub fn write_trie(alloc: Global, exports: &ExportAddresses) -> Result<Bytes, OutOfMemory>
+pub fn write_trie(alloc: Global, exports: &ExportAddresses) -> Result<Vec<u8>, OutOfMemory>
     requires distinct { AllPairs (λ a b. a.name ≢ b.name) exports.now }
     requires no_nul { All (λ export. ¬ Contains export.name 0) exports.now }
-    ensures exact { IfOk result (IsTrie exports.now) }
+    ensures exact { IfOk result (λ trie. IsTrie exports.now trie.items) }
     // No other bytes are.
-    ensures only { IfOk result (λ trie. (other : List ℕ) → IsTrie exports.now other → other ≡ trie) }
+    ensures only { IfOk result (λ trie. (other : List ℕ) → IsTrie exports.now other → other ≡ trie.items) }
     // A look-up finds each export, and no other name.
-    ensures found { IfOk result (λ trie. (name : List ℕ) → lookup trie name ≡ answer exports.now name) }
+    ensures found { IfOk result (λ trie. (name : List ℕ) → lookup trie.items name ≡ answer exports.now name) }
 {
     let order = by_name(alloc, exports.as_slice())?;
     let order = order.as_slice();
@@ -31,5 +31,5 @@ pub fn write_trie(alloc: Global, exports: &ExportAddresses) -> Result<Bytes, Out
     let places = places(alloc, order, nodes, rows)?;
     let mut bytes = spell(alloc, order, nodes, rows, places.as_slice())?;
     pad(&mut bytes)?;
-    Ok(Bytes::from_vec(bytes))
+    Ok(bytes)
 }

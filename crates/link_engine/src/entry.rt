@@ -51,7 +51,7 @@ pub fn entry_of(alloc: Global, object: &TextObject) -> Result<u64, Status>
         Some(value) => Ok(value),
         None => Err(Status::Refused(Refusal::Undefined {
             name: Bytes::from_slice(alloc, ENTRY)?,
-            file: Bytes::new(alloc),
+            file: Bytes::new(),
         })),
     }
 }

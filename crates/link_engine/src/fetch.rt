@@ -23,7 +23,7 @@ pub fn fetch<F: Files>(alloc: Global, files: &mut F, command: &Command) -> Resul
 {
     let mut bytes = Vec::new(alloc);
     match files.fetch(alloc, command.input.as_slice(), &mut bytes) {
-        Ok(true) => Ok(Bytes::from_vec(bytes)),
+        Ok(true) => Ok(Bytes::from_vec(bytes)?),
         Ok(false) => Err(Status::Refused(Refusal::Missing {
             path: command.input.clone()?,
         })),

@@ -271,5 +271,5 @@ pub fn image(alloc: Global, object: &TextObject, entry: u64) -> Result<Bytes, Ou
     pad(&mut image, placement.text_offset as usize)?;
     put_contents(&mut image, object)?;
     pad(&mut image, placement.segment_size as usize)?;
-    Ok(Bytes::from_vec(image))
+    Ok(Bytes::from_vec(image)?)
 }

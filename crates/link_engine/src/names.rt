@@ -4,12 +4,12 @@ ghost use Rattle.std.specs.Prelude.{◌≡◌, ℕ, List, true, not, IfOk, OnOk,
 ghost use Rattle.std.specs.Str.{bytes_eq};
 ghost use Rattle.link_engine.specs.Names as names;
 
-use mo_types::{OutOfMemory, Symbol};
+use mo_types::{Bytes, OutOfMemory, Symbol};
 use std::alloc::Global;
 use std::collections::HashSet;
 
 // Puts a name among those that were seen, and answers whether it is new.
-fn is_new<'a>(seen: &mut HashSet<&'a [u8]>, name: &'a [u8]) -> Result<bool, OutOfMemory>
+fn is_new<'a>(seen: &mut HashSet<&'a Bytes>, name: &'a Bytes) -> Result<bool, OutOfMemory>
     ensures answer { IfOk result (λ new. new ≡ not (names.has_name seen.old.keys name.now)) }
     ensures seen { OnOk result ((q : List ℕ) → names.has_name seen.new.keys q ≡ (if bytes_eq name.now q then true else names.has_name seen.old.keys q)) }
 {
@@ -21,9 +21,9 @@ fn is_new<'a>(seen: &mut HashSet<&'a [u8]>, name: &'a [u8]) -> Result<bool, OutO
 pub fn are_distinct_names(alloc: Global, symbols: &[Symbol]) -> Result<bool, OutOfMemory>
     ensures { IfOk result (λ answer. answer ≡ names.are_distinct bytes_eq (names.external_names symbols.now)) }
 {
-    let mut seen: HashSet<&[u8]> = HashSet::new(alloc);
+    let mut seen: HashSet<&Bytes> = HashSet::new(alloc);
     for symbol in symbols {
-        if symbol.external && !is_new(&mut seen, symbol.name.as_slice())? {
+        if symbol.external && !is_new(&mut seen, &symbol.name)? {
             return Ok(false);
         }
     }

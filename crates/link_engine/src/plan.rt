@@ -39,9 +39,9 @@ pub fn make_plan<F: Files>(alloc: Global, words: &ArgList, files: &mut F) -> Res
     ensures exact { IfSome (F.holds files.old) (λ held. Gives IsDetermined result (verdict words.now held)) }
 {
     let command = read_words(alloc, words)?;
-    let bytes = fetch(alloc, files, &command)?;
-    let object = read(alloc, &command, bytes.as_slice())?;
-    drop(bytes);
+    let file = fetch(alloc, files, &command)?;
+    let object = read(alloc, &command, &file)?;
+    drop(file);
     let entry = entry_of(alloc, &object)?;
     let image = image(alloc, &object, entry)?;
     Ok(Plan {

@@ -14,21 +14,21 @@ ghost use Rattle.link_engine.specs.Steps.{IsRefusal};
 use crate::form::{LATER, TextObject, linked_of};
 use crate::words::Command;
 use mo_obj::read_object;
-use mo_types::{Kind, ObjFault, Object, Refusal, Rule, Status, Which, kind_of};
+use mo_types::{Bytes, Kind, ObjFault, Object, Refusal, Rule, Status, Which, kind_of};
 use std::alloc::Global;
 
 // The object that a file is.
 #[tactic(auto, unfolding(crate::specs::Reading::file_object))]
-fn file_object(alloc: Global, bytes: &[u8]) -> Result<Object, ObjFault>
-    ensures exact { Gives IsObjFault result (reading.file_object bytes.now) }
+fn file_object(alloc: Global, file: &Bytes) -> Result<Object, ObjFault>
+    ensures exact { Gives IsObjFault result (reading.file_object file.now) }
     ensures whole { IfOk result IsWhole }
     ensures refs { IfOk result (λ object. (file : FileId) → IfErr (refs_of object file) (λ fault. ⊥)) }
 {
-    if bytes.len() >= 1 << 30 {
+    if file.len() >= 1 << 30 {
         return Err(ObjFault::Limit(Which::FileBytes));
     }
-    match kind_of(bytes) {
-        Kind::MachO => read_object(alloc, bytes),
+    match kind_of(file.as_slice()) {
+        Kind::MachO => read_object(alloc, file),
         Kind::Archive | Kind::Universal | Kind::Stub => Err(LATER),
         Kind::NotAnInput => Err(ObjFault::Malformed {
             place: 0,
@@ -39,11 +39,11 @@ fn file_object(alloc: Global, bytes: &[u8]) -> Result<Object, ObjFault>
 }
 
 #[tactic(auto, unfolding(crate::specs::Reading::text_object))]
-fn text_object(alloc: Global, bytes: &[u8]) -> Result<TextObject, ObjFault>
-    ensures exact { Gives IsObjFault result (reading.text_object bytes.now) }
+fn text_object(alloc: Global, file: &Bytes) -> Result<TextObject, ObjFault>
+    ensures exact { Gives IsObjFault result (reading.text_object file.now) }
     ensures linkable { IfOk result IsLinkable }
 {
-    let object = file_object(alloc, bytes)?;
+    let object = file_object(alloc, file)?;
     linked_of(alloc, object)
 }
 
@@ -71,12 +71,12 @@ fn refused(command: &Command, fault: ObjFault) -> Result<TextObject, Status>
 /// The object that the input is, where it has the form that is linked; or the first of these that stands: 2^30
 /// bytes, another kind of file, a rule that it breaks, a feature or form that the linker doesn't have.
 #[tactic(auto, unfolding(crate::specs::Reading::read))]
-pub fn read(alloc: Global, command: &Command, bytes: &[u8]) -> Result<TextObject, Status>
-    ensures exact { Gives IsDetermined result (reading.read command.now bytes.now) }
+pub fn read(alloc: Global, command: &Command, file: &Bytes) -> Result<TextObject, Status>
+    ensures exact { Gives IsDetermined result (reading.read command.now file.now) }
     ensures kind { IfErr result IsRefusal }
     ensures linkable { IfOk result IsLinkable }
 {
-    match text_object(alloc, bytes) {
+    match text_object(alloc, file) {
         Ok(object) => Ok(object),
         Err(fault) => refused(command, fault),
     }

@@ -58,7 +58,7 @@ pub fn run<F: Files, O: Out>(alloc: Global, words: &ArgList, files: &mut F, out:
         },
         Err(status) => Ended {
             status,
-            path: Bytes::new(alloc),
+            path: Bytes::new(),
         },
     }
 }

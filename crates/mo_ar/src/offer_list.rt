@@ -38,7 +38,7 @@ impl OfferList {
     pub(crate) fn empty(alloc: Global) -> Result<OfferList, OutOfMemory>
         ensures { IfOk result (λ list. list ≡ []) }
     {
-        OfferList::from_entries(alloc, Bytes::new(alloc), Vec::new(alloc))
+        OfferList::from_entries(alloc, Bytes::new(), Vec::new(alloc))
     }
 
     /// The offers whose names are these parts of the strings.

@@ -13,7 +13,7 @@ use std::alloc::Global;
 
 // The archive of some bytes, where their kind is that of an archive.
 fn read(alloc: Global, bytes: Vec<u8>) -> Result<Archive, ObjFault> {
-    let bytes = Bytes::from_vec(bytes);
+    let bytes = Bytes::from_vec(bytes)?;
     match kind_of(bytes.as_slice()) {
         Kind::Archive => read_archive(alloc, &bytes),
         _ => Err(ObjFault::Malformed {

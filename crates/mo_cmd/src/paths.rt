@@ -25,7 +25,7 @@ fn path_in(
     path.push(b'/')?;
     path.extend_from_slice(stem)?;
     path.extend_from_slice(ending)?;
-    Ok(Bytes::from_vec(path))
+    Ok(Bytes::from_vec(path)?)
 }
 
 fn add_path(
@@ -148,7 +148,7 @@ fn stem_of(alloc: Global, form: InputForm, name: &[u8]) -> Result<Bytes, OutOfMe
         }
     }
     stem.extend_from_slice(name)?;
-    Ok(Bytes::from_vec(stem))
+    Ok(Bytes::from_vec(stem)?)
 }
 
 fn root_of(command: &Command) -> Option<&[u8]>

@@ -3,7 +3,7 @@ use Rattle.std.proofs.Common.{tests, ◌≡◌, ℕ, ◌-◌, ◌%◌, ◌^◌, 
 use Rattle.std.proofs.lemmas.Option.{slice_get-get_or}
 use Rattle.std.specs.List.{list_any}
 use Rattle.std.specs.Option.{option_map_or}
-use Rattle.mo_types.specs.Refs.{refs_of}
+use Rattle.mo_types.specs.Refs.{refs_from, refs_of}
 use Rattle.mo_types.specs.Whole.{IsWhole, IsWholeSection, is_strings, is_zerofill, literal_size}
 use Rattle.mo_types.specs.declared.cause.Feature.{Feature}
 use Rattle.mo_types.specs.declared.cause.Feature.TheVariants as feature
@@ -40,7 +40,7 @@ no_reloc_feature object foreign relocs none =
     past_all (any_kept has_other_type object.sections) (any_kept is_objc object.sections) (any_overaligned object) (any_kept is_odd_code object.sections) (any_kept has_odd_segment object.sections) (any_kept is_text_zerofill object.sections) foreign (list_any is_external_absolute object.symbols) relocs
     (or_else (list_any is_unwind object.sections) feature.Later None) none
 
-pub references_read : (object : Object) (foreign : Bool) (relocs : Option Feature) → relocations_of object ≡ Ok relocs → None ≡ first_feature object foreign relocs → (file : FileId) → IfErr (refs_of object file) (λ fault. ⊥)
+pub references_read : (object : Object) (foreign : Bool) (relocs : Option Feature) → relocations_of object ≡ Ok relocs → None ≡ first_feature object foreign relocs → (file : FileId) → refs_of object file ≡ Ok (refs_from object file 1 object.sections)
 references_read object foreign relocs keeps none file =
     read_where_nothing object file (keeps ∙ ap Ok (no_reloc_feature object foreign relocs (sym none)))
 

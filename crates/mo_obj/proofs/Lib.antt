@@ -3,6 +3,7 @@ pub mod NameLemmas
 pub mod ObjectLemmas
 pub mod RelocationLemmas
 pub mod SectionLemmas
+pub mod StringLemmas
 pub mod SymbolLemmas
 pub mod TableLemmas
 pub mod WalkLemmas

@@ -1,7 +1,7 @@
 -- What the reader of references finds, as a rule or a feature of the object.
 use Rattle.std.proofs.Common.{◌≡◌, ℕ, Option, Some, None, Result, Ok, Err, IfErr, refl, sym, ap, subst, ◌∙◌}
 use Rattle.mo_types.specs.Gives.{◌>>=◌}
-use Rattle.mo_types.specs.Refs.{IsRefFault, refs_of}
+use Rattle.mo_types.specs.Refs.{IsRefFault, refs_from, refs_of}
 use Rattle.mo_types.specs.RelocationRules.{first_fault, pair_fault, shape_fault, place_fault, target_fault}
 use Rattle.mo_types.specs.declared.cause.Feature.{Feature}
 use Rattle.mo_types.specs.declared.cause.Rule.TheVariants as rule
@@ -11,6 +11,7 @@ use Rattle.mo_types.specs.declared.object_fault.ObjFault.{ObjFault}
 use Rattle.mo_types.specs.declared.object_fault.ObjFault.TheVariants as fault
 use Rattle.mo_types.specs.declared.reference_fault.RefFault.{RefFault}
 use Rattle.mo_types.specs.declared.reference_fault.RefFault.TheVariants.{BadPair, BadShape, BadPlace, BadTarget, Unsupported, OutOfMemory}
+use Rattle.reloc_read.specs.Faults.{IsClean}
 use Rattle.reloc_read.specs.Checked.{checked, feature_of, unless_fault}
 use Rattle.reloc_read.proofs.CheckedLemmas.{read_all}
 use Rattle.mo_obj.specs.Faults.{keeps}
@@ -76,7 +77,27 @@ found_nothing (Err (BadTarget place)) e = cc
 found_nothing (Err (Unsupported feature)) e = cc
 found_nothing (Err OutOfMemory) e = cc
 
-pub read_where_nothing : (object : Object) (file : FileId) → relocations_of object ≡ Ok None → IfErr (refs_of object file) (λ fault. ⊥)
-read_where_nothing object file is =
-    let nothing : checked object ≡ Ok None = found_nothing (checked object) (told_of_object object ∙ is) in
-    subst (λ (answer : Result _ RefFault). IfErr answer (λ fault. ⊥)) (sym (read_all object file nothing)) tt
+pub read_where_nothing : (object : Object) (file : FileId) → relocations_of object ≡ Ok None → refs_of object file ≡ Ok (refs_from object file 1 object.sections)
+read_where_nothing object file is = read_all object file (found_nothing (checked object) (told_of_object object ∙ is))
+
+-- a feature is no fault
+
+never_unsupported : (pair shape place target : Option ℕ) (found : Option Feature) (feature : Feature) → unless_fault BadPair pair (unless_fault BadShape shape (unless_fault BadPlace place (unless_fault BadTarget target (Ok found)))) ≡ Err (Unsupported feature) → ⊥
+never_unsupported (Some at) shape place target found feature e = cc
+never_unsupported None (Some at) place target found feature e = cc
+never_unsupported None None (Some at) target found feature e = cc
+never_unsupported None None None (Some at) found feature e = cc
+never_unsupported None None None None found feature e = cc
+
+is_no_fault : (object : Object) (feature : Feature) → checked object ≡ Err (Unsupported feature) → ⊥
+unfolding checked
+is_no_fault object feature is =
+    never_unsupported (first_fault pair_fault object) (first_fault shape_fault object) (first_fault place_fault object) (first_fault target_fault object) (feature_of object) feature is
+
+pub clean_all_the_same : (object : Object) (found : RefFault) (feature : Feature) → found ≡ Unsupported feature → (IsRefFault found → checked object ≡ Err found) → IsClean object
+clean_all_the_same object (Unsupported other) feature same known = absurd (is_no_fault object other (known tt))
+clean_all_the_same object (BadPair place) feature same known = cc
+clean_all_the_same object (BadShape place) feature same known = cc
+clean_all_the_same object (BadPlace place) feature same known = cc
+clean_all_the_same object (BadTarget place) feature same known = cc
+clean_all_the_same object OutOfMemory feature same known = cc

@@ -7,4 +7,5 @@ pub mod Names
 pub mod Object
 pub mod Relocations
 pub mod Sections
+pub mod Strings
 pub mod Symbols

@@ -17,6 +17,7 @@ use Rattle.mo_obj.specs.Header.{header_of}
 use Rattle.mo_obj.specs.Relocations.{relocations_of}
 use Rattle.mo_obj.specs.Sections.{headers_of, sections_of, is_outside, has_relocs_outside, has_broken_literals, each_keeps}
 use Rattle.mo_obj.specs.Symbols.{symtab_of, symbols_of, any_foreign}
+use Rattle.mo_obj.specs.declared.Described.{Described}
 use Rattle.mo_obj.specs.declared.commands.Frame.{Frame}
 
 -- MH_SUBSECTIONS_VIA_SYMBOLS
@@ -37,16 +38,16 @@ lacks (Some feature) = Err (Unsupported feature)
 
 -- an object keeps the rules of relocations and has no feature that the linker doesn't have, and its symbols
 -- are fewer than 2^24
-unfoldable pub accepted : Object → Bool → Result Object ObjFault
+unfoldable pub accepted : Object → Bool → Result (Unit {0}) ObjFault
 accepted object foreign = do
   relocs ← relocations_of object
   supported ← lacks (first_feature object foreign relocs)
-  guarded (nat_lt (length object.symbols) (2 ^ 24)) (Limit Symbols) object
+  guarded (nat_lt (length object.symbols) (2 ^ 24)) (Limit Symbols) tt
 
--- The rules in their order, each asked of the whole file before the next one: the first that fails is told, at
--- its least place. Features come after the rules.
-unfoldable pub object_of : List ℕ → Result Object ObjFault
-object_of bytes = do
+-- The object that a file describes, and whether a symbol is of a kind that isn't linked. The rules are in their
+-- order, each asked of the whole file before the next one: the first that fails is told, at its least place.
+unfoldable pub described : List ℕ → Result Described ObjFault
+described bytes = do
   header ← header_of bytes
   commands ← commands_of bytes header
   frame ← frame_of bytes commands
@@ -54,7 +55,17 @@ object_of bytes = do
   symtab ← symtab_of bytes frame
   symbols ← symbols_of bytes symtab sections
   literals ← each_keeps rule.Literals frame has_broken_literals sections
-  accepted (record { subsections = may_be_cut header; sections = sections; symbols = symbols }) (any_foreign bytes symtab)
+  Ok (record {
+    object = record { subsections = may_be_cut header; sections = sections; symbols = symbols };
+    foreign = any_foreign bytes symtab;
+  })
+
+-- the object of a file; the rules of relocations and features come after the other rules
+unfoldable pub object_of : List ℕ → Result Object ObjFault
+object_of bytes = do
+  read ← described bytes
+  done ← accepted read.object read.foreign
+  Ok read.object
 
 -- the bytes are those of an object
 pub record IsObject (bytes : List ℕ) (object : Object) : Type 0 where

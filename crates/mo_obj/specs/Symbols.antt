@@ -102,7 +102,7 @@ symbol_with entry name = record {
   weak_def = marked entry entry.n_desc 0x80;
   weak_ref = marked entry entry.n_desc 0x40;
   no_strip = marked entry entry.n_desc 0x20;
-  alt = marked entry entry.n_desc 0x200;
+  alt = type_of entry == 0xe && marked entry entry.n_desc 0x200;
 }
 
 -- a symbol whose definition, if it is one, lies in its section

@@ -1,7 +1,8 @@
 //! Reads relocatable objects (`loader.h`, `nlist.h`, `reloc.h`).
 #![tactic(auto)]
 
-ghost use Rattle.std.specs.Prelude.{◌≡◌, IfErr, IfOk};
+ghost use Rattle.std.specs.Prelude.{◌≡◌, Err, IfErr, IfOk, Ok};
+ghost use Rattle.mo_types.specs.Atoms.{atoms_of};
 ghost use Rattle.mo_types.specs.Gives.{Gives};
 ghost use Rattle.mo_types.specs.Kind as kinds;
 ghost use Rattle.mo_types.specs.Refs.{refs_of};
@@ -9,7 +10,7 @@ ghost use Rattle.mo_types.specs.Whole.{IsWhole};
 ghost use Rattle.mo_types.specs.declared.key.FileId.{FileId};
 ghost use Rattle.mo_types.specs.declared.kind.Kind.TheVariants as kind;
 ghost use Rattle.mo_obj.specs.Faults.{IsObjFault};
-ghost use Rattle.mo_obj.specs.Object.{object_of};
+ghost use Rattle.mo_obj.specs.Object.{described, object_of};
 
 mod accept;
 mod commands;
@@ -19,40 +20,102 @@ mod laws;
 mod names;
 mod relocations;
 mod sections;
+mod strings;
 mod symbols;
 #[cfg(test)]
 mod tests;
 
 use accept::accept;
+use atom_cut::cut;
 use commands::{commands_of, frame_of};
 use header::header_of;
 pub use laws::{an_object_or_a_fault, one_object_at_most};
-use mo_types::{ObjFault, Object};
+use mo_types::{AtomList, Bytes, FileId, ObjFault, Object, RefList};
+use reloc_read::refs_of_checked;
 use sections::{checked_sections, keep_literals};
 use std::alloc::Global;
 use symbols::{any_foreign, symbols_of, symtab_of};
 
-/// Reads the object that a Mach-O file is, whole, so that its atoms and references can be read; or tells the
-/// first of these that stands: a rule that the file breaks, with its least place, a feature that the linker
-/// doesn't have, 2^24 symbols.
-#[tactic(auto, using(crate::proofs::AcceptLemmas::wholes), unfolding(crate::specs::Object::object_of))]
-pub fn read_object(alloc: Global, bytes: &[u8]) -> Result<Object, ObjFault>
-    requires { kinds.kind_of bytes.now ≡ kind.MachO }
-    ensures exact { Gives IsObjFault result (object_of bytes.now) }
-    ensures whole { IfOk result IsWhole }
-    ensures refs { IfOk result (λ object. (file : FileId) → IfErr (refs_of object file) (λ fault. ⊥)) }
+/// The object that a file describes, before its relocations are asked.
+#[derive(Debug, Drop)]
+struct Described {
+    object: Object,
+    /// Whether a symbol is of a kind that isn't linked.
+    foreign: bool,
+}
+
+/// An object, its atoms and its references.
+#[derive(Debug, Drop)]
+pub struct LinkObject {
+    pub object: Object,
+    pub atoms: AtomList,
+    pub refs: RefList,
+}
+
+// No rule looks at which file it is.
+const FILE: FileId = FileId {
+    position: 0,
+    member: 0,
+};
+
+#[tactic(auto, using(crate::proofs::AcceptLemmas::wholes), unfolding(crate::specs::Object::described))]
+fn describe(alloc: Global, file: &Bytes) -> Result<Described, ObjFault>
+    ensures exact { Gives IsObjFault result (described file.now) }
+    ensures whole { IfOk result (λ read. IsWhole read.object) }
 {
+    let bytes = file.as_slice();
     let header = header_of(bytes)?;
     let commands = commands_of(alloc, bytes, &header)?;
     let frame = frame_of(alloc, bytes, commands.as_slice())?;
-    let sections = checked_sections(alloc, bytes, frame)?;
+    let sections = checked_sections(alloc, file, frame)?;
     let symtab = symtab_of(bytes, frame)?;
-    let symbols = symbols_of(alloc, bytes, &symtab, sections.as_slice())?;
+    let symbols = symbols_of(alloc, file, &symtab, sections.as_slice())?;
     keep_literals(frame, sections.as_slice())?;
     let object = Object {
         subsections: header.flags & 0x2000 != 0,
         sections,
         symbols,
     };
-    accept(alloc, object, any_foreign(bytes, &symtab))
+    Ok(Described {
+        object,
+        foreign: any_foreign(bytes, &symtab),
+    })
+}
+
+/// Reads the object that a Mach-O file is, whole, so that its atoms and references can be read; or tells the
+/// first of these that stands: a rule that the file breaks, with its least place, a feature that the linker
+/// doesn't have, 2^24 symbols. Names and contents are parts of the file, and share its bytes.
+#[tactic(auto, unfolding(crate::specs::Object::object_of))]
+pub fn read_object(alloc: Global, file: &Bytes) -> Result<Object, ObjFault>
+    requires { kinds.kind_of file.now ≡ kind.MachO }
+    ensures exact { Gives IsObjFault result (object_of file.now) }
+    ensures whole { IfOk result IsWhole }
+    ensures refs { IfOk result (λ object. (file : FileId) → IfErr (refs_of object file) (λ fault. ⊥)) }
+{
+    let Described { object, foreign } = describe(alloc, file)?;
+    let atoms = cut(alloc, &object, FILE)?;
+    accept(alloc, &object, &atoms, FILE, foreign)?;
+    Ok(object)
+}
+
+/// Reads an object as `read_object` does, with its atoms and references as those of the file of a number. Each is
+/// made once.
+#[tactic(auto, unfolding(crate::specs::Object::object_of))]
+pub fn read_for_link(alloc: Global, file: &Bytes, id: FileId) -> Result<LinkObject, ObjFault>
+    requires { kinds.kind_of file.now ≡ kind.MachO }
+    ensures object { IfOk result (λ read. object_of file.now ≡ Ok read.object) }
+    ensures fault { IfErr result (λ fault. IsObjFault fault → object_of file.now ≡ Err fault) }
+    ensures whole { IfOk result (λ read. IsWhole read.object) }
+    ensures atoms { IfOk result (λ read. read.atoms ≡ atoms_of read.object id) }
+    ensures refs { IfOk result (λ read. refs_of read.object id ≡ Ok read.refs) }
+{
+    let Described { object, foreign } = describe(alloc, file)?;
+    let atoms = cut(alloc, &object, id)?;
+    accept(alloc, &object, &atoms, id, foreign)?;
+    let refs = refs_of_checked(alloc, &object, &atoms, id)?;
+    Ok(LinkObject {
+        object,
+        atoms,
+        refs,
+    })
 }

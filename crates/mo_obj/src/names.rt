@@ -1,7 +1,6 @@
-//! Names in structures and among strings.
+//! Names in structures.
 
-ghost use Rattle.std.specs.Prelude.{◌≡◌, ◌+◌, ◌≤◌, ◌<◌, length, IfSome};
-ghost use Rattle.std.specs.Option.{option_map};
+ghost use Rattle.std.specs.Prelude.{◌≡◌, ◌<◌, length, IfSome};
 ghost use Rattle.mo_obj.specs.Names as names;
 
 use memchr::memchr;
@@ -23,26 +22,4 @@ pub fn name_text(name: &[u8]) -> &[u8]
         Some(end) => &name[..end],
         None => name,
     }
-}
-
-/// The string that begins at a place and ends before a NUL.
-#[tactic(auto, using(crate::proofs::NameLemmas::strings), unfolding(crate::specs::Names::string_at))]
-pub fn string_at(strings: &[u8], at: usize) -> Option<&[u8]>
-    ensures { option_map (λ name. name.now) result ≡ names.string_at strings.now at }
-{
-    if strings.len() < at {
-        return None;
-    }
-    let rest = &strings[at..];
-    let end = first_nul(rest)?;
-    Some(&rest[..end])
-}
-
-/// Some bytes from a place on.
-pub fn part(bytes: &[u8], at: usize, size: usize) -> &[u8]
-    requires { at + size ≤ length bytes.now }
-    ensures value { result.now ≡ names.part bytes.now at size }
-    ensures length { length result.now ≡ size }
-{
-    &bytes[at..at + size]
 }

@@ -1,30 +1,31 @@
 //! The rules of relocations, which the readers of atoms and references ask (`reloc.h`).
 
-ghost use Rattle.std.specs.Prelude.{◌≡◌};
+ghost use Rattle.std.specs.Prelude.{◌≡◌, IfOk};
+ghost use Rattle.mo_types.specs.Atoms.{atoms_of};
 ghost use Rattle.mo_types.specs.Gives.{Gives};
 ghost use Rattle.mo_types.specs.Whole.{IsWhole};
+ghost use Rattle.reloc_read.specs.Faults.{IsClean};
 ghost use Rattle.mo_obj.specs.Faults.{IsObjFault};
 ghost use Rattle.mo_obj.specs.Relocations as relocations;
 
-use atom_cut::cut;
-use mo_types::{Feature, FileId, ObjFault, Object, RefFault, Rule};
+use mo_types::{AtomList, Feature, FileId, ObjFault, Object, RefFault, Rule};
 use reloc_read::check;
 use std::alloc::Global;
 
-// No rule looks at which file it is.
-const FILE: FileId = FileId {
-    position: 0,
-    member: 0,
-};
-
-/// The first rule that fails, or what a relocation has that the linker doesn't.
+/// The first rule that fails, or what a relocation of the object has that the linker doesn't.
 #[tactic(auto, using(crate::proofs::RelocationLemmas::answers))]
-pub fn relocations_of(alloc: Global, object: &Object) -> Result<Option<Feature>, ObjFault>
-    requires { IsWhole object.now }
-    ensures { Gives IsObjFault result (relocations.relocations_of object.now) }
+pub fn relocations_of(
+    alloc: Global,
+    object: &Object,
+    atoms: &AtomList,
+    file: FileId,
+) -> Result<Option<Feature>, ObjFault>
+    requires whole { IsWhole object.now }
+    requires atoms { atoms.now ≡ atoms_of object.now file }
+    ensures exact { Gives IsObjFault result (relocations.relocations_of object.now) }
+    ensures clean { IfOk result (λ feature. IsClean object.now) }
 {
-    let atoms = cut(alloc, object, FILE)?;
-    match check(alloc, object, &atoms, FILE) {
+    match check(alloc, object, atoms, file) {
         Ok(feature) => Ok(feature),
         Err(RefFault::BadPair { place }) => Err(ObjFault::Malformed {
             place,

@@ -13,7 +13,7 @@ ghost use Rattle.mo_obj.specs.Sections as sections;
 ghost use Rattle.mo_obj.specs.Sections.{IsNumbered, IsRoomy};
 
 use crate::commands::Frame;
-use crate::names::{name_text, part};
+use crate::names::name_text;
 use mo_format::{RelocationInfo, SectionHeader};
 use mo_types::{
     Bytes, Items, ObjFault, OutOfMemory, RawReloc, RelocList, Rule, Section, SectionList,
@@ -134,16 +134,15 @@ fn relocs_of(alloc: Global, bytes: &[u8], header: &SectionHeader) -> Result<Relo
     Ok(RelocList::from_vec(relocs))
 }
 
-fn contents_of(alloc: Global, bytes: &[u8], header: &SectionHeader) -> Result<Bytes, OutOfMemory>
-    requires { sections.is_outside (length bytes.now) header.now ≡ false }
-    ensures exact { IfOk result (λ contents. contents ≡ sections.contents_of bytes.now header.now) }
+fn contents_of(file: &Bytes, header: &SectionHeader) -> Result<Bytes, OutOfMemory>
+    requires { sections.is_outside (length file.now) header.now ≡ false }
+    ensures exact { IfOk result (λ contents. contents ≡ sections.contents_of file.now header.now) }
     ensures sized { IfOk result (λ contents. length contents ≡ (if is_zerofill (sections.type_of header.now) then 0 else header.now.size)) }
 {
     if is_zerofill_header(header) {
-        return Ok(Bytes::new(alloc));
+        return Ok(Bytes::new());
     }
-    let contents = part(bytes, header.offset as usize, header.size as usize);
-    Bytes::from_slice(alloc, contents)
+    file.part(header.offset as usize, header.size as usize)
 }
 
 fn file_offset(header: &SectionHeader) -> u64
@@ -162,10 +161,10 @@ fn reloc_offset(bytes: &[u8], header: &SectionHeader) -> u64
 }
 
 // The section of a header, with the alignment 0.
-fn unaligned(alloc: Global, bytes: &[u8], header: &SectionHeader) -> Result<Section, OutOfMemory>
-    requires contents { sections.is_outside (length bytes.now) header.now ≡ false }
-    requires relocs { sections.has_relocs_outside (length bytes.now) header.now ≡ false }
-    ensures exact { IfOk result (λ section. section ≡ sections.aligned bytes.now header.now 0) }
+fn unaligned(alloc: Global, file: &Bytes, header: &SectionHeader) -> Result<Section, OutOfMemory>
+    requires contents { sections.is_outside (length file.now) header.now ≡ false }
+    requires relocs { sections.has_relocs_outside (length file.now) header.now ≡ false }
+    ensures exact { IfOk result (λ section. section ≡ sections.aligned file.now header.now 0) }
     ensures roomy { IfOk result IsRoomy }
 {
     Ok(Section {
@@ -177,20 +176,20 @@ fn unaligned(alloc: Global, bytes: &[u8], header: &SectionHeader) -> Result<Sect
         kind: (header.flags & 0xff) as u8,
         attributes: header.flags & 0xffff_ff00,
         file_offset: file_offset(header),
-        reloc_offset: reloc_offset(bytes, header),
-        bytes: contents_of(alloc, bytes, header)?,
-        relocs: relocs_of(alloc, bytes, header)?,
+        reloc_offset: reloc_offset(file.as_slice(), header),
+        bytes: contents_of(file, header)?,
+        relocs: relocs_of(alloc, file.as_slice(), header)?,
     })
 }
 
 #[tactic(auto, unfolding(crate::specs::Sections::section_of))]
-fn section_of(alloc: Global, bytes: &[u8], header: &SectionHeader) -> Result<Section, OutOfMemory>
-    requires contents { sections.is_outside (length bytes.now) header.now ≡ false }
-    requires relocs { sections.has_relocs_outside (length bytes.now) header.now ≡ false }
-    ensures exact { IfOk result (λ section. section ≡ sections.section_of bytes.now header.now) }
+fn section_of(alloc: Global, file: &Bytes, header: &SectionHeader) -> Result<Section, OutOfMemory>
+    requires contents { sections.is_outside (length file.now) header.now ≡ false }
+    requires relocs { sections.has_relocs_outside (length file.now) header.now ≡ false }
+    ensures exact { IfOk result (λ section. section ≡ sections.section_of file.now header.now) }
     ensures roomy { IfOk result IsRoomy }
 {
-    let mut section = unaligned(alloc, bytes, header)?;
+    let mut section = unaligned(alloc, file, header)?;
     if !section.is_dropped() {
         section.align = header.align.min(255) as u8;
     }
@@ -200,32 +199,32 @@ fn section_of(alloc: Global, bytes: &[u8], header: &SectionHeader) -> Result<Sec
 #[tactic(auto, using(crate::proofs::TableLemmas::takings, crate::proofs::TableLemmas::each), unfolding(crate::specs::Sections::sections_of))]
 fn sections_of(
     alloc: Global,
-    bytes: &[u8],
+    file: &Bytes,
     headers: &[SectionHeader],
 ) -> Result<SectionList, OutOfMemory>
-    requires contents { All (λ header. sections.is_outside (length bytes.now) header ≡ false) headers.now }
-    requires relocs { All (λ header. sections.has_relocs_outside (length bytes.now) header ≡ false) headers.now }
-    ensures exact { IfOk result (λ list. list ≡ sections.sections_of bytes.now headers.now) }
+    requires contents { All (λ header. sections.is_outside (length file.now) header ≡ false) headers.now }
+    requires relocs { All (λ header. sections.has_relocs_outside (length file.now) header ≡ false) headers.now }
+    ensures exact { IfOk result (λ list. list ≡ sections.sections_of file.now headers.now) }
     ensures count { IfOk result (λ list. length list ≡ length headers.now) }
     ensures roomy { IfOk result (Each IsRoomy) }
 {
     let mut list = Vec::with_capacity(alloc, headers.len())?;
     for header in headers {
-        list.push(section_of(alloc, bytes, header)?)?;
+        list.push(section_of(alloc, file, header)?)?;
     }
     Ok(SectionList::from_vec(list))
 }
 
 /// The sections, where they and their relocations lie within the file.
 #[tactic(auto, using(crate::proofs::SectionLemmas::checks), unfolding(crate::specs::Object::checked_sections))]
-pub fn checked_sections(alloc: Global, bytes: &[u8], frame: Frame) -> Result<SectionList, ObjFault>
-    requires { IsFrame bytes.now frame }
-    ensures exact { Gives IsObjFault result (object.checked_sections bytes.now frame) }
+pub fn checked_sections(alloc: Global, file: &Bytes, frame: Frame) -> Result<SectionList, ObjFault>
+    requires { IsFrame file.now frame }
+    ensures exact { Gives IsObjFault result (object.checked_sections file.now frame) }
     ensures roomy { IfOk result (Each IsRoomy) }
     ensures few { IfOk result (λ list. length list ≡ frame.count) }
 {
-    let headers = headers_of(alloc, bytes, frame)?;
-    let size = bytes.len();
+    let headers = headers_of(alloc, file.as_slice(), frame)?;
+    let size = file.len();
     keep(
         Rule::Section,
         frame,
@@ -236,7 +235,7 @@ pub fn checked_sections(alloc: Global, bytes: &[u8], frame: Frame) -> Result<Sec
         frame,
         first_with_relocs_outside(size, headers.as_slice()),
     )?;
-    Ok(sections_of(alloc, bytes, headers.as_slice())?)
+    Ok(sections_of(alloc, file, headers.as_slice())?)
 }
 
 fn has_broken_literals(section: &Section) -> bool

@@ -12,7 +12,7 @@ ghost use Rattle.mo_obj.specs.Symbols as symbols;
 ghost use Rattle.mo_obj.specs.Symbols.{IsInPlace, IsTable};
 
 use crate::commands::Frame;
-use crate::names::{part, string_at};
+use crate::strings::Strings;
 use mo_format::{Nlist, SymtabCommand};
 use mo_types::{Bytes, ObjFault, OutOfMemory, Rule, Section, Symbol, SymbolKind, SymbolList};
 use std::alloc::Global;
@@ -143,14 +143,13 @@ fn symbol_with(entry: &Nlist, name: Bytes) -> Symbol
         weak_def: counts && entry.n_desc & 0x80 != 0,
         weak_ref: counts && entry.n_desc & 0x40 != 0,
         no_strip: counts && entry.n_desc & 0x20 != 0,
-        alt: counts && entry.n_desc & 0x200 != 0,
+        alt: entry.n_type & 0x0e == 0x0e && counts && entry.n_desc & 0x200 != 0,
     }
 }
 
 #[tactic(auto, unfolding(crate::specs::Symbols::symbol_of))]
 fn symbol_of(
-    alloc: Global,
-    strings: &[u8],
+    strings: &Strings,
     sections: &[Section],
     entry: &Nlist,
 ) -> Result<Option<Symbol>, OutOfMemory>
@@ -158,14 +157,10 @@ fn symbol_of(
     ensures exact { IfOk result (λ symbol. symbol ≡ symbols.symbol_of strings.now sections.now entry.now) }
     ensures placed { IfOk result (λ symbol. IfSome symbol (IsInPlace sections.now)) }
 {
-    let Some(name) = string_at(strings, entry.n_strx as usize) else {
-        return Ok(None);
-    };
-    if !is_placed(sections, entry) {
-        return Ok(None);
+    match strings.get(entry.n_strx as usize)? {
+        Some(name) if is_placed(sections, entry) => Ok(Some(symbol_with(entry, name))),
+        _ => Ok(None),
     }
-    let name = Bytes::from_slice(alloc, name)?;
-    Ok(Some(symbol_with(entry, name)))
 }
 
 #[tactic(auto, unfolding(crate::specs::Symbols::entry_at))]
@@ -179,21 +174,21 @@ fn entry_at(bytes: &[u8], symtab: &SymtabCommand, i: usize) -> Nlist
 
 #[tactic(auto, unfolding(crate::specs::Symbols::symbol_at))]
 fn symbol_at(
-    alloc: Global,
     bytes: &[u8],
     symtab: &SymtabCommand,
+    strings: &Strings,
     sections: &[Section],
     i: usize,
 ) -> Result<Symbol, ObjFault>
     requires table { IsTable (length bytes.now) symtab.now }
+    requires strings { strings.now ≡ symbols.strings_of bytes.now symtab.now }
     requires index { i < symtab.now.nsyms }
     requires sections { All IsRoomy sections.now }
     ensures exact { Gives IsObjFault result (symbols.symbol_at bytes.now symtab.now sections.now i) }
     ensures placed { IfOk result (IsInPlace sections.now) }
 {
-    let strings = part(bytes, symtab.stroff as usize, symtab.strsize as usize);
     let entry = entry_at(bytes, symtab, i);
-    match symbol_of(alloc, strings, sections, &entry)? {
+    match symbol_of(strings, sections, &entry)? {
         Some(symbol) => Ok(symbol),
         None => Err(ObjFault::Malformed {
             place: u64::from(symtab.symoff) + 16 * i as u64,
@@ -202,15 +197,26 @@ fn symbol_at(
     }
 }
 
-/// The symbols of the table, in its order.
+// The strings of the symbols' names.
+fn strings_of(alloc: Global, file: &Bytes, symtab: &SymtabCommand) -> Result<Strings, OutOfMemory>
+    requires { IsTable (length file.now) symtab.now }
+    ensures { IfOk result (λ strings. strings ≡ symbols.strings_of file.now symtab.now) }
+{
+    let strings = file.part(symtab.stroff as usize, symtab.strsize as usize)?;
+    Strings::new(alloc, strings)
+}
+
+// The symbols of the table, whose names are among the strings.
 #[tactic(auto, using(mo_types::proofs::Each::table_loop, crate::proofs::TableLemmas::each, crate::proofs::SymbolLemmas::counts), unfolding(crate::specs::Symbols::symbols_of))]
-pub fn symbols_of(
+fn symbols_with(
     alloc: Global,
     bytes: &[u8],
     symtab: &SymtabCommand,
+    strings: &Strings,
     sections: &[Section],
 ) -> Result<SymbolList, ObjFault>
     requires table { IsTable (length bytes.now) symtab.now }
+    requires strings { strings.now ≡ symbols.strings_of bytes.now symtab.now }
     requires sections { All IsRoomy sections.now }
     ensures exact { Gives IsObjFault result (symbols.symbols_of bytes.now symtab.now sections.now) }
     ensures placed { IfOk result (Each (IsInPlace sections.now)) }
@@ -219,9 +225,26 @@ pub fn symbols_of(
     let count = symtab.nsyms as usize;
     let mut list = Vec::with_capacity(alloc, count)?;
     for i in 0..count {
-        list.push(symbol_at(alloc, bytes, symtab, sections, i)?)?;
+        list.push(symbol_at(bytes, symtab, strings, sections, i)?)?;
     }
     Ok(SymbolList::from_vec(list))
+}
+
+/// The symbols of the table, in its order. Their names are parts of the file.
+pub fn symbols_of(
+    alloc: Global,
+    file: &Bytes,
+    symtab: &SymtabCommand,
+    sections: &[Section],
+) -> Result<SymbolList, ObjFault>
+    requires table { IsTable (length file.now) symtab.now }
+    requires sections { All IsRoomy sections.now }
+    ensures exact { Gives IsObjFault result (symbols.symbols_of file.now symtab.now sections.now) }
+    ensures placed { IfOk result (Each (IsInPlace sections.now)) }
+    ensures count { IfOk result (λ list. length list ≡ symtab.now.nsyms) }
+{
+    let strings = strings_of(alloc, file, symtab)?;
+    symbols_with(alloc, file.as_slice(), symtab, &strings, sections)
 }
 
 fn is_foreign(entry: &Nlist) -> bool

@@ -9,13 +9,14 @@ mod sample;
 mod symbols;
 
 use super::read_object;
-use mo_types::{Kind, ObjFault, Object, Rule, kind_of};
+use mo_types::{Bytes, Kind, ObjFault, Object, Rule, kind_of};
 use std::alloc::Global;
 
 // The object of some bytes, where their kind is that of a Mach-O file.
 fn read(alloc: Global, bytes: &[u8]) -> Result<Object, ObjFault> {
-    match kind_of(bytes) {
-        Kind::MachO => read_object(alloc, bytes),
+    let file = Bytes::from_slice(alloc, bytes)?;
+    match kind_of(file.as_slice()) {
+        Kind::MachO => read_object(alloc, &file),
         _ => Err(ObjFault::Malformed {
             place: 0,
             rule: Rule::NotAnInput,

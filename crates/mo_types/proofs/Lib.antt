@@ -1,3 +1,4 @@
 pub mod Each
+pub mod Fronts
 pub mod Scanning
 pub mod Goals

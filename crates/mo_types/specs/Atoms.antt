@@ -1,6 +1,6 @@
 -- The atoms of an object. A linked section is cut into pieces, each of which is placed as a whole
 -- (`loader.h`: MH_SUBSECTIONS_VIA_SYMBOLS; `nlist.h`: N_ALT_ENTRY).
-use Rattle.std.specs.Prelude.{ℕ, zero, suc, ◌+◌, ◌-◌, ◌%◌, ◌==◌, ◌&&◌, ◌||◌, Bool, false, not, nat_eq, nat_lt, min, List, [], ◌∷◌, ◌++◌, take, drop, filter, slice_index, slice_index_or, codes, Option, Some, None, if◌then◌else◌}
+use Rattle.std.specs.Prelude.{ℕ, zero, suc, ◌+◌, ◌-◌, ◌%◌, ◌==◌, ◌&&◌, ◌||◌, Bool, false, not, nat_eq, nat_lt, min, List, [], ◌∷◌, ◌++◌, filter, slice_index, slice_index_or, codes, Option, Some, None, if◌then◌else◌}
 use Rattle.std.specs.Int.{w64, trailing_zeros}
 use Rattle.std.specs.List.{list_any, starts_with, range_with_len}
 use Rattle.mo_types.specs.declared.atom.Atom.{Atom}
@@ -59,7 +59,6 @@ piece file number section from to = record {
   key = record { file = file; section = number; offset = from };
   size = to - from;
   align = align_at section.align from;
-  bytes = take (to - from) (drop from section.bytes);
 }
 
 -- the pieces that begin at rising cuts, each of which ends at the next cut, the last at the section's end

@@ -7,9 +7,9 @@ use Rattle.mo_types.specs.declared.cause.Feature.TheVariants.{Fat64, ThinArchive
 use Rattle.mo_types.specs.declared.kind.Kind.{Kind}
 use Rattle.mo_types.specs.declared.kind.Kind.TheVariants.{MachO, Archive, Universal, Stub, NotAnInput, Refused}
 
--- neither a space nor a tab
+-- neither a space nor a tab, nor a carriage return, with which a line may end
 abbrev pub is_other : ℕ → Bool
-is_other byte = not (byte == 0x20) && not (byte == 0x09)
+is_other byte = not (byte == 0x20) && not (byte == 0x09) && not (byte == 0x0d)
 
 -- the lines of a text, each without the newline that ends it
 abbrev pub lines : List ℕ → List (List ℕ)

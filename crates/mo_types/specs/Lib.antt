@@ -1,7 +1,10 @@
 pub mod Answer
+pub mod AtomBytes
 pub mod Atoms
 pub mod Cause
+pub mod FaultText
 pub mod Gives
+pub mod Keys
 pub mod Kind
 pub mod Message
 pub mod Refs

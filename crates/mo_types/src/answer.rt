@@ -2,9 +2,9 @@ ghost use Rattle.std.specs.Prelude.{◌≡◌};
 ghost use Rattle.mo_types.specs.Answer.{code_of};
 ghost use Rattle.mo_types.specs.declared.answer.Status.TheVariants as answer;
 
-use crate::bytes::Bytes;
 use crate::cause::{Feature, RangeKind, Rule, UsageRule, Which};
 use crate::memory::OutOfMemory;
+use crate::string::Bytes;
 use std::alloc::{AllocError, AllocFailed};
 
 /// Why a command line that is well written gets no image. A file is a path, or `path(member)` for an

@@ -4,9 +4,9 @@ ghost use Rattle.std.specs.Ordering.{as_partial_cmp, eq_by_cmp};
 ghost use Rattle.mo_types.specs.Goals as goals;
 ghost use Rattle.mo_types.specs.GoalOrder.{compare_goals_total, compare_goals_equal, compare_goals_partial};
 
-use crate::bytes::Bytes;
 use crate::items::Items;
 use crate::key::AtomKey;
+use crate::string::Bytes;
 use std::alloc::AllocError;
 use std::cmp::Ordering;
 

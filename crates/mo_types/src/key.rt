@@ -1,3 +1,8 @@
+ghost use Rattle.std.specs.Prelude.{◌≡◌};
+ghost use Rattle.mo_types.specs.Keys.{compare_files, compare_keys};
+ghost use Rattle.mo_types.specs.declared.key.AtomKey.{AtomKey};
+ghost use Rattle.mo_types.specs.declared.key.FileId.{FileId};
+
 /// A loaded file. Files are ordered by position, then by member.
 #[derive(Clone, Copy, Debug, PartialEq, Eq, PartialOrd, Ord, Hash)]
 pub struct FileId {
@@ -17,3 +22,13 @@ pub struct AtomKey {
     /// Its offset in the section in bytes; for a common symbol, the symbol's index from 0.
     pub offset: u64,
 }
+
+/// The derived order of files is that of the command line. A law, which does nothing.
+pub fn files_are_in_order()
+    ensures { (a b : FileId) → ⟦<FileId as Ord>⟧.cmp a b ≡ compare_files a b }
+{}
+
+/// The derived order of atoms is by file, section and offset. A law, which does nothing.
+pub fn keys_are_in_order()
+    ensures { (a b : AtomKey) → ⟦<AtomKey as Ord>⟧.cmp a b ≡ compare_keys a b }
+{}

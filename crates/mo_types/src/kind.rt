@@ -29,7 +29,7 @@ fn first_other(line: &[u8]) -> Option<u8>
 {
     line.iter()
         .copied()
-        .find(|byte| *byte != b' ' && *byte != b'\t')
+        .find(|byte| *byte != b' ' && *byte != b'\t' && *byte != b'\r')
 }
 
 // Whether a line has only blanks, or a `#` after its blanks.

@@ -3,7 +3,6 @@
 
 mod answer;
 mod atom;
-mod bytes;
 mod cause;
 mod goal;
 mod items;
@@ -16,17 +15,17 @@ mod out_section;
 mod reference;
 mod reference_fault;
 mod section;
+mod string;
 #[cfg(test)]
 mod tests;
 mod whole;
 
 pub use answer::{Refusal, Status};
 pub use atom::{Atom, AtomList};
-pub use bytes::{Arg, ArgList, Bytes, NameList};
 pub use cause::{Feature, RangeKind, Rule, UsageRule, Which};
 pub use goal::{Goal, GoalList};
 pub use items::Items;
-pub use key::{AtomKey, FileId};
+pub use key::{AtomKey, FileId, files_are_in_order, keys_are_in_order};
 pub use kind::{Kind, kind_of};
 pub use memory::OutOfMemory;
 pub use object::{
@@ -36,3 +35,4 @@ pub use object_fault::ObjFault;
 pub use out_section::{KeyList, OutSection, OutSections};
 pub use reference::{Field, Ref, RefKind, RefList, Target};
 pub use reference_fault::RefFault;
+pub use string::{Arg, ArgList, Bytes, NameList};

@@ -1,5 +1,5 @@
-use crate::bytes::Bytes;
 use crate::items::Items;
+use crate::string::Bytes;
 
 /// What a symbol stands for (`nlist.h`: `n_type`, `n_sect`, `n_value`).
 #[derive(Clone, Copy, Debug, PartialEq, Eq)]

@@ -49,6 +49,11 @@ impl<T: Drop> From<AllocFailed<T>> for ObjFault {
 }
 
 impl fmt::Display for ObjFault {
+    ghost use Rattle.std.specs.Prelude.{Some};
+    ghost use Rattle.mo_types.specs.FaultText.{object_fault_text};
+
+    ghost output = { λ fault. Some (object_fault_text fault) };
+
     fn fmt<W: fmt::Write>(&self, f: &mut fmt::Formatter<W>) -> fmt::Result {
         match self {
             ObjFault::Malformed { place, rule } => {

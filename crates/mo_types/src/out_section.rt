@@ -1,6 +1,6 @@
-use crate::bytes::Bytes;
 use crate::items::Items;
 use crate::key::AtomKey;
+use crate::string::Bytes;
 
 /// Atoms by their keys, in a stated order.
 pub type KeyList = Items<AtomKey>;

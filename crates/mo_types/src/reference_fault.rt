@@ -3,8 +3,6 @@ ghost use Rattle.std.specs.Prelude.{◌≡◌};
 use crate::cause::Feature;
 use crate::memory::OutOfMemory;
 use std::alloc::{AllocError, AllocFailed};
-use std::error::Error;
-use std::fmt;
 
 /// Why the references of an object aren't read. A place is that of a relocation in the object's bytes.
 #[derive(Clone, Copy, Debug, PartialEq, Eq)]
@@ -51,21 +49,3 @@ impl<T: Drop> From<AllocFailed<T>> for RefFault {
         RefFault::OutOfMemory
     }
 }
-
-impl fmt::Display for RefFault {
-    fn fmt<W: fmt::Write>(&self, f: &mut fmt::Formatter<W>) -> fmt::Result {
-        match self {
-            RefFault::BadPair { place } => write!(f, "half a pair of relocations at {place}"),
-            RefFault::BadShape { place } => write!(f, "a relocation of no known form at {place}"),
-            RefFault::BadPlace { place } => write!(f, "a relocation of a bad field at {place}"),
-            RefFault::BadTarget { place } => write!(f, "a relocation of a bad target at {place}"),
-            RefFault::Unsupported(feature) => {
-                let name = feature.as_str();
-                write!(f, "unsupported {name}")
-            }
-            RefFault::OutOfMemory => write!(f, "out of memory"),
-        }
-    }
-}
-
-impl Error for RefFault {}

@@ -10,9 +10,7 @@ fn is_named(alloc: Global, variant: &impl Debug, name: &str) -> Result<bool, All
     Ok(lower_case.as_str() == name)
 }
 
-// A message shows each cause by its variant's name in lower case, which `Debug` prints.
-#[test]
-fn rules_are_named_as_their_variants(rt: HostRuntime) -> Result<(), Fail> {
+fn rules_are_named(alloc: Global) -> Result<bool, AllocError> {
     for cause in [
         Rule::NotAnInput,
         Rule::Header,
@@ -44,13 +42,14 @@ fn rules_are_named_as_their_variants(rt: HostRuntime) -> Result<(), Fail> {
         Rule::NoTarget,
         Rule::BadKey,
     ] {
-        assert!(rt; is_named(rt.alloc(), &cause, cause.as_str())?, "{cause:?}");
+        if !is_named(alloc, &cause, cause.as_str())? {
+            return Ok(false);
+        }
     }
-    Ok(())
+    Ok(true)
 }
 
-#[test]
-fn features_are_named_as_their_variants(rt: HostRuntime) -> Result<(), Fail> {
+fn features_are_named(alloc: Global) -> Result<bool, AllocError> {
     for cause in [
         Feature::SectionType,
         Feature::ObjcSection,
@@ -73,13 +72,14 @@ fn features_are_named_as_their_variants(rt: HostRuntime) -> Result<(), Fail> {
         Feature::EhFrame,
         Feature::Later,
     ] {
-        assert!(rt; is_named(rt.alloc(), &cause, cause.as_str())?, "{cause:?}");
+        if !is_named(alloc, &cause, cause.as_str())? {
+            return Ok(false);
+        }
     }
-    Ok(())
+    Ok(true)
 }
 
-#[test]
-fn limits_are_named_as_their_variants(rt: HostRuntime) -> Result<(), Fail> {
+fn limits_are_named(alloc: Global) -> Result<bool, AllocError> {
     for cause in [
         Which::Inputs,
         Which::FileBytes,
@@ -92,13 +92,14 @@ fn limits_are_named_as_their_variants(rt: HostRuntime) -> Result<(), Fail> {
         Which::NamePool,
         Which::Sections,
     ] {
-        assert!(rt; is_named(rt.alloc(), &cause, cause.as_str())?, "{cause:?}");
+        if !is_named(alloc, &cause, cause.as_str())? {
+            return Ok(false);
+        }
     }
-    Ok(())
+    Ok(true)
 }
 
-#[test]
-fn ranges_are_named_as_their_variants(rt: HostRuntime) -> Result<(), Fail> {
+fn ranges_are_named(alloc: Global) -> Result<bool, AllocError> {
     for cause in [
         RangeKind::ImageSize,
         RangeKind::Branch,
@@ -110,13 +111,14 @@ fn ranges_are_named_as_their_variants(rt: HostRuntime) -> Result<(), Fail> {
         RangeKind::RebaseTarget,
         RangeKind::FixupPlace,
     ] {
-        assert!(rt; is_named(rt.alloc(), &cause, cause.as_str())?, "{cause:?}");
+        if !is_named(alloc, &cause, cause.as_str())? {
+            return Ok(false);
+        }
     }
-    Ok(())
+    Ok(true)
 }
 
-#[test]
-fn usage_rules_are_named_as_their_variants(rt: HostRuntime) -> Result<(), Fail> {
+fn usage_rules_are_named(alloc: Global) -> Result<bool, AllocError> {
     for cause in [
         UsageRule::Unknown,
         UsageRule::NoValue,
@@ -124,77 +126,104 @@ fn usage_rules_are_named_as_their_variants(rt: HostRuntime) -> Result<(), Fail> 
         UsageRule::DylibOnly,
         UsageRule::NoInput,
     ] {
-        assert!(rt; is_named(rt.alloc(), &cause, cause.as_str())?, "{cause:?}");
+        if !is_named(alloc, &cause, cause.as_str())? {
+            return Ok(false);
+        }
     }
-    Ok(())
+    Ok(true)
 }
 
-#[test]
-fn answers_have_the_codes_of_the_program(rt: HostRuntime) -> Result<(), Fail> {
-    let refusal = Refusal::Limit {
+fn read_fault() -> Status {
+    Status::ReadFault {
+        path: Bytes::from_static(b"main.o"),
+    }
+}
+
+fn refused() -> Status {
+    Status::Refused(Refusal::Limit {
         which: Which::Atoms,
-    };
-    let usage = Status::Usage {
+    })
+}
+
+fn usage() -> Status {
+    Status::Usage {
         word: 1,
         rule: UsageRule::Unknown,
-    };
-    let read_fault = Status::ReadFault {
-        path: Bytes::from_slice(rt.alloc(), b"main.o")?,
-    };
-    assert_eq!(rt; Status::Done.code(), 0);
-    assert_eq!(rt; Status::Refused(refusal).code(), 1);
-    assert_eq!(rt; usage.code(), 2);
-    assert_eq!(rt; read_fault.code(), 3);
-    assert_eq!(rt; Status::WriteFault.code(), 3);
-    for memory in [
-        Status::OutOfMemory,
-        Status::from(OutOfMemory),
-        Status::from(AllocError),
-    ] {
-        assert_eq!(rt; memory.code(), 4);
     }
-    assert_eq!(rt;
-        OutOfMemory.to_string(rt.alloc())?.as_str(),
-        "out of memory"
-    );
+}
+
+// Each answer with the exit status of the program.
+fn codes_are_the_programs() -> bool {
+    Status::Done.code() == 0
+        && refused().code() == 1
+        && usage().code() == 2
+        && read_fault().code() == 3
+        && Status::WriteFault.code() == 3
+        && Status::OutOfMemory.code() == 4
+        && Status::from(OutOfMemory).code() == 4
+        && Status::from(AllocError).code() == 4
+}
+
+// A message shows each cause by its variant's name in lower case, which `Debug` prints.
+#[test]
+fn causes_and_answers_are_as_messages_show_them(rt: HostRuntime) -> Result<(), Fail> {
+    assert!(rt; rules_are_named(rt.alloc())?);
+    assert!(rt; features_are_named(rt.alloc())?);
+    assert!(rt; limits_are_named(rt.alloc())?);
+    assert!(rt; ranges_are_named(rt.alloc())?);
+    assert!(rt; usage_rules_are_named(rt.alloc())?);
+    assert!(rt; codes_are_the_programs());
+    assert!(rt; OutOfMemory.to_string(rt.alloc())?.as_str() == "out of memory");
     Ok(())
 }
 
-#[test]
-fn strings_of_bytes_keep_them_in_order(rt: HostRuntime) -> Result<(), Fail> {
-    assert!(rt; Bytes::new(rt.alloc()).is_empty());
-    let name = Bytes::from_vec(vec![in rt.alloc(); b'_', b'a']?);
-    assert_eq!(rt; name.as_slice(), b"_a".as_slice());
-    assert_eq!(rt; name.len(), 2);
-    let longer = Bytes::from_slice(rt.alloc(), b"_a\0")?;
-    let later = Bytes::from_slice(rt.alloc(), b"\xff")?;
-    assert!(rt; name == name.clone()? && name < longer && longer < later);
-    assert_eq!(rt; later.into_vec().as_slice(), b"\xff".as_slice());
-    let word = Arg::new(String::from_str(rt.alloc(), "-o")?);
-    assert_eq!(rt; word.as_bytes(), b"-o".as_slice());
-    Ok(())
+// Parts of a shared string are its bytes, and outlive it.
+fn parts_are_shared(alloc: Global) -> Result<bool, OutOfMemory> {
+    let whole = Bytes::from_vec(vec![in alloc; 7; 5000]?)?;
+    if whole.len() != 5000 {
+        return Ok(false);
+    }
+    let part = whole.part(4000, 1000)?;
+    drop(whole);
+    let copy = part.clone()?;
+    drop(part);
+    Ok(copy.len() == 1000 && copy.as_slice().iter().all(|byte| *byte == 7))
 }
 
-#[test]
-fn lists_keep_their_elements_in_order(rt: HostRuntime) -> Result<(), Fail> {
-    let mut list = Items::new(rt.alloc());
-    assert!(rt; list.is_empty());
+fn copies_are_alike(alloc: Global) -> Result<bool, OutOfMemory> {
+    let name = Bytes::from_slice(alloc, b"_ab")?;
+    let end = name.part(1, 2)?;
+    let copy = name.clone()?;
+    Ok(copy == name && end.as_slice() == b"ab".as_slice() && name.part(3, 0)?.is_empty())
+}
+
+fn strings_are_ordered_byte_by_byte() -> bool {
+    let name = Bytes::from_static(b"_a");
+    let longer = Bytes::from_static(b"_a\0");
+    let later = Bytes::from_static(b"\xff");
+    Bytes::new() < name && name < longer && longer < later
+}
+
+fn words_are_their_bytes(alloc: Global) -> Result<bool, AllocError> {
+    let word = Arg::new(String::from_str(alloc, "-o")?);
+    Ok(word.as_bytes() == b"-o".as_slice())
+}
+
+fn lists_keep_their_elements(alloc: Global) -> Result<bool, OutOfMemory> {
+    let mut list = Items::new(alloc);
     for number in [3u32, 1, 2] {
         list.push(number)?;
     }
-    assert_eq!(rt; list.len(), 3);
-    assert_eq!(rt; list.as_slice(), [3, 1, 2].as_slice());
-    for (at, want) in [(0, Some(3)), (2, Some(2)), (3, None), (usize::MAX, None)] {
-        assert_eq!(rt; list.get(at).copied(), want, "at {at}");
+    let same = list.as_slice() == [3, 1, 2].as_slice() && list.get(3).is_none();
+    let mut again = Items::from_vec(list.into_vec());
+    for number in 3..5000 {
+        again.push(number)?;
     }
-    let again = Items::from_vec(list.into_vec());
-    assert_eq!(rt; again.as_slice(), [3, 1, 2].as_slice());
-    Ok(())
+    Ok(same && again.len() == 5000 && again.get(4999).copied() == Some(4999))
 }
 
 // Files and atoms are ordered by their fields in turn.
-#[test]
-fn keys_are_in_the_order_of_the_command_line(rt: HostRuntime) {
+fn keys_rise() -> bool {
     let mut last = None;
     for (position, member, section, offset) in [
         (0, 0, 1, 0),
@@ -208,15 +237,29 @@ fn keys_are_in_the_order_of_the_command_line(rt: HostRuntime) {
             section,
             offset,
         };
-        assert!(rt; last < Some(key), "at {key:?}");
+        if last >= Some(key) {
+            return false;
+        }
         last = Some(key);
     }
+    true
+}
+
+#[test]
+fn strings_and_lists_keep_their_order(rt: HostRuntime) -> Result<(), Fail> {
+    assert!(rt; parts_are_shared(rt.alloc())?);
+    assert!(rt; copies_are_alike(rt.alloc())?);
+    assert!(rt; strings_are_ordered_byte_by_byte());
+    assert!(rt; words_are_their_bytes(rt.alloc())?);
+    assert!(rt; lists_keep_their_elements(rt.alloc())?);
+    assert!(rt; keys_rise());
+    Ok(())
 }
 
 // Each file's first bytes with what it is.
 #[test]
 fn first_bytes_tell_what_a_file_is(rt: HostRuntime) -> Result<(), Fail> {
-    let files: [(&[u8], Kind); 24] = [
+    let files: [(&[u8], Kind); 26] = [
         (b"\xcf\xfa\xed\xfe", Kind::MachO),
         (b"\xcf\xfa\xed\xfe\x07\x00\x00\x01", Kind::MachO),
         (b"\xcf\xfa\xed", Kind::NotAnInput),
@@ -236,22 +279,24 @@ fn first_bytes_tell_what_a_file_is(rt: HostRuntime) -> Result<(), Fail> {
         (b"#---\n--- !tapi-tbd", Kind::Stub),
         (b" ---\n---\n", Kind::NotAnInput),
         (b"--\n---\n", Kind::NotAnInput),
-        (b"\r\n---\n", Kind::NotAnInput),
+        (b"\r\n---\n", Kind::Stub),
+        (b" \t\r\n# a comment\r\n---\r\n", Kind::Stub),
+        (b"x\r\n---\n", Kind::NotAnInput),
         (b"# only a comment", Kind::NotAnInput),
         (b"\n\n\n", Kind::NotAnInput),
         (b"int main(void) {}", Kind::NotAnInput),
         (b"", Kind::NotAnInput),
     ];
     for (bytes, kind) in files {
-        assert_eq!(rt; kind_of(bytes), kind, "{bytes:?}");
+        assert!(rt; kind_of(bytes) == kind, "{bytes:?}");
     }
     Ok(())
 }
 
-fn section_of(alloc: Global, kind: u8, bytes: &[u8]) -> Result<Section, OutOfMemory> {
-    Ok(Section {
-        segment: Bytes::from_slice(alloc, b"__TEXT")?,
-        name: Bytes::from_slice(alloc, b"__cstring")?,
+fn section_of(alloc: Global, kind: u8, bytes: &'static [u8]) -> Section {
+    Section {
+        segment: Bytes::from_static(b"__TEXT"),
+        name: Bytes::from_static(b"__cstring"),
         address: 0x100,
         size: bytes.len() as u64,
         align: 0,
@@ -259,24 +304,24 @@ fn section_of(alloc: Global, kind: u8, bytes: &[u8]) -> Result<Section, OutOfMem
         attributes: 0,
         file_offset: 0x200,
         reloc_offset: 0,
-        bytes: Bytes::from_slice(alloc, bytes)?,
+        bytes: Bytes::from_static(bytes),
         relocs: RelocList::new(alloc),
-    })
+    }
 }
 
 // An object of one section, and a definition in it.
 fn object_of(
     alloc: Global,
     kind: u8,
-    bytes: &[u8],
+    bytes: &'static [u8],
     section: u8,
     value: u64,
 ) -> Result<Object, OutOfMemory> {
     let mut sections = SectionList::new(alloc);
-    sections.push(section_of(alloc, kind, bytes)?)?;
+    sections.push(section_of(alloc, kind, bytes))?;
     let mut symbols = SymbolList::new(alloc);
     symbols.push(Symbol {
-        name: Bytes::from_slice(alloc, b"_s")?,
+        name: Bytes::from_static(b"_s"),
         kind: SymbolKind::Defined { section, value },
         external: true,
         hidden: false,
@@ -292,10 +337,20 @@ fn object_of(
     })
 }
 
+fn is_whole(
+    alloc: Global,
+    kind: u8,
+    bytes: &'static [u8],
+    section: u8,
+    value: u64,
+) -> Result<bool, OutOfMemory> {
+    Ok(object_of(alloc, kind, bytes, section, value)?.is_whole())
+}
+
 // Strings end in NUL, literals are whole, and a definition lies in its section or at its end.
 #[test]
 fn whole_objects_are_told_from_others(rt: HostRuntime) -> Result<(), Fail> {
-    let objects: [(u8, &[u8], u8, u64, bool); 9] = [
+    let objects: [(u8, &'static [u8], u8, u64, bool); 9] = [
         (2, b"a\0bc\0", 1, 0x100, true),
         (2, b"a\0bc\0", 1, 0x105, true),
         (2, b"a\0bc\0", 1, 0x106, false),
@@ -307,8 +362,8 @@ fn whole_objects_are_told_from_others(rt: HostRuntime) -> Result<(), Fail> {
         (4, b"a\0bc", 1, 0x100, false),
     ];
     for (kind, bytes, section, value, whole) in objects {
-        let object = object_of(rt.alloc(), kind, bytes, section, value)?;
-        assert_eq!(rt; object.is_whole(), whole, "{bytes:?} {section} {value}");
+        let answer = is_whole(rt.alloc(), kind, bytes, section, value)?;
+        assert!(rt; answer == whole, "{bytes:?} {section} {value}");
     }
     Ok(())
 }

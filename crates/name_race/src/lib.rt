@@ -54,18 +54,18 @@ impl Model for Racer {
 
 impl NameRace {
     /// Opens a race with these words, and a racer with all its passes.
-    pub fn begin(start: Vec<u64>, passes: u64) -> Result<(NameRace, Racer), OutOfMemory>
+    pub fn begin(
+        alloc: Global,
+        start: Vec<u64>,
+        passes: u64,
+    ) -> Result<(NameRace, Racer), OutOfMemory>
         requires names { 0 < length start.items }
         requires passes { 0 < passes }
         ensures race { IfOk result (λ r. (r.0.start ≡ start.items) × (r.0.passes ≡ passes)) }
         ensures racer { IfOk result (λ r. r.1 ≡ record { race = r.0; passes = passes; offers = []; known = [] }) }
     {
         let terms = Terms { start, passes };
-        let (table, seat) = Table::of_words(
-            *terms.start.allocator(),
-            terms.start.as_slice(),
-            &terms,
-        )?;
+        let (table, seat) = Table::of_words(alloc, terms.start.as_slice(), &terms)?;
         Ok((NameRace { table }, Racer { seat }))
     }
 

@@ -102,7 +102,7 @@ fn many_offers(alloc: Global, count: u32) -> Result<Vec<Offer>, AllocError>
 
 #[test]
 fn race_of_three_names(rt: HostRuntime) -> Result<(), Fail> {
-    let (race, racer) = NameRace::begin(vec![in rt.alloc(); NONE; 3]?, 2)?;
+    let (race, racer) = NameRace::begin(rt.alloc(), vec![in rt.alloc(); NONE; 3]?, 2)?;
     let events = [
         Offer {
             worker: 0,
@@ -134,8 +134,9 @@ fn race_of_three_names(rt: HostRuntime) -> Result<(), Fail> {
 
 #[test]
 fn a_racer_sees_the_word_of_another(rt: HostRuntime) -> Result<(), Fail> {
-    let (race, mut first) = NameRace::begin(vec![in rt.alloc(); NONE]?, 2)?;
+    let (race, mut first) = NameRace::begin(rt.alloc(), vec![in rt.alloc(); NONE]?, 2)?;
     let mut second = race.split(&mut first, 1);
+    assert_eq!(rt; race.least(&mut second, 0), NONE);
     assert_eq!(rt; race.offer(&mut first, 0, 7), NONE);
     assert_eq!(rt; race.least(&mut second, 0), 7);
     assert_eq!(rt; race.offer(&mut second, 0, 9), 7);
@@ -152,7 +153,7 @@ fn four_threads_settle_what_one_replays(rt: HostRuntime) -> Result<(), Fail> {
     let events = many_offers(rt.alloc(), 1_000_000)?;
     let mut replayed = vec![in rt.alloc(); NONE; 100_000]?;
     replay(replayed.as_mut_slice(), events.as_slice());
-    let (race, racer) = NameRace::begin(vec![in rt.alloc(); NONE; 100_000]?, 4)?;
+    let (race, racer) = NameRace::begin(rt.alloc(), vec![in rt.alloc(); NONE; 100_000]?, 4)?;
     let racer = offer_by_four(&rt, &race, racer, events.as_slice());
     let mut settled = vec![in rt.alloc(); 0; 100_000]?;
     race.settle(racer, settled.as_mut_slice());

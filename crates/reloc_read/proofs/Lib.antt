@@ -8,5 +8,6 @@ pub mod LookupLemmas
 pub mod NoFaultLemmas
 pub mod NumberLemmas
 pub mod OverlapLemmas
+pub mod PointLemmas
 pub mod RefLemmas
 pub mod ScanLemmas

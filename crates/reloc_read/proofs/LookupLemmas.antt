@@ -327,7 +327,7 @@ finds object file index d offset n atoms is within linked bound point =
 pub rising_atoms : (object : Object) (file : FileId) (atoms : List Atom) → atoms ≡ atoms_of object file → AllPairs (λ a b. IsBefore a.key b.key) atoms
 rising_atoms object file atoms is = rw is (atoms_rise object file)
 
-element_at : {A : Type 0} (xs : List A) (at : ℕ) → at < length xs → A
+pub element_at : {A : Type 0} (xs : List A) (at : ℕ) → at < length xs → A
 element_at [] at within = absurd (omega arith)
 element_at (x ∷ xs) zero within = x
 element_at (x ∷ xs) (suc at) within = element_at xs at (omega arith)

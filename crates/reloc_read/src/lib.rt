@@ -15,6 +15,7 @@ mod clang_objects;
 mod cut_object;
 mod faults;
 mod features;
+mod guide;
 mod linked_section;
 mod numbers;
 mod overlaps;
@@ -30,7 +31,8 @@ mod tests_clang;
 use cut_object::CutObject;
 use faults::all_faults;
 use features::{has_absolute, has_authenticated};
-use mo_types::{AtomList, Feature, FileId, Object, RefFault, RefList};
+use guide::guides_of;
+use mo_types::{AtomList, Feature, FileId, Object, OutOfMemory, RefFault, RefList};
 use refs::all_refs;
 use std::alloc::Global;
 
@@ -49,9 +51,11 @@ pub fn check(
     ensures exact { Gives IsRefFault result (checked object.now) }
     ensures clean { IfOk result (λ feature. IsClean object.now) }
 {
+    let guides = guides_of(alloc, atoms.as_slice(), object.sections.as_slice())?;
     let cut = CutObject {
         object,
         atoms: atoms.as_slice(),
+        guides: guides.as_slice(),
         file,
     };
     let faults = all_faults(alloc, &cut)?;
@@ -76,8 +80,30 @@ pub fn check(
     Ok(None)
 }
 
-/// The references of a whole object with its atoms, one for each row of the table of relocations, section by
-/// section, and in a section in the order of its relocations; or what `check` finds.
+/// The references of a whole object with its atoms, in which `check` found no rule that fails: one for each row of
+/// the table of relocations, section by section, and in a section in the order of its relocations.
+pub fn refs_of_checked(
+    alloc: Global,
+    object: &Object,
+    atoms: &AtomList,
+    file: FileId,
+) -> Result<RefList, OutOfMemory>
+    requires whole { IsWhole object.now }
+    requires atoms { atoms.now ≡ atoms_of object.now file }
+    requires clean { IsClean object.now }
+    ensures { IfOk result (λ found. found ≡ refs.refs_from object.now file 1 object.now.sections) }
+{
+    let guides = guides_of(alloc, atoms.as_slice(), object.sections.as_slice())?;
+    let cut = CutObject {
+        object,
+        atoms: atoms.as_slice(),
+        guides: guides.as_slice(),
+        file,
+    };
+    all_refs(alloc, &cut)
+}
+
+/// The references of a whole object with its atoms, or what `check` finds.
 #[tactic(auto, using(crate::proofs::CheckedLemmas::checks))]
 pub fn refs_of(
     alloc: Global,
@@ -92,10 +118,5 @@ pub fn refs_of(
     if let Some(feature) = check(alloc, object, atoms, file)? {
         return Err(RefFault::Unsupported(feature));
     }
-    let cut = CutObject {
-        object,
-        atoms: atoms.as_slice(),
-        file,
-    };
-    Ok(all_refs(alloc, &cut)?)
+    Ok(refs_of_checked(alloc, object, atoms, file)?)
 }

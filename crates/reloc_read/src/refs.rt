@@ -149,6 +149,7 @@ fn add_rows(out: &mut Vec<Ref>, linked: &LinkedSection) -> Result<(), OutOfMemor
     requires clean { IsClean linked.now.cut.object.now }
     ensures { OnOk result (out.new.items ≡ out.old.items ++ refs.section_refs linked.now.cut.object.now linked.now.cut.file (linked.now.index + 1) linked.now.section.now) }
 {
+    out.reserve(linked.section.relocs.len())?;
     for at in 0..linked.section.relocs.len() {
         add(out, reference_at(linked, at))?;
     }

@@ -1,3 +1,5 @@
+ghost use Rattle.std.specs.Prelude.{◌<◌};
+
 use super::refs_of;
 use atom_cut::cut;
 use mo_types::{
@@ -48,7 +50,7 @@ fn symbols(alloc: Global) -> Result<SymbolList, OutOfMemory> {
     let mut symbols = SymbolList::new(alloc);
     for kind in &SYMBOLS {
         symbols.push(Symbol {
-            name: Bytes::from_slice(alloc, b"_s")?,
+            name: Bytes::from_static(b"_s"),
             kind: *kind,
             external: false,
             hidden: false,
@@ -79,8 +81,8 @@ fn section(
         })?;
     }
     Ok(Section {
-        segment: Bytes::from_slice(alloc, b"__DATA")?,
-        name: Bytes::from_slice(alloc, b"__data")?,
+        segment: Bytes::from_static(b"__DATA"),
+        name: Bytes::from_static(b"__data"),
         address,
         size: bytes.len() as u64,
         align: 3,
@@ -235,6 +237,94 @@ static FAULTS: [(&[Raw], RefFault); 8] = [
 fn first_faults(rt: HostRuntime) -> Result<(), Fail> {
     for (relocs, fault) in &FAULTS {
         check(&rt, relocs, Err(*fault))?;
+    }
+    Ok(())
+}
+
+const MANY: u32 = 5000;
+
+fn many_symbols(alloc: Global) -> Result<SymbolList, OutOfMemory> {
+    let mut symbols = SymbolList::new(alloc);
+    for number in 0..MANY {
+        symbols.push(Symbol {
+            name: Bytes::from_static(b"_s"),
+            kind: SymbolKind::Defined {
+                section: 1,
+                value: 8 * u64::from(number),
+            },
+            external: false,
+            hidden: false,
+            weak_def: false,
+            weak_ref: false,
+            no_strip: false,
+            alt: false,
+        })?;
+    }
+    Ok(symbols)
+}
+
+// The number of the symbol at which the relocation of an index has its field, and to which it leads.
+fn number_at(index: u32, step: u32) -> u32
+    ensures { result < 5000 }
+{
+    index.wrapping_mul(step) % MANY
+}
+
+fn many_relocs(alloc: Global, step: u32) -> Result<RelocList, OutOfMemory> {
+    let mut relocs = RelocList::new(alloc);
+    for index in 0..MANY {
+        relocs.push(RawReloc {
+            address: 8 * number_at(index, step),
+            number: number_at(index, step),
+            pcrel: false,
+            length: 3,
+            external: true,
+            kind: 0,
+        })?;
+    }
+    Ok(relocs)
+}
+
+fn many(alloc: Global, step: u32) -> Result<Object, OutOfMemory> {
+    let bytes = Bytes::from_vec(vec![in alloc; 0; 8 * MANY as usize]?)?;
+    let mut sections = SectionList::new(alloc);
+    sections.push(Section {
+        segment: Bytes::from_static(b"__DATA"),
+        name: Bytes::from_static(b"__data"),
+        address: 0,
+        size: bytes.len() as u64,
+        align: 3,
+        kind: 0,
+        attributes: 0,
+        file_offset: 0x200,
+        reloc_offset: AT,
+        bytes,
+        relocs: many_relocs(alloc, step)?,
+    })?;
+    Ok(Object {
+        subsections: true,
+        sections,
+        symbols: many_symbols(alloc)?,
+    })
+}
+
+// Relocations in rising, falling and scattered order.
+#[test]
+fn many_references(rt: HostRuntime) -> Result<(), Fail> {
+    let alloc = rt.alloc();
+    for step in [1, MANY - 1, 3001] {
+        let object = many(alloc, step)?;
+        assert!(rt; object.is_whole());
+        let atoms = cut(alloc, &object, FILE)?;
+        let Ok(found) = refs_of(alloc, &object, &atoms, FILE) else {
+            return Err(Fail::from("the references weren't read"));
+        };
+        assert!(rt; found.len() == MANY as usize);
+        for (index, found) in found.as_slice().iter().enumerate() {
+            let number = number_at(u32::try_from(index).unwrap_or(0), step);
+            assert!(rt; found.atom.offset == 8 * u64::from(number) && found.place == 0);
+            assert!(rt; found.target == Target::Name(number));
+        }
     }
     Ok(())
 }

@@ -1,7 +1,7 @@
 //! Lists of slots against orders that were written down by hand.
 use super::*;
 use mo_types::{AtomKey, Bytes, FileId, Goal, OutOfMemory};
-use std::alloc::{AllocError, Global};
+use std::alloc::Global;
 use std::test::Fail;
 
 fn key(position: u16, section: u16, offset: u64) -> AtomKey {
@@ -120,9 +120,9 @@ fn one_goal_in_two_ways(rt: HostRuntime) -> Result<(), Fail> {
 }
 
 // The goal with a number for its name.
-fn numbered(alloc: Global, number: u32) -> Result<Goal, AllocError> {
+fn numbered(alloc: Global, number: u32) -> Result<Goal, OutOfMemory> {
     let name = format!(in alloc; "_{number:05}")?;
-    Ok(Goal::Flat(Bytes::from_vec(name.into_bytes())))
+    Ok(Goal::Flat(Bytes::from_vec(name.into_bytes())?))
 }
 
 // Needs of names 0 to 2999, seven times over, each by the way of its number.

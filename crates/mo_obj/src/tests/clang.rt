@@ -285,7 +285,7 @@ fn assembled_symbols() -> &'static [SymbolRow] {
         ("_weak", "defined", [2, 0x40], "external weak"),
         ("_word", "defined", [2, 0x28], "external"),
         ("__tlv_bootstrap", "undefined", [0, 0], "external"),
-        ("_common", "common", [12, 2], "external alt"),
+        ("_common", "common", [12, 2], "external"),
         ("_far", "undefined", [0, 0], "external"),
         ("_maybe", "undefined", [0, 0], "external maybe"),
     ]

@@ -26,7 +26,7 @@ fn symbols() -> &'static [SymbolRow] {
         ("_main", "defined", [1, 0], "external"),
         ("_helper", "undefined", [0, 0], "external"),
         // the bits of a common's alignment are those of other marks too
-        ("_common", "common", [8, 3], "external alt"),
+        ("_common", "common", [8, 3], "external"),
         ("_number", "absolute", [0, 0], ""),
         ("_debug", "defined", [5, 0x40], ""),
         ("_lost", "passed", [0, 0], ""),

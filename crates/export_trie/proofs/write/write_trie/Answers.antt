@@ -48,7 +48,7 @@ returns-clause-exact c =
     c.requires.distinct c.in_ok-order.ensures.permutation c.in_ok-order.ensures.sorted c.in_ok-nodes.ensures.held c.in_ok-rows.ensures in
     trie_is c.args.exports.now (held c.as_slice-order.result.now) c.as_slice-nodes.result.now (rows_of c.as_slice-rows.result.now) tree c.as_slice-2.result.now _
     (subst (AreLeast (held c.as_slice-order.result.now) c.as_slice-nodes.result.now (rows_of c.as_slice-rows.result.now)) (sym c.as_slice-2.ensures.value) c.in_ok-places.ensures)
-    (c.from_vec.ensures ∙ (c.in_ok-pad.ensures ∙ ap padded c.in_ok-bytes.ensures.exact))
+    (c.in_ok-pad.ensures ∙ ap padded c.in_ok-bytes.ensures.exact)
 
 pub returns-clause-only : goal.returns-clause-only
 returns-clause-only c = λ other is.
@@ -58,7 +58,7 @@ returns-clause-only c = λ other is.
     one_trie c.args.exports.now other _ is
     (trie_is c.args.exports.now (held c.as_slice-order.result.now) c.as_slice-nodes.result.now (rows_of c.as_slice-rows.result.now) tree c.as_slice-2.result.now _
     (subst (AreLeast (held c.as_slice-order.result.now) c.as_slice-nodes.result.now (rows_of c.as_slice-rows.result.now)) (sym c.as_slice-2.ensures.value) c.in_ok-places.ensures)
-    (c.from_vec.ensures ∙ (c.in_ok-pad.ensures ∙ ap padded c.in_ok-bytes.ensures.exact)))
+    (c.in_ok-pad.ensures ∙ ap padded c.in_ok-bytes.ensures.exact))
 
 pub returns-clause-found : goal.returns-clause-found
 returns-clause-found c =
@@ -67,5 +67,5 @@ returns-clause-found c =
     c.requires.distinct c.in_ok-order.ensures.permutation c.in_ok-order.ensures.sorted c.in_ok-nodes.ensures.held c.in_ok-rows.ensures in
     trie_answers c.args.exports.now (held c.as_slice-order.result.now) c.as_slice-nodes.result.now (rows_of c.as_slice-rows.result.now) tree c.as_slice-2.result.now _
     (subst (AreLeast (held c.as_slice-order.result.now) c.as_slice-nodes.result.now (rows_of c.as_slice-rows.result.now)) (sym c.as_slice-2.ensures.value) c.in_ok-places.ensures)
-    (c.from_vec.ensures ∙ (c.in_ok-pad.ensures ∙ ap padded c.in_ok-bytes.ensures.exact))
-    c.in_ok-bytes.ensures.small c.requires.no_nul (omega (arith, ap length c.from_vec.ensures, c.pad.new.out.ok.0, c.pad.new.out.small))
+    (c.in_ok-pad.ensures ∙ ap padded c.in_ok-bytes.ensures.exact)
+    c.in_ok-bytes.ensures.small c.requires.no_nul (omega (arith, c.pad.new.out.ok.0, c.pad.new.out.small))

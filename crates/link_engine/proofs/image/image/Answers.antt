@@ -10,7 +10,7 @@ pad-requires-2 c = omega (arith, c.in_ok-pad.ensures.size, c.in_ok-put_contents.
 
 pub returns : goal.returns
 returns c =
-    c.from_vec.ensures
+    c.in_ok-from_vec.ensures
     ∙ whole_image c.args.object.now c.args.entry c.place-placement.result _ _ _ _ _ c.place-placement.ensures.exact
     c.in_ok-image.ensures.items c.in_ok-write_front.ensures.bytes c.in_ok-pad.ensures.zeros
     c.in_ok-put_contents.ensures.bytes c.in_ok-pad-2.ensures.zeros

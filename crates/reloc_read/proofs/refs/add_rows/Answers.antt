@@ -1,4 +1,5 @@
-use Rattle.std.proofs.Common.{◌≡◌, length, arith}
+use Rattle.std.proofs.Common.{◌≡◌, ◌+◌, ◌++◌, ◌∙◌, ap, length, arith}
+use Rattle.mo_types.specs.Refs.{section_refs}
 use Rattle.reloc_read.proofs.RefLemmas.{refs_go_on, refs_end}
 use Rattle.reloc_read.proofs.refs.add_rows.Goals as goal
 
@@ -9,3 +10,4 @@ pub returns : goal.returns
 returns c =
     let whole : c.loop-at.at ≡ length c.args.linked.now.section.now.relocs = omega arith in
     refs_end _ _ _ _ _ _ c.loop-at.at c.loop-at.invariant c.requires.linked.kept whole
+    ∙ ap (λ xs. xs ++ section_refs c.args.linked.now.cut.object.now c.args.linked.now.cut.file (c.args.linked.now.index + 1) c.args.linked.now.section.now) c.in_ok-reserve.ensures.items

@@ -1,4 +1,4 @@
-ghost use Rattle.std.specs.Prelude.{◌≡◌, ◌↔◌, [], IsTrue, IfOk, length, nat_eq, refl, Some, string_bytes};
+ghost use Rattle.std.specs.Prelude.{◌≡◌, ◌↔◌, ◌+◌, ◌≤◌, ◌++◌, [], IsTrue, IfOk, drop, length, nat_eq, refl, Some, string_bytes, take};
 ghost use Rattle.std.specs.Ordering.{nat_cmp};
 ghost use Rattle.std.specs.Hash as fed;
 ghost use Rattle.std.specs.Cmp.Lexicographic.{pointwise, slice_cmp, nat_list_eq_equiv, nat_list_cmp_total, texts_ties, texts_po};
@@ -13,46 +13,58 @@ use std::cmp::Ordering;
 use std::hash::{Hash, Hasher};
 use std::marker::Model;
 
-/// A string of bytes: a path, a name, or the contents of a section. Strings are ordered byte by byte.
+/// A string of bytes: a path, a name, a file, or the contents of a section. Strings are ordered byte by byte.
+///
+/// It is a range of a block that may have several owners, so that a file's names and contents are parts of
+/// the file and no copies.
 #[derive(Debug, Drop)]
-pub struct Bytes(Vec<u8>);
+pub struct Bytes(bytes::Bytes);
 
 impl Model for Bytes {
     ghost use Rattle.std.specs.Prelude.{List, ℕ};
 
     ghost Value = { List ℕ };
 
-    ghost view = { λ bytes. bytes.0.items };
+    ghost view = { λ bytes. bytes.0 };
 }
 
 impl Bytes {
     /// The empty string, which takes no memory.
-    pub fn new(alloc: Global) -> Bytes
+    pub fn new() -> Bytes
         ensures { result ≡ [] }
     {
-        Bytes(Vec::new(alloc))
+        Bytes(bytes::Bytes::new())
     }
 
-    /// The bytes of a vector, without taking memory.
-    pub fn from_vec(bytes: Vec<u8>) -> Bytes
-        ensures { result ≡ bytes.items }
+    /// The bytes of a constant, without taking memory.
+    pub fn from_static(bytes: &'static [u8]) -> Bytes
+        ensures { result ≡ bytes.now }
     {
-        Bytes(bytes)
+        Bytes(bytes::Bytes::from_static(bytes))
+    }
+
+    /// The bytes of a vector, none of which is copied. The count of their owners takes memory.
+    pub fn from_vec(bytes: Vec<u8>) -> Result<Bytes, OutOfMemory>
+        ensures { IfOk result (λ whole. whole ≡ bytes.items) }
+    {
+        Ok(Bytes(bytes::Bytes::from_vec(bytes)?))
     }
 
     /// A copy of a slice.
     pub fn from_slice(alloc: Global, bytes: &[u8]) -> Result<Bytes, OutOfMemory>
         ensures { IfOk result (λ copy. copy ≡ bytes.now) }
     {
-        Ok(Bytes(Vec::from_slice(alloc, bytes)?))
+        Ok(Bytes(bytes::Bytes::copy_from_slice(alloc, bytes)?))
     }
 
-    /// The vector of the bytes, without taking memory.
-    pub fn into_vec(self) -> Vec<u8>
-        ensures { result.items ≡ self }
+    /// The part of `size` bytes from the byte `at` on, which shares them with the whole.
+    pub fn part(&self, at: usize, size: usize) -> Result<Bytes, OutOfMemory>
+        requires { at + size ≤ length self.now }
+        ensures { IfOk result (λ part. part ≡ take size (drop at self.now)) }
     {
-        let Bytes(bytes) = self;
-        bytes
+        let mut part = self.0.slice(at..)?;
+        part.truncate(size);
+        Ok(Bytes(part))
     }
 
     /// All of its bytes.
@@ -123,13 +135,25 @@ impl Ord for Bytes {
     }
 }
 
+// The first bytes of a string, or all where it has no more.
+#[tactic(auto, using(crate::proofs::Fronts::fronts))]
+fn front(bytes: &[u8]) -> &[u8]
+    ensures { result.now ≡ take 1024 bytes.now }
+{
+    let count = bytes.len().min(1024);
+    &bytes[..count]
+}
+
+// Strings that are parts of each other have other lengths, so that a hash of all their bytes, which is quadratic in
+// the file where they overlap, isn't needed to tell them apart.
 impl Hash for Bytes {
-    ghost hash_input = { fed.slice fed.u8 };
+    ghost hash_input = { λ bytes. fed.usize (length bytes) ++ fed.slice fed.u8 (take 1024 bytes) };
 
     ghost respects_eq = { Prim.search (hashing, rules) };
 
     fn hash<H: Hasher>(&self, state: &mut H) {
-        self.as_slice().hash(state);
+        self.len().hash(state);
+        front(self.as_slice()).hash(state);
     }
 }
 

@@ -1,7 +1,7 @@
 use Rattle.mo_types.proofs.Each.{IsReading}
 use Rattle.mo_obj.specs.Each.{Each}
 use Rattle.mo_obj.specs.Symbols.{IsInPlace, symbol_at}
-use Rattle.mo_obj.proofs.symbols.symbols_of.Given as goal
+use Rattle.mo_obj.proofs.symbols.symbols_with.Given as goal
 
 abbrev pub invariant-loop-i : goal.invariant-loop-i
 invariant-loop-i l = record {

@@ -2,7 +2,7 @@ use Rattle.std.proofs.Common.{rules}
 use Rattle.mo_types.proofs.Each.{stops}
 use Rattle.mo_obj.specs.Symbols.{symbol_at, symbols_of}
 use Rattle.mo_obj.proofs.SymbolLemmas.{fault_passed}
-use Rattle.mo_obj.proofs.symbols.symbols_of.Goals as goal
+use Rattle.mo_obj.proofs.symbols.symbols_with.Goals as goal
 
 pub returns-in_err-symbol_at-clause-exact : goal.returns-in_err-symbol_at-clause-exact
 unfolding symbols_of
