@@ -17,7 +17,8 @@ use Rattle.mo_types.specs.GoalOrder.{compare_goals_total, compare_goals_equal}
 use Rattle.mo_types.proofs.Goals.{same_goal, same_goals}
 use Rattle.slot_plan.specs.declared.need.Need.{Need}
 use Rattle.slot_plan.specs.declared.need.Way.{Way}
-use Rattle.slot_plan.specs.Slots.{AreSlots, needed}
+use Rattle.slot_plan.specs.declared.need.Way.TheVariants.{Got, Stub, Tlv}
+use Rattle.slot_plan.specs.Slots.{AreSlots, needed, in_got, in_stubs}
 use Rattle.std.proofs.lemmas.List.Elements.{filter-append}
 use Rattle.std.proofs.lemmas.List.{map-append, take_more, take_all}
 use Rattle.slot_plan.specs.inner.Held.{held, held_needs, HasTheSame}
@@ -170,6 +171,16 @@ slots_of_same ways needs few slots same are = record {
   all = λ goal h. are.all goal (needed_of_same ways needs few goal same.all h);
   only = λ goal h. needed_of_same ways few needs goal same.only (are.only goal h);
 }
+
+stub_in_got : (way : Way) → in_stubs way ≡ true → in_got way ≡ true
+stub_in_got Got served = cc
+stub_in_got Stub served = refl
+stub_in_got Tlv served = cc
+
+pub stub_has_slot : (needs : List Need) (got stubs : List Goal) → AreSlots (needed in_got needs) got → AreSlots (needed in_stubs needs) stubs → (goal : Goal) → Contains stubs goal → Contains got goal
+stub_has_slot needs got stubs a b goal h =
+    let at = from_needed in_stubs needs goal (in_from_Contains (needed in_stubs needs) goal (b.only goal h)) in
+    a.all goal (subst (Contains (needed in_got needs)) at.3 (Contains_from_in (needed in_got needs) at.0.goal (in_needed in_got needs at.0 at.1 (stub_in_got at.0.way at.2))))
 
 -- ---- a look-up
 

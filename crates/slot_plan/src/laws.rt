@@ -1,11 +1,12 @@
 //! What the definitions mean, each on a call that does nothing.
-ghost use Rattle.std.specs.Prelude.{◌≡◌, ◌≢◌, List};
+ghost use Rattle.std.specs.Prelude.{◌≡◌, ◌≢◌, List, Contains};
 ghost use Rattle.std.specs.List.{AllPairs};
 ghost use Rattle.std.specs.Cmp.{IsTotalOrder};
 ghost use Rattle.std.specs.declared.cmp.Ordering.TheVariants.{Equal};
 ghost use Rattle.mo_types.specs.Goals.{compare_goals};
 ghost use Rattle.mo_types.specs.declared.goal.Goal.{Goal};
-ghost use Rattle.slot_plan.specs.Slots.{AreSlots};
+ghost use Rattle.slot_plan.specs.declared.need.Need.{Need};
+ghost use Rattle.slot_plan.specs.Slots.{AreSlots, needed, in_got, in_stubs};
 
 /// The order of goals is a total one, in which no two different goals tie.
 #[tactic(auto, using(crate::proofs::Ordered::order_laws))]
@@ -23,4 +24,9 @@ pub fn a_goal_stands_once()
 /// The slots of some goals are one list.
 pub fn slots_are_one_list()
     ensures { (goals slots other : List Goal) → AreSlots goals slots → AreSlots goals other → slots ≡ other }
+{}
+
+/// What has a stub has a slot in the global offset table too, which the stub loads.
+pub fn stubs_have_slots()
+    ensures { (needs : List Need) (got stubs : List Goal) → AreSlots (needed in_got needs) got → AreSlots (needed in_stubs needs) stubs → (goal : Goal) → Contains stubs goal → Contains got goal }
 {}

@@ -10,7 +10,7 @@ mod plan;
 #[cfg(test)]
 mod tests;
 
-pub use laws::{a_goal_stands_once, goals_are_in_order, slots_are_one_list};
+pub use laws::{a_goal_stands_once, goals_are_in_order, slots_are_one_list, stubs_have_slots};
 pub use list::{SlotList, Slots};
 pub use need::{Need, NeedList, Way};
 pub use plan::slots;
