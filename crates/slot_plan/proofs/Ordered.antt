@@ -5,7 +5,6 @@ use Rattle.std.specs.List.{filter, dedup, AllPairs, HoldsAt}
 use Rattle.std.specs.declared.cmp.Ordering.TheVariants.{Less, Equal, Greater}
 use Rattle.std.specs.List.Sorted.{IsStrictlySortedBy, IsSorted, IsNonDecreasingBy, IsPartitionPoint}
 use Rattle.std.specs.Ordering.{on, eq_by_cmp, ordering_index}
-use Rattle.std.specs.Cmp.{IsTotalOrder, IsEquivalence}
 use Rattle.std.proofs.lemmas.Cmp.{on_total, on_equiv, tied_itself}
 use Rattle.std.proofs.lemmas.Bool.{cases_lt}
 use Rattle.std.proofs.lemmas.Option.{slice_get-get_or}

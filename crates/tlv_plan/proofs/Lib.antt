@@ -1,0 +1,3 @@
+pub mod Keys
+pub mod Walk
+pub mod Meaning

@@ -1,0 +1,19 @@
+use Rattle.std.proofs.Common.{rules, Some, sym, ap, ◌∙◌}
+use Rattle.std.proofs.lemmas.Fn.{always_returns_same}
+use Rattle.mo_types.specs.declared.atom.Atom.{Atom}
+use Rattle.tlv_plan.specs.Keys.{compare_keys}
+use Rattle.tlv_plan.proofs.Keys.{compare_keys_total, found_key, no_key, find_found, find_missing, sorted_from_rising}
+use Rattle.std.proofs.lemmas.Cmp.{on_total}
+use Rattle.tlv_plan.proofs.place.find_atom.Goals as goal
+
+pub returns-in-Ok : goal.returns-in-Ok
+returns-in-Ok c =
+    let by_key = c.in-Ok.ensures.position (λ (atom : Atom). compare_keys atom.key c.args.key.now) (always_returns_same _ _ _ (λ a r g called. search rules)) in
+    let has = found_key (λ (atom : Atom). atom.key) c.args.kept.now c.args.key.now c.in-Ok.at c.index-kept-at.result by_key in
+    ap Some c.index-kept-at.is ∙ sym (find_found (λ (atom : Atom). atom.key) c.args.kept.now c.args.key.now c.in-Ok.at c.index-kept-at.result c.requires c.in-Ok.ensures.bound has)
+
+pub returns-in-Err : goal.returns-in-Err
+returns-in-Err c =
+    let by_key = c.in-Err.ensures.position (λ (atom : Atom). compare_keys atom.key c.args.key.now) (always_returns_same _ _ _ (λ a r g called. search rules)) in
+    sym (find_missing (λ (atom : Atom). atom.key) c.args.kept.now c.args.key.now
+    (no_key (λ (atom : Atom). atom.key) c.args.kept.now c.args.key.now c.in-Err.field-0 (sorted_from_rising (on_total (λ (atom : Atom). atom.key) compare_keys_total) c.args.kept.now c.requires) by_key))

@@ -1,0 +1,26 @@
+//! What the definitions mean, each on a call that does nothing.
+ghost use Rattle.std.specs.Prelude.{◌≡◌, ℕ, ◌+◌, ◌*◌, ◌^◌, ◌≤◌, List, All};
+ghost use Rattle.std.specs.List.{AllPairs};
+ghost use Rattle.mo_bytes.specs.Rounding.{IsLeastMultiple};
+ghost use Rattle.mo_types.specs.declared.atom.Atom.{Atom};
+ghost use Rattle.mo_types.specs.declared.out_section.OutSection.{OutSection};
+ghost use Rattle.tlv_plan.specs.Template.{aligned, template_stand, template_size};
+
+/// Each atom's offset is a multiple of its alignment.
+#[tactic(auto, using(crate::proofs::Meaning::are_aligned))]
+pub fn offsets_are_aligned()
+    ensures { (kept : List Atom) (sections : List OutSection) → All (λ (p : Atom × ℕ). (count : ℕ) × (p.1 ≡ count * 2 ^ p.0.align)) (template_stand kept sections) }
+{}
+
+/// Each atom ends where the next one begins or before, and the last one in the template.
+#[tactic(auto, using(crate::proofs::Meaning::places))]
+pub fn atoms_stand_apart()
+    ensures apart { (kept : List Atom) (sections : List OutSection) → AllPairs (λ (p : Atom × ℕ) (q : Atom × ℕ). p.1 + p.0.size ≤ q.1) (template_stand kept sections) }
+    ensures within { (kept : List Atom) (sections : List OutSection) → All (λ (p : Atom × ℕ). p.1 + p.0.size ≤ template_size kept sections) (template_stand kept sections) }
+{}
+
+/// The place of an atom or of a section is the least multiple of its alignment that isn't below what comes before.
+#[tactic(auto, using(crate::proofs::Walk::aligned_least))]
+pub fn places_are_least()
+    ensures { (align at : ℕ) → IsLeastMultiple (2 ^ align) at (aligned align at) }
+{}

@@ -1,0 +1,17 @@
+//! The template of an image's thread-local variables: the offset of each variable from the template's start.
+#![tactic(auto)]
+
+mod laws;
+mod lookup;
+mod parts;
+mod place;
+mod plan;
+mod room;
+#[cfg(test)]
+mod tests;
+
+pub use laws::{atoms_stand_apart, offsets_are_aligned, places_are_least};
+pub use lookup::offset_of;
+pub use parts::{Offset, OffsetList, Template};
+pub use plan::template;
+pub use room::fits;

@@ -1,0 +1,28 @@
+ghost use Rattle.std.specs.Prelude.{◌≡◌, ℕ, MatchOption, Contains};
+ghost use Rattle.std.specs.List.Sorted.{IsSorted};
+ghost use Rattle.std.specs.Ordering.{on};
+ghost use Rattle.tlv_plan.specs.declared.parts.Offset.{Offset};
+ghost use Rattle.tlv_plan.specs.Keys.{compare_keys};
+
+use crate::parts::{Offset, Template};
+use crate::plan::compare;
+use mo_types::AtomKey;
+
+/// The offset of an atom from the template's start in bytes, or `None` exactly where the atom isn't in the template.
+/// Takes no memory.
+pub fn offset_of(template: &Template, atom: AtomKey) -> Option<u64>
+    ensures { MatchOption result ((offset : ℕ) → ¬ Contains template.now.places (record { atom = atom; offset = offset })) (λ offset. Contains template.now.places (record { atom = atom; offset = offset })) }
+{
+    find(template.places.as_slice(), &atom)
+}
+
+// The offset of an atom, among offsets in the order of their atoms.
+fn find(offsets: &[Offset], atom: &AtomKey) -> Option<u64>
+    requires { IsSorted (on (λ (o : Offset). o.atom) compare_keys) offsets.now }
+    ensures { MatchOption result ((offset : ℕ) → ¬ Contains offsets.now (record { atom = atom.now; offset = offset })) (λ offset. Contains offsets.now (record { atom = atom.now; offset = offset })) }
+{
+    match offsets.binary_search_by(|o| compare(&o.atom, atom)) {
+        Ok(at) => Some(offsets[at].offset),
+        Err(_) => None,
+    }
+}
