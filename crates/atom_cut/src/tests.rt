@@ -162,10 +162,10 @@ fn check_many(rt: &(impl Abort + AllocGlobal), section: Section) -> Result<(), F
     assert!(rt; object.is_whole());
     let atoms = cut(alloc, &object, FILE)?;
     assert!(rt; atoms.len() as u64 == MANY);
-    let mut end = 0;
+    let mut end = 0u64;
     for atom in atoms.as_slice() {
         assert!(rt; atom.key.offset == end && atom.size == 4);
-        end += 4;
+        end = end.wrapping_add(4);
     }
     Ok(())
 }
