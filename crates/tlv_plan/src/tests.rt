@@ -35,19 +35,18 @@ fn key(row: &Row) -> AtomKey {
     }
 }
 
-fn atom(alloc: Global, row: &Row) -> Atom {
+fn atom(row: &Row) -> Atom {
     Atom {
         key: key(row),
         size: row.3,
         align: row.4,
-        bytes: Bytes::new(alloc),
     }
 }
 
 fn atoms(alloc: Global, rows: &[Row]) -> Result<AtomList, OutOfMemory> {
     let mut atoms = AtomList::new(alloc);
     for row in rows {
-        atoms.push(atom(alloc, row))?;
+        atoms.push(atom(row))?;
     }
     Ok(atoms)
 }
@@ -200,9 +199,9 @@ fn thousands(alloc: Global, count: u16) -> Result<Option<Template>, OutOfMemory>
     let mut large = KeyList::new(alloc);
     for file in 0..count {
         small.push(key(&(file, 1, 0, 3, 2)))?;
-        kept.push(atom(alloc, &(file, 1, 0, 3, 2)))?;
+        kept.push(atom(&(file, 1, 0, 3, 2)))?;
         large.push(key(&(file, 2, 0, 8, 3)))?;
-        kept.push(atom(alloc, &(file, 2, 0, 8, 3)))?;
+        kept.push(atom(&(file, 2, 0, 8, 3)))?;
     }
     let mut sections = OutSections::new(alloc);
     let mut first = section(alloc, DATA, 2, &[])?;
