@@ -15,7 +15,7 @@ apart atoms i a b d low high less =
 
 pub loop-i-preserved : goal.loop-i-preserved
 loop-i-preserved c = all_adjacent_more c.args.atoms.now (λ (a : Atom) (b : Atom). compare_keys a.key b.key ≡ Less) c.loop-i.i (omega arith) c.loop-i.invariant
-    (λ d. apart c.args.atoms.now c.loop-i.i c.index-atoms-i.result c.index-atoms-i-in-loop-i.result d (omega arith) c.loop-i-test.true c.in-Less.ensures)
+    (λ d. apart c.args.atoms.now c.loop-i.i _ _ d (omega arith) c.loop-i-test.true c.in-Less.ensures)
 
 pub returns : goal.returns
 returns c = λ _. rises_from (λ (atom : Atom). atom.key) c.args.atoms.now c.loop-i.i c.loop-i.invariant c.loop-i-test.false
