@@ -11,7 +11,7 @@ use Rattle.std.proofs.lemmas.Cmp.{nat_cmp_total, on_total, then_total, tied_itse
 use Rattle.std.proofs.lemmas.List.Sorted.{searchable_from_sorted}
 use Rattle.mo_types.specs.declared.key.AtomKey.{AtomKey}
 use Rattle.mo_types.specs.declared.key.FileId.{FileId}
-use Rattle.tlv_plan.specs.Keys.{compare_files, compare_keys}
+use Rattle.mo_types.specs.Keys.{compare_files, compare_keys}
 
 pub compare_keys_total : IsTotalOrder compare_keys
 compare_keys_total = then_total

@@ -11,7 +11,7 @@ use Rattle.mo_types.specs.declared.atom.Atom.{Atom}
 use Rattle.mo_types.specs.declared.key.AtomKey.{AtomKey}
 use Rattle.mo_types.specs.declared.out_section.OutSection.{OutSection}
 use Rattle.tlv_plan.specs.declared.parts.Offset.{Offset}
-use Rattle.tlv_plan.specs.Keys.{compare_keys}
+use Rattle.mo_types.specs.Keys.{compare_keys}
 use Rattle.tlv_plan.specs.Template.{is_thread_local, thread_local, aligned, atoms_of, stand, end_of, sections_stand, sections_end, template_stand, template_size, greatest_align, offsets}
 
 pub aligned_least : (align at : ℕ) → IsLeastMultiple (2 ^ align) at (aligned align at)

@@ -1,2 +1,1 @@
 pub mod Template
-pub mod Keys

@@ -9,7 +9,7 @@ use Rattle.mo_types.specs.declared.atom.Atom.{Atom}
 use Rattle.mo_types.specs.declared.key.AtomKey.{AtomKey}
 use Rattle.mo_types.specs.declared.out_section.OutSection.{OutSection}
 use Rattle.tlv_plan.specs.declared.parts.Offset.{Offset}
-use Rattle.tlv_plan.specs.Keys.{compare_keys}
+use Rattle.mo_types.specs.Keys.{compare_keys}
 
 -- S_THREAD_LOCAL_REGULAR or S_THREAD_LOCAL_ZEROFILL
 abbrev pub is_thread_local : OutSection → Bool

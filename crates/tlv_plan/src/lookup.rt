@@ -2,7 +2,7 @@ ghost use Rattle.std.specs.Prelude.{◌≡◌, ℕ, MatchOption, Contains};
 ghost use Rattle.std.specs.List.Sorted.{IsSorted};
 ghost use Rattle.std.specs.Ordering.{on};
 ghost use Rattle.tlv_plan.specs.declared.parts.Offset.{Offset};
-ghost use Rattle.tlv_plan.specs.Keys.{compare_keys};
+ghost use Rattle.mo_types.specs.Keys.{compare_keys};
 
 use crate::parts::{Offset, Template};
 use crate::plan::compare;

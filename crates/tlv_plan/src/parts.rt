@@ -2,7 +2,7 @@ ghost use Rattle.std.specs.Prelude.{◌≡◌};
 ghost use Rattle.std.specs.List.Sorted.{IsSorted};
 ghost use Rattle.std.specs.Ordering.{on};
 ghost use Rattle.tlv_plan.specs.declared.parts.Offset.{Offset};
-ghost use Rattle.tlv_plan.specs.Keys.{compare_keys};
+ghost use Rattle.mo_types.specs.Keys.{compare_keys};
 
 use mo_types::AtomKey;
 use std::marker::Model;
@@ -26,7 +26,7 @@ impl Model for OffsetList {
     ghost use Rattle.std.specs.List.Sorted.{IsSorted};
     ghost use Rattle.std.specs.Ordering.{on};
     ghost use Rattle.tlv_plan.specs.declared.parts.Offset.{Offset};
-    ghost use Rattle.tlv_plan.specs.Keys.{compare_keys};
+    ghost use Rattle.mo_types.specs.Keys.{compare_keys};
 
     ghost Value = { List Offset };
 

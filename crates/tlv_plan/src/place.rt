@@ -4,7 +4,7 @@ ghost use Rattle.std.specs.List.{find};
 ghost use Rattle.std.specs.Option.{option_copied};
 ghost use Rattle.std.specs.Ordering.{on, is_eq};
 ghost use Rattle.mo_types.specs.declared.atom.Atom.{Atom};
-ghost use Rattle.tlv_plan.specs.Keys.{compare_keys};
+ghost use Rattle.mo_types.specs.Keys.{compare_keys};
 ghost use Rattle.tlv_plan.specs.Template.{aligned, atoms_of, stand, end_of, template_stand, template_size, offsets};
 
 use crate::parts::Offset;

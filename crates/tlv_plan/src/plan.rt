@@ -2,7 +2,7 @@ ghost use Rattle.std.specs.Prelude.{◌≡◌, ◌<◌, ◌≤◌, ◌^◌, All,
 ghost use Rattle.std.specs.List.Sorted.{IsStrictlySortedBy};
 ghost use Rattle.std.specs.Ordering.{on};
 ghost use Rattle.mo_types.specs.declared.atom.Atom.{Atom};
-ghost use Rattle.tlv_plan.specs.Keys.{compare_keys};
+ghost use Rattle.mo_types.specs.Keys.{compare_keys};
 ghost use Rattle.tlv_plan.specs.Template as spec;
 
 use crate::parts::{Offset, OffsetList, Template};

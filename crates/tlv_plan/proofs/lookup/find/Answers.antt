@@ -3,7 +3,7 @@ use Rattle.std.proofs.lemmas.List.{get_or_default}
 use Rattle.mo_types.specs.declared.key.AtomKey.{AtomKey}
 use Rattle.std.proofs.lemmas.Fn.{always_returns_same}
 use Rattle.tlv_plan.specs.declared.parts.Offset.{Offset}
-use Rattle.tlv_plan.specs.Keys.{compare_keys}
+use Rattle.mo_types.specs.Keys.{compare_keys}
 use Rattle.tlv_plan.proofs.Keys.{compare_keys_total, found_key, no_key}
 use Rattle.std.proofs.lemmas.Cmp.{tied_itself}
 use Rattle.tlv_plan.proofs.lookup.find.Goals as goal

@@ -1,7 +1,7 @@
-use Rattle.std.proofs.Common.{rules, sym}
+use Rattle.std.proofs.Common.{rules, Some, sym, ap, ◌∙◌}
 use Rattle.std.proofs.lemmas.Fn.{always_returns_same}
 use Rattle.mo_types.specs.declared.atom.Atom.{Atom}
-use Rattle.tlv_plan.specs.Keys.{compare_keys}
+use Rattle.mo_types.specs.Keys.{compare_keys}
 use Rattle.tlv_plan.proofs.Keys.{compare_keys_total, found_key, no_key, find_found, find_missing, sorted_from_rising}
 use Rattle.std.proofs.lemmas.Cmp.{on_total}
 use Rattle.tlv_plan.proofs.place.find_atom.Goals as goal
@@ -9,8 +9,7 @@ use Rattle.tlv_plan.proofs.place.find_atom.Goals as goal
 pub returns-in-Ok : goal.returns-in-Ok
 returns-in-Ok c =
     let by_key = c.in-Ok.ensures.position (λ (atom : Atom). compare_keys atom.key c.args.key.now) (always_returns_same _ _ _ (λ a r g called. search rules)) in
-    sym (find_found (λ (atom : Atom). atom.key) c.args.kept.now c.args.key.now c.in-Ok.at _ c.requires c.in-Ok.ensures.bound
-    (found_key (λ (atom : Atom). atom.key) c.args.kept.now c.args.key.now c.in-Ok.at _ by_key))
+    sym (find_found (λ (atom : Atom). atom.key) c.args.kept.now c.args.key.now c.in-Ok.at _ c.requires c.in-Ok.ensures.bound (found_key (λ (atom : Atom). atom.key) c.args.kept.now c.args.key.now c.in-Ok.at _ by_key))
 
 pub returns-in-Err : goal.returns-in-Err
 returns-in-Err c =

@@ -2,7 +2,7 @@ use Rattle.std.proofs.Common.{◌≡◌, ◌≤◌, length}
 use Rattle.std.specs.List.{AllAdjacentBelow}
 use Rattle.std.specs.declared.cmp.Ordering.TheVariants.{Less}
 use Rattle.mo_types.specs.declared.atom.Atom.{Atom}
-use Rattle.tlv_plan.specs.Keys.{compare_keys}
+use Rattle.mo_types.specs.Keys.{compare_keys}
 use Rattle.tlv_plan.proofs.tests.is_rising.Given as goal
 
 abbrev pub invariant-loop-i : goal.invariant-loop-i
