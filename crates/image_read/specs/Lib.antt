@@ -1,0 +1,4 @@
+pub mod Commands
+pub mod Fixups
+pub mod Imports
+pub mod Mapped

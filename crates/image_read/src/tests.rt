@@ -1,0 +1,307 @@
+//! A small image, and copies of it with other bytes at some places. What they have to be read as was told by another
+//! reader, which is written from the same headers.
+use crate::{FixupRead, fixup_at, import_name, mapped};
+use std::alloc::{AllocError, Global};
+use std::process::Abort;
+use std::test::Fail;
+
+// An image of 620 bytes:
+//
+//       0  the header: 4 commands of 232 bytes
+//      32  __PAGEZERO: 0x1000 bytes at 0, which may not be looked at
+//     104  __TEXT: 0x400 bytes at 0x1000, of which the file has the first 0x180, from 0 on
+//     176  __DATA: 0x1000 bytes at 0x13f0, of which the file has the first 0x40, from 384 on
+//     248  LC_DYLD_CHAINED_FIXUPS: 172 bytes at 448
+//     384  8 pointers, of which those at 0x1400, 0x1408, 0x1418 and 0x1420 are on a chain
+//     448  dyld_chained_fixups_header: starts at 128, imports at 32, names at 40, 2 imports of format 1
+//     480  the imports, with names at 1 and 4
+//     488  the names: none, `_a` and `_bc`
+//     512  two imports of format 3, with names at 4 and 1
+//     576  the starts of 3 segments, of which the third one has some at 20
+//     596  the starts of __DATA: 24 bytes, pages of 0x4000 bytes, pointers of format 6, 1 page, which begins at 0x10
+fn sample() -> &'static [u8] {
+    b"\
+\xcf\xfa\xed\xfe\x0c\x00\x00\x01\x00\x00\x00\x00\x02\x00\x00\x00\x04\x00\x00\x00\xe8\x00\x00\x00\
+\x00\x00\x00\x00\x00\x00\x00\x00\x19\x00\x00\x00\x48\x00\x00\x00\x5f\x5f\x50\x41\x47\x45\x5a\x45\
+\x52\x4f\x00\x00\x00\x00\x00\x00\x00\x00\x00\x00\x00\x00\x00\x00\x00\x10\x00\x00\x00\x00\x00\x00\
+\x00\x00\x00\x00\x00\x00\x00\x00\x00\x00\x00\x00\x00\x00\x00\x00\x00\x00\x00\x00\x00\x00\x00\x00\
+\x00\x00\x00\x00\x00\x00\x00\x00\x19\x00\x00\x00\x48\x00\x00\x00\x5f\x5f\x54\x45\x58\x54\x00\x00\
+\x00\x00\x00\x00\x00\x00\x00\x00\x00\x10\x00\x00\x00\x00\x00\x00\x00\x04\x00\x00\x00\x00\x00\x00\
+\x00\x00\x00\x00\x00\x00\x00\x00\x80\x01\x00\x00\x00\x00\x00\x00\x05\x00\x00\x00\x05\x00\x00\x00\
+\x00\x00\x00\x00\x00\x00\x00\x00\x19\x00\x00\x00\x48\x00\x00\x00\x5f\x5f\x44\x41\x54\x41\x00\x00\
+\x00\x00\x00\x00\x00\x00\x00\x00\xf0\x13\x00\x00\x00\x00\x00\x00\x00\x10\x00\x00\x00\x00\x00\x00\
+\x80\x01\x00\x00\x00\x00\x00\x00\x40\x00\x00\x00\x00\x00\x00\x00\x03\x00\x00\x00\x03\x00\x00\x00\
+\x00\x00\x00\x00\x00\x00\x00\x00\x34\x00\x00\x80\x10\x00\x00\x00\xc0\x01\x00\x00\xac\x00\x00\x00\
+\xa5\xa5\xa5\xa5\xa5\xa5\xa5\xa5\xa5\xa5\xa5\xa5\xa5\xa5\xa5\xa5\xa5\xa5\xa5\xa5\xa5\xa5\xa5\xa5\
+\xa5\xa5\xa5\xa5\xa5\xa5\xa5\xa5\xa5\xa5\xa5\xa5\xa5\xa5\xa5\xa5\xa5\xa5\xa5\xa5\xa5\xa5\xa5\xa5\
+\xa5\xa5\xa5\xa5\xa5\xa5\xa5\xa5\xa5\xa5\xa5\xa5\xa5\xa5\xa5\xa5\xa5\xa5\xa5\xa5\xa5\xa5\xa5\xa5\
+\xa5\xa5\xa5\xa5\xa5\xa5\xa5\xa5\xa5\xa5\xa5\xa5\xa5\xa5\xa5\xa5\xa5\xa5\xa5\xa5\xa5\xa5\xa5\xa5\
+\xa5\xa5\xa5\xa5\xa5\xa5\xa5\xa5\xa5\xa5\xa5\xa5\xa5\xa5\xa5\xa5\xa5\xa5\xa5\xa5\xa5\xa5\xa5\xa5\
+\x11\x11\x00\x00\x00\x00\x00\x00\x22\x22\x00\x00\x00\x00\x00\x00\x34\x12\x00\x00\x00\x00\x10\x00\
+\x00\x00\x00\x05\x00\x00\x20\x80\xf0\xff\xff\xff\xff\xff\xff\xff\x01\x00\x00\xff\x00\x00\x10\x80\
+\xff\xff\xff\xff\x0f\x00\x00\x00\x33\x33\x00\x00\x00\x00\x00\x00\x00\x00\x00\x00\x80\x00\x00\x00\
+\x20\x00\x00\x00\x28\x00\x00\x00\x02\x00\x00\x00\x01\x00\x00\x00\x00\x00\x00\x00\x00\x00\x00\x00\
+\x01\x02\x00\x00\xfe\x09\x00\x00\x00\x5f\x61\x00\x5f\x62\x63\x00\x00\x00\x00\x00\x00\x00\x00\x00\
+\x00\x00\x00\x00\x00\x00\x00\x00\x01\x00\x00\x00\x04\x00\x00\x00\x07\x00\x00\x00\x00\x00\x00\x00\
+\xfe\xff\x01\x00\x01\x00\x00\x00\x00\x00\x00\x00\x00\x00\x00\x80\x00\x00\x00\x00\x00\x00\x00\x00\
+\x00\x00\x00\x00\x00\x00\x00\x00\x00\x00\x00\x00\x00\x00\x00\x00\x00\x00\x00\x00\x00\x00\x00\x00\
+\x03\x00\x00\x00\x00\x00\x00\x00\x00\x00\x00\x00\x14\x00\x00\x00\x00\x00\x00\x00\x18\x00\x00\x00\
+\x00\x40\x06\x00\xf0\x03\x00\x00\x00\x00\x00\x00\x00\x00\x00\x00\x01\x00\x10\x00"
+}
+
+// Addresses at the ends of segments and of what the file has of them.
+const ADDRESSES: [u64; 15] = [
+    0,
+    0xfff,
+    0x1000,
+    0x1001,
+    0x117f,
+    0x1180,
+    0x13ef,
+    0x13f0,
+    0x13ff,
+    0x1400,
+    0x142f,
+    0x1430,
+    0x23ef,
+    0x23f0,
+    u64::MAX,
+];
+
+// Addresses on the chain, between its pointers, on other pages and nowhere.
+const POINTERS: [u64; 12] = [
+    0x13f0, 0x13f8, 0x1400, 0x1404, 0x1408, 0x1410, 0x1418, 0x1420, 0x1428, 0x2000, 0x1000, 0x5000,
+];
+
+// Bytes of the sample, and the bytes at those addresses.
+fn memory() -> &'static str {
+    "\
+: -- -- cf fa a5 00 00 00 00 34 00 00 00 -- --
+16=05: -- -- -- -- -- -- -- -- -- -- -- -- -- -- --
+16=03: -- -- cf fa a5 00 00 00 00 34 00 00 00 -- --
+20=e7: -- -- -- -- -- -- -- -- -- -- -- -- -- -- --
+20=ffff: -- -- cf fa a5 00 00 00 00 34 00 00 00 -- --
+36=07: -- -- -- -- -- -- -- -- -- -- -- -- -- -- --
+108=40: -- -- -- -- -- -- -- -- -- -- -- -- -- -- --
+108=47: -- -- -- -- -- -- -- -- -- -- -- -- -- -- --
+164=00: -- -- -- -- -- -- -- -- -- 34 00 00 00 -- --
+104=1a: -- -- -- -- -- -- -- 11 00 34 00 00 00 -- --
+108=50: -- -- -- -- -- -- -- -- -- -- -- -- -- -- --
+145=02: -- -- 01 00 -- 00 00 00 00 34 00 00 00 -- --
+200=01: -- -- cf fa a5 00 00 00 00 00 00 00 -- -- --
+192=0011: -- -- cf fa a5 00 00 00 00 34 00 00 00 -- --
+216=ffffffffffffffff: -- -- cf fa a5 00 00 00 00 -- -- 00 00 -- --
+144=f0ffffffffffffff: -- -- -- -- -- 00 00 00 00 34 00 00 00 -- --
+208=ffffffffffffffff: -- -- cf fa a5 00 00 00 00 34 00 00 00 00 00
+200=00: -- -- cf fa a5 00 00 00 00 00 00 00 -- -- --
+208=41: -- -- cf fa a5 00 00 00 00 34 00 00 00 00 --
+136=00ffffffffffffff 128=00ffffffffffffff: -- -- -- -- -- -- -- 11 00 34 00 00 00 -- 00
+144=ffffffffffffffff 152=ffffffffffffffff: -- -- -- -- -- -- -- -- -- 34 00 00 00 -- --
+"
+}
+
+// Bytes of the sample, and the names of the imports 0, 1 and 2.
+fn names() -> &'static str {
+    "\
+: _a _bc --
+464=01: _a -- --
+464=00: -- -- --
+464=ffffffff: _a _bc --
+468=02: -- -- --
+468=00: -- -- --
+468=03 456=40: _bc _a --
+468=03 456=41: -- '' --
+468=03 456=50: _a '' --
+468=03 456=50 464=01: _a -- --
+456=ffffffff: -- -- --
+460=ffffffff: -- -- --
+460=2b: _bc '' --
+256=ffffffff: -- -- --
+256=04: -- -- --
+256=05: -- -- --
+248=35: -- -- --
+20=d8: -- -- --
+481=ff: '' _bc --
+485=ff: _a '' --
+543=ff: _a _bc --
+"
+}
+
+// Bytes of the sample, and the fixups at those addresses: none, the offset of a rebase, import, ordinal, addend and
+// mark of a bind, or a broken chain.
+fn fixups() -> &'static str {
+    "\
+: - - r4660 - b0,1,5,0 - b1,-2,255,1 r68719476735 - - - -
+248=35: - - - - - - - - - - - -
+256=ffffffff: x x x x x x x x x x x x
+256=08: x x x x x x x x x x x x
+464=01: - - r4660 - b0,1,5,0 - x r68719476735 - - - -
+468=02: x x x x x x x x x x x x
+468=03 456=40: - - r4660 - b0,1,12,0 - b1,-2,-9223372036854775553,1 r68719476735 - - - -
+468=03 456=50: - - r4660 - b0,-2,-9223372036854775803,1 - b1,0,255,0 r68719476735 - - - -
+468=03 456=70: - - r4660 - b0,0,5,0 - b1,3,85899346175,0 r68719476735 - - - -
+456=ffffffff: - - r4660 - x - x r68719476735 - - - -
+452=ffffffff: x x x x x x x x x x x -
+576=02: - - - - - - - - - - - -
+576=ffffffff: - - r4660 - b0,1,5,0 - b1,-2,255,1 r68719476735 - - - -
+588=00: - - - - - - - - - - - -
+588=ffffffff: - - x x x x x x x x - -
+602=02: - - x x x x x x x x - -
+616=00: - - - - - - - - - - - -
+616=02: - - r4660 - b0,1,5,0 - b1,-2,255,1 r68719476735 - - - -
+618=ffff: - - - - - - - - - - - -
+618=18: - - - - b0,1,5,0 - b1,-2,255,1 r68719476735 - - - -
+618=20: - - x x x x x x x x - -
+618=14: - - - r1048576 - - - - - - - -
+618=f83f: - - x x x x x x x x - -
+618=fa3f: - - x x x x x x x x - -
+618=0040: - - x x x x x x x x - -
+406=ff7f: - - x x x x x x x x - -
+406=00: - - r4660 - - - - - - - - -
+480=f1: - - r4660 - b0,-15,5,0 - b1,-2,255,1 r68719476735 - - - -
+480=f0: - - r4660 - b0,240,5,0 - b1,-2,255,1 r68719476735 - - - -
+480=fd: - - r4660 - b0,-3,5,0 - b1,-2,255,1 r68719476735 - - - -
+484=ff: - - r4660 - b0,1,5,0 - b1,-1,255,1 r68719476735 - - - -
+415=80: - - r4660 - b0,1,5,0 - b1,-2,255,1 r68719476735 - - - -
+184=31: - - r4660 - b0,1,5,0 - b1,-2,255,1 r68719476735 - - - -
+"
+}
+
+fn digit(number: u8) -> u8 {
+    if number < 10 {
+        b'0' + number
+    } else if number < 16 {
+        b'a' + (number - 10)
+    } else {
+        b'?'
+    }
+}
+
+fn bytes_of(alloc: Global, image: &[u8]) -> Result<Vec<u8>, AllocError> {
+    let mut out = Vec::new(alloc);
+    for address in &ADDRESSES {
+        match mapped(image, *address) {
+            Some(byte) => out.extend_from_slice(&[digit(byte / 16), digit(byte % 16), b' '])?,
+            None => out.extend_from_slice(b"-- ")?,
+        }
+    }
+    Ok(out)
+}
+
+fn names_of(alloc: Global, image: &[u8]) -> Result<Vec<u8>, AllocError> {
+    let mut out = Vec::new(alloc);
+    for import in 0..3 {
+        match import_name(image, import) {
+            Some(name) if name.is_empty() => out.extend_from_slice(b"''")?,
+            Some(name) => out.extend_from_slice(name)?,
+            None => out.extend_from_slice(b"--")?,
+        }
+        out.extend_from_slice(b" ")?;
+    }
+    Ok(out)
+}
+
+fn told(alloc: Global, fixup: FixupRead) -> Result<String, AllocError> {
+    match fixup {
+        FixupRead::Plain => format!(in alloc; "- "),
+        FixupRead::Rebase { offset } => format!(in alloc; "r{offset} "),
+        FixupRead::Bind {
+            import,
+            ordinal,
+            addend,
+            optional,
+        } => {
+            let mark = u8::from(optional);
+            format!(in alloc; "b{import},{ordinal},{addend},{mark} ")
+        }
+        FixupRead::Broken => format!(in alloc; "x "),
+    }
+}
+
+fn fixups_of(alloc: Global, image: &[u8]) -> Result<Vec<u8>, AllocError> {
+    let mut out = Vec::new(alloc);
+    for address in &POINTERS {
+        let text = told(alloc, fixup_at(image, *address))?;
+        out.extend_from_slice(text.as_bytes())?;
+    }
+    Ok(out)
+}
+
+// Writes bytes at their places, as `36=0c00 508=1c` says: two hexadecimal digits a byte.
+fn edit(bytes: &mut [u8], edits: &str) {
+    for text in edits.split_whitespace() {
+        if let Some((place, digits)) = text.split_once('=') {
+            write_digits(bytes, place.parse().unwrap_or(usize::MAX), digits);
+        }
+    }
+}
+
+fn write_digits(bytes: &mut [u8], place: usize, digits: &str) {
+    for (i, digit) in digits.chars().enumerate() {
+        if let Some(byte) = bytes.get_mut(place.saturating_add(i / 2)) {
+            *byte = *byte << 4 | digit.to_digit(16).unwrap_or(0) as u8;
+        }
+    }
+}
+
+fn edited(alloc: Global, edits: &str) -> Result<Vec<u8>, AllocError> {
+    let mut bytes = Vec::from_slice(alloc, sample())?;
+    edit(&mut bytes, edits);
+    Ok(bytes)
+}
+
+fn expect(rt: &impl Abort, found: &[u8], text: &str) {
+    assert!(rt; found.trim_ascii_end() == text.as_bytes(), "not {text}");
+}
+
+#[test]
+fn bytes_in_memory(rt: HostRuntime) -> Result<(), Fail> {
+    for (edits, text) in memory().lines().filter_map(|line| line.split_once(": ")) {
+        let image = edited(rt.alloc(), edits)?;
+        let found = bytes_of(rt.alloc(), &image)?;
+        expect(&rt, &found, text);
+    }
+    // no byte of a file that ends in its header or in its commands
+    for size in 0..264 {
+        let image = sample().get(..size).unwrap_or(b"");
+        assert!(rt; mapped(image, 0x1000).is_none(), "{size} bytes");
+    }
+    Ok(())
+}
+
+#[test]
+fn fixups_on_chains(rt: HostRuntime) -> Result<(), Fail> {
+    for (edits, text) in fixups().lines().filter_map(|line| line.split_once(": ")) {
+        let image = edited(rt.alloc(), edits)?;
+        let found = fixups_of(rt.alloc(), &image)?;
+        expect(&rt, &found, text);
+    }
+    // broken wherever the file ends within what is read of the fixups
+    for size in 268..620 {
+        let image = sample().get(..size).unwrap_or(b"");
+        assert!(rt;
+            fixup_at(image, 0x1400) == FixupRead::Broken,
+            "{size} bytes"
+        );
+    }
+    Ok(())
+}
+
+#[test]
+fn names_of_imports(rt: HostRuntime) -> Result<(), Fail> {
+    for (edits, text) in names().lines().filter_map(|line| line.split_once(": ")) {
+        let image = edited(rt.alloc(), edits)?;
+        let found = names_of(rt.alloc(), &image)?;
+        expect(&rt, &found, text);
+    }
+    // the name is there once its NUL is
+    for size in 0..496 {
+        let image = sample().get(..size).unwrap_or(b"");
+        assert!(rt;
+            import_name(image, 1).is_none() == (size < 496),
+            "{size} bytes"
+        );
+    }
+    assert!(rt; import_name(sample().get(..496).unwrap_or(b""), 1) == Some(b"_bc".as_slice()));
+    Ok(())
+}
