@@ -16,13 +16,13 @@ use Rattle.par_work.proofs.Steps.{times-append}
 abbrev pub once_from : ℕ → ℕ → ℕ → ℕ
 once_from x a m = cond (nat_lt x a) 0 (once_below x (a + m))
 
-in_window : (x a m : ℕ) → a ≤ x → x < a + m → once_from x a m ≡ 1
+pub in_window : (x a m : ℕ) → a ≤ x → x < a + m → once_from x a m ≡ 1
 in_window x a m low high = grind (arith, nat_tests)
 
-below_window : (x a m : ℕ) → x < a → once_from x a m ≡ 0
+pub below_window : (x a m : ℕ) → x < a → once_from x a m ≡ 0
 below_window x a m low = grind (arith, nat_tests)
 
-past_window : (x a m : ℕ) → a + m ≤ x → once_from x a m ≡ 0
+pub past_window : (x a m : ℕ) → a + m ≤ x → once_from x a m ≡ 0
 past_window x a m high = grind (arith, nat_tests)
 
 window_step : (x a m : ℕ) → once_from x a (suc m) ≡ cond (a == x) 1 0 + once_from x (a + 1) m
@@ -37,7 +37,7 @@ miss y x apart = grind (arith, nat_tests)
 times_cons : (x y : ℕ) (ys : List ℕ) → times x (y ∷ ys) ≡ cond (y == x) 1 0 + times x ys
 times_cons x y ys = sum_by-cons (λ (y : ℕ). cond (y == x) 1 0) y ys
 
-times_range : (x a m : ℕ) → times x (range_with_len a m) ≡ once_from x a m
+pub times_range : (x a m : ℕ) → times x (range_with_len a m) ≡ once_from x a m
 times_range x a zero = sym (none x a)
   where
     none : (x a : ℕ) → once_from x a 0 ≡ 0

@@ -3,14 +3,19 @@ use Rattle.std.proofs.Common.{◌≡◌, ℕ, ◌+◌, ◌-◌, ◌*◌, ◌<◌
 use Rattle.std.specs.Prelude.{◌==◌}
 use Rattle.std.specs.List.{flat_map, range_with_len}
 use Rattle.std.proofs.lemmas.Bool.Decides.{nat_tests}
+use Rattle.std.proofs.lemmas.List.{map-append}
 use Rattle.std.proofs.lemmas.List.Concat.{flat_map-append}
 use Rattle.atomic_table.specs.Seated.{TableId}
 use Rattle.par_work.specs.Drawn.{Holding, times}
-use Rattle.par_work.specs.Fan.{Leads}
+use Rattle.par_work.specs.Fan.{Leads, numbered}
+use Rattle.par_work.specs.declared.worker.Run.{Run}
+use Rattle.par_work.specs.inner.Runs.{log_of}
 use Rattle.par_work.specs.declared.blocks.Blocks.{Blocks}
 use Rattle.par_work.specs.inner.Blocks.{AreBlocks, block_jobs}
 use Rattle.par_work.specs.inner.Worked.{IsWorking, HasWorked}
 use Rattle.par_work.proofs.Steps.{times_push}
+use Rattle.par_work.proofs.Runs.{keys_numbered}
+use Rattle.par_work.proofs.Logs.{leads_append}
 
 -- a drawer after a draw
 abbrev pub drew : Holding → ℕ → Holding
@@ -31,6 +36,22 @@ at_itself block draws = omega (arith, times_push block draws block, one block)
 -- the jobs from a block's first to its last
 pub range_is : (b : Blocks) (block from to : ℕ) → from ≡ block * b.size → to ≡ block * b.size + min b.size (b.jobs - block * b.size) → range_with_len from (to - from) ≡ block_jobs b block
 range_is b block from to f t = let n : to - from ≡ min b.size (b.jobs - block * b.size) = omega arith in ap₂ range_with_len f n
+
+-- one run more
+log_push : {Piece : Type 0} (done : List (Run Piece)) (run : Run Piece) → log_of (done ++ run ∷ []) ≡ log_of done ++ numbered run.first run.pieces.items
+log_push {Piece} done run = flat_map-append (λ (r : Run Piece). numbered r.first r.pieces.items) done (run ∷ []) ∙ ap (λ l. log_of done ++ l) (append-nil (numbered run.first run.pieces.items))
+
+pub jobs_push : {Piece : Type 0} (b : Blocks) (done now : List (Run Piece)) (run : Run Piece) (block from to : ℕ) → now ≡ done ++ run ∷ [] → run.first ≡ from → length run.pieces.items ≡ to - from → from ≡ block * b.size → to ≡ block * b.size + min b.size (b.jobs - block * b.size)
+    → map (λ (job : ℕ × Piece). job.0) (log_of now) ≡ map (λ (job : ℕ × Piece). job.0) (log_of done) ++ block_jobs b block
+jobs_push {Piece} b done now run block from to is first count start end =
+    ap (map (λ (job : ℕ × Piece). job.0)) (ap log_of is ∙ log_push done run)
+    ∙ (map-append (λ (job : ℕ × Piece). job.0) (log_of done) (numbered run.first run.pieces.items)
+    ∙ ap (λ l. map (λ (job : ℕ × Piece). job.0) (log_of done) ++ l) (keys_numbered run.first run.pieces.items ∙ (ap₂ range_with_len first count ∙ range_is b block from to start end)))
+
+pub leads_push : {Seat Piece : Type 0} (Step : Seat → ℕ → Piece → Seat → Type 0) (done now : List (Run Piece)) (run : Run Piece) (from : ℕ) (mid after : Seat) → now ≡ done ++ run ∷ [] → run.first ≡ from → Leads Step mid (numbered from run.pieces.items) after
+    → (first : Seat) → Leads Step first (log_of done) mid → Leads Step first (log_of now) after
+leads_push Step done now run from mid after is start led first so =
+    subst (λ l. Leads Step first l after) (sym (ap log_of is ∙ (log_push done run ∙ ap (λ k. log_of done ++ numbered k run.pieces.items) start))) (leads_append Step (log_of done) (numbered from run.pieces.items) first mid after so led)
 
 pub length_drew : (draws : List ℕ) (block n : ℕ) → length draws ≡ n → length (draws ++ block ∷ []) ≡ n + 1
 length_drew draws block n is = omega (arith, length-append draws (block ∷ []))

@@ -6,6 +6,9 @@ use Rattle.std.proofs.Math.Seq.{get_or-append_right}
 use Rattle.std.specs.Prelude.{Result, Ok, Err, IfOk}
 use Rattle.mo_types.specs.declared.memory.OutOfMemory.{OutOfMemory}
 use Rattle.par_work.specs.declared.crew.Harvest.{Harvest}
+use Rattle.par_work.specs.declared.worker.Run.{Run}
+use Rattle.par_work.specs.Fan.{numbered}
+use Rattle.par_work.specs.inner.Runs.{log_of}
 use Rattle.std.proofs.lemmas.List.Concat.{flat_map-append}
 use Rattle.std.proofs.lemmas.List.Elements.{All-nil, All-cons, All-append}
 use Rattle.atomic_table.specs.Seated.{TableId}
@@ -60,15 +63,19 @@ module _ {Seat Piece : Type 0} (Step : Seat → ℕ → Piece → Seat → Type 
     leads = each_leads_append Step seats others a.logs b.logs ends rest a.leads b.leads;
   }
 
+-- the jobs of some runs and of others
+pub log_append : {Piece : Type 0} (runs more : List (Run Piece)) → log_of (runs ++ more) ≡ log_of runs ++ log_of more
+log_append {Piece} runs more = flat_map-append (λ (run : Run Piece). numbered run.first run.pieces.items) runs more
+
 -- what both brought in, where there was memory to put it together
-pub joined : {Seat Piece : Type 0} (Step : Seat → ℕ → Piece → Seat → Type 0) (Fits : Seat → Type 0) (id : TableId) (blocks : Blocks) (seats all ends : List Seat) (done : List (ℕ × Piece)) (drawer : Holding) (r : Result (Harvest Seat Piece) OutOfMemory)
-    → all ≡ seats → IfOk r (λ h. h.ends.items ≡ ends) → IfOk r (λ h. h.done.items ≡ done) → IfOk r (λ h. h.drawer ≡ drawer) → IsHarvest Step Fits id blocks seats ends done drawer
-    → IfOk r (λ h. IsHarvest Step Fits id blocks all h.ends.items h.done.items h.drawer)
-joined Step Fits id blocks seats all ends done drawer (Ok h) whole e d v is =
-    subst (λ xs. IsHarvest Step Fits id blocks xs h.ends.items h.done.items h.drawer) (sym whole)
-    (subst (λ xs. IsHarvest Step Fits id blocks seats xs h.done.items h.drawer) (sym e)
-    (subst (λ xs. IsHarvest Step Fits id blocks seats ends xs h.drawer) (sym d) (subst (λ x. IsHarvest Step Fits id blocks seats ends done x) (sym v) is)))
-joined Step Fits id blocks seats all ends done drawer (Err error) whole e d v is = tt
+pub joined : {Seat Piece : Type 0} (Step : Seat → ℕ → Piece → Seat → Type 0) (Fits : Seat → Type 0) (id : TableId) (blocks : Blocks) (seats all ends : List Seat) (runs more : List (Run Piece)) (drawer : Holding) (r : Result (Harvest Seat Piece) OutOfMemory)
+    → all ≡ seats → IfOk r (λ h. h.ends.items ≡ ends) → IfOk r (λ h. h.done.items ≡ runs ++ more) → IfOk r (λ h. h.drawer ≡ drawer) → IsHarvest Step Fits id blocks seats ends (log_of runs ++ log_of more) drawer
+    → IfOk r (λ h. IsHarvest Step Fits id blocks all h.ends.items (log_of h.done.items) h.drawer)
+joined Step Fits id blocks seats all ends runs more drawer (Ok h) whole e d v is =
+    subst (λ xs. IsHarvest Step Fits id blocks xs h.ends.items (log_of h.done.items) h.drawer) (sym whole)
+    (subst (λ xs. IsHarvest Step Fits id blocks seats xs (log_of h.done.items) h.drawer) (sym e)
+    (subst (λ xs. IsHarvest Step Fits id blocks seats ends xs h.drawer) (sym (ap log_of d ∙ log_append runs more)) (subst (λ x. IsHarvest Step Fits id blocks seats ends (log_of runs ++ log_of more) x) (sym v) is)))
+joined Step Fits id blocks seats all ends runs more drawer (Err error) whole e d v is = tt
 
 -- the first half of a crew
 pub crew_low : {Seat : Type 0} (id : TableId) (each first n : ℕ) (seats low high : List Seat) (v w : Holding) → IsCrew id each first seats v → seats ≡ low ++ high → 0 < length low → n ≡ length high → w ≡ record v { passes = v.passes - n * each } → IsCrew id each first low w

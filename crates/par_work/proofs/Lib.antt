@@ -1,3 +1,4 @@
+pub mod Runs
 pub mod Fanned
 pub mod Counts
 pub mod Pieces

@@ -1,13 +1,26 @@
 -- Jobs that were run at a seat, one after the other.
-use Rattle.std.proofs.Common.{◌≡◌, ℕ, zero, suc, ◌+◌, ◌-◌, ◌≤◌, List, [], ◌∷◌, ◌++◌, refl, sym, ◌∙◌, ap, subst, arith, append_assoc}
-use Rattle.std.specs.List.{range_with_len}
-use Rattle.par_work.specs.Fan.{Leads, EachLeads}
+use Rattle.std.proofs.Common.{◌≡◌, ℕ, ◌+◌, ◌-◌, ◌≤◌, List, [], ◌∷◌, ◌++◌, length, refl, sym, ◌∙◌, ap, subst, arith, length-append}
+use Rattle.par_work.specs.Fan.{Leads, EachLeads, numbered}
+use Rattle.par_work.proofs.Runs.{numbered-append}
 
 module _ {Seat Piece : Type 0} (Step : Seat → ℕ → Piece → Seat → Type 0) where
   -- one more job
   pub leads_more : (runs : List (ℕ × Piece)) (before mid after : Seat) (job : ℕ) (piece : Piece) → Leads Step before runs mid → Step mid job piece after → Leads Step before (runs ++ (job, piece) ∷ []) after
   leads_more [] before mid after job piece led step = (after, subst (λ s. Step s job piece after) (sym led) step, refl)
   leads_more (run ∷ runs) before mid after job piece led step = (led.0, led.1, leads_more runs led.0 mid after job piece led.2 step)
+
+  -- some jobs and then others
+  pub leads_append : (runs more : List (ℕ × Piece)) (before mid after : Seat) → Leads Step before runs mid → Leads Step mid more after → Leads Step before (runs ++ more) after
+  leads_append [] more before mid after led also = subst (λ s. Leads Step s more after) (sym led) also
+  leads_append (run ∷ runs) more before mid after led also = (led.0, led.1, leads_append runs more led.0 mid after led.2 also)
+
+  -- one piece more of a run
+  pub run_more : (from job : ℕ) (pieces now : List Piece) (before mid after : Seat) (piece : Piece) → from ≤ job → length pieces ≡ job - from → now ≡ pieces ++ piece ∷ [] → Leads Step before (numbered from pieces) mid → Step mid job piece after
+      → (length now ≡ (job + 1) - from) × Leads Step before (numbered from now) after
+  run_more from job pieces now before mid after piece near long is led step =
+      let n : length now ≡ (job + 1) - from = omega (arith, ap length is, length-append pieces (piece ∷ [])) in
+      let here : from + length pieces ≡ job = omega arith in
+      let whole : numbered from now ≡ numbered from pieces ++ (job, piece) ∷ [] = ap (numbered from) is ∙ (numbered-append from pieces (piece ∷ []) ∙ ap (λ k. numbered from pieces ++ (k, piece) ∷ []) here) in (n, subst (λ l. Leads Step before l after) (sym whole) (leads_more (numbered from pieces) before mid after job piece led step))
 
   -- the seats of some workers and then of others
   pub each_leads_append : (seats more : List Seat) (logs others : List (List (ℕ × Piece))) (ends rest : List Seat) → EachLeads Step seats logs ends → EachLeads Step more others rest → EachLeads Step (seats ++ more) (logs ++ others) (ends ++ rest)
@@ -17,21 +30,3 @@ module _ {Seat Piece : Type 0} (Step : Seat → ℕ → Piece → Seat → Type 
   each_leads_append [] more (log ∷ logs) others ends rest led also = absurd led
   each_leads_append (seat ∷ seats) more [] others ends rest led also = absurd led
   each_leads_append (seat ∷ seats) more (log ∷ logs) others [] rest led also = absurd led
-
--- one job more of a range
-pub range_more : (from n : ℕ) → range_with_len from (n + 1) ≡ range_with_len from n ++ (from + n) ∷ []
-range_more from zero = ap (λ x. x ∷ []) (omega arith)
-range_more from (suc n) = ap (range_with_len from) (next n) ∙ ap (λ xs. from ∷ xs) (range_more (from + 1) n ∙ ap (λ x. range_with_len (from + 1) n ++ x ∷ []) (omega arith))
-  where
-    next : (n : ℕ) → suc n + 1 ≡ suc (n + 1)
-    next n = omega arith
-
-pub range_next : (from job : ℕ) (front mid now : List ℕ) → from ≤ job → mid ≡ front ++ range_with_len from (job - from) → now ≡ mid ++ job ∷ [] → now ≡ front ++ range_with_len from ((job + 1) - from)
-range_next from job front mid now near was is =
-    is ∙ (ap (λ xs. xs ++ job ∷ []) was ∙ (append_assoc front (range_with_len from (job - from)) (job ∷ []) ∙ ap (λ xs. front ++ xs) (sym (ap (range_with_len from) longer ∙ (range_more from (job - from) ∙ ap (λ x. range_with_len from (job - from) ++ x ∷ []) here)))))
-  where
-    longer : (job + 1) - from ≡ (job - from) + 1
-    longer = omega arith
-
-    here : from + (job - from) ≡ job
-    here = omega arith

@@ -1,43 +1,51 @@
 -- Pieces in the order of their jobs.
-use Rattle.std.proofs.Common.{◌≡◌, ℕ, zero, suc, ◌+◌, ◌<◌, List, [], ◌∷◌, length, map, get_or, cond, refl, sym, ◌∙◌, ap, ap₂, subst, arith}
+use Rattle.std.proofs.Common.{◌≡◌, ℕ, zero, suc, ◌+◌, ◌<◌, ◌≤◌, List, [], ◌∷◌, length, map, get_or, cond, ⊎_elim, refl, sym, ◌∙◌, ap, subst, arith}
+use Rattle.std.proofs.lemmas.Bool.{cases_lt}
 use Rattle.std.specs.Prelude.{◌==◌}
-use Rattle.std.specs.List.{All, flat_map, range_with_len}
+use Rattle.std.specs.List.{All, flat_map}
 use Rattle.std.specs.List.Sorted.{IsPermutation, IsNonDecreasingBy}
 use Rattle.std.proofs.lemmas.Bool.Decides.{nat_tests}
-use Rattle.std.proofs.lemmas.List.{length-map}
 use Rattle.std.proofs.lemmas.List.Elements.{All-nil, All-cons, All-append}
-use Rattle.std.proofs.lemmas.List.FromFn.{length-range_with_len}
 use Rattle.std.proofs.lemmas.List.Sorted.{All-permutation, IsPermutation-map, sum_by-IsPermutation}
 use Rattle.par_work.specs.Drawn.{times, once_below, AreBelow}
 use Rattle.par_work.specs.Fan.{Leads, EachLeads, numbered, IsFanned, IsPieceOf}
-use Rattle.par_work.proofs.Counts.{once_from, keys_are}
+use Rattle.par_work.specs.declared.worker.Run.{Run}
+use Rattle.par_work.specs.inner.Runs.{log_of}
+use Rattle.par_work.proofs.Counts.{once_from, in_window, past_window, times_range}
+use Rattle.par_work.proofs.Runs.{flat_map-IsPermutation, keys_numbered, runs_are}
 
--- a list whose jobs are those of a range is its pieces with their numbers
-numbers : {Piece : Type 0} (a : ℕ) (xs : List (ℕ × Piece)) → map (λ (run : ℕ × Piece). run.0) xs ≡ range_with_len a (length xs) → xs ≡ numbered a (map (λ (run : ℕ × Piece). run.1) xs)
-numbers a [] is = refl
-numbers {Piece} a (x ∷ xs) is =
-    let first : x.0 ≡ a = ap (λ l. get_or l 0 0) is in
-    let rest : map (λ (run : ℕ × Piece). run.0) xs ≡ range_with_len (a + 1) (length xs) = ap tail is in ap₂ (λ (n : ℕ) (l : List (ℕ × Piece)). (n, x.1) ∷ l) first (numbers (a + 1) xs rest)
-  where
-    tail : List ℕ → List ℕ
-    tail [] = []
-    tail (y ∷ ys) = ys
+-- windows of the same numbers are as long
+same_window : (m n : ℕ) → ((x : ℕ) → once_from x 0 m ≡ once_from x 0 n) → m ≡ n
+same_window m n same =
+    ⊎_elim
+    (λ (less : m < n). absurd (omega (arith, same m, past_window m 0 m (omega arith), in_window m 0 n (omega arith) (omega arith))))
+    (λ (more : n ≤ m).
+    ⊎_elim
+    (λ (above : n < m). absurd (omega (arith, same n, past_window n 0 n (omega arith), in_window n 0 m (omega arith) (omega arith))))
+    (λ (below : m ≤ n). omega arith)
+    (cases_lt n m))
+    (cases_lt m n)
 
--- what a sort by job gives
-pub sorted_is : {Piece : Type 0} (jobs : ℕ) (done sorted : List (ℕ × Piece)) (pieces : List Piece) → AreBelow jobs (map (λ (run : ℕ × Piece). run.0) done) → IsPermutation done sorted → IsNonDecreasingBy (λ (run : ℕ × Piece). run.0) sorted
-    → pieces ≡ map (λ (run : ℕ × Piece). run.1) sorted → (length pieces ≡ jobs) × (sorted ≡ numbered 0 pieces)
+-- what a sort by the first job gives
+pub sorted_is : {Piece : Type 0} (jobs : ℕ) (done sorted : List (Run Piece)) (pieces : List Piece) → AreBelow jobs (map (λ (job : ℕ × Piece). job.0) (log_of done)) → IsPermutation done sorted → IsNonDecreasingBy (λ (run : Run Piece). run.first) sorted
+    → pieces ≡ flat_map (λ (run : Run Piece). run.pieces.items) sorted → (length pieces ≡ jobs) × IsPermutation (log_of done) (numbered 0 pieces)
 sorted_is {Piece} jobs done sorted pieces below moved up is =
-    let keys : map (λ (run : ℕ × Piece). run.0) sorted ≡ range_with_len 0 jobs = keys_are (λ (run : ℕ × Piece). run.0) jobs 0 sorted up (λ x. counted x ∙ (below.each x ∙ whole x jobs)) in
-    let long : length sorted ≡ jobs = sym (length-map sorted (λ (run : ℕ × Piece). run.0)) ∙ (ap length keys ∙ length-range_with_len 0 jobs) in (
-      ap length is ∙ (length-map sorted (λ (run : ℕ × Piece). run.1) ∙ long),
-      numbers 0 sorted (keys ∙ ap (range_with_len 0) (sym long)) ∙ ap (numbered 0) (sym is),
+    let whole : log_of sorted ≡ numbered 0 pieces = runs_are (λ (run : Run Piece). run.first) (λ (run : Run Piece). run.pieces.items) sorted jobs 0 up each ∙ ap (numbered 0) (sym is) in
+    let keys : (x : ℕ) → once_from x 0 (length pieces) ≡ once_from x 0 jobs = λ x. sym (times_range x 0 (length pieces)) ∙ (ap (times x) (sym (keys_numbered 0 pieces) ∙ sym (ap (map (λ (job : ℕ × Piece). job.0)) whole)) ∙ each x) in (
+      same_window (length pieces) jobs keys,
+      subst (IsPermutation (log_of done)) whole (flat_map-IsPermutation (λ (run : Run Piece). numbered run.first run.pieces.items) done sorted moved),
     )
   where
-    whole : (x jobs : ℕ) → once_below x jobs ≡ once_from x 0 jobs
-    whole x jobs = grind (arith, nat_tests)
+    from_zero : (x jobs : ℕ) → once_below x jobs ≡ once_from x 0 jobs
+    from_zero x jobs = grind (arith, nat_tests)
 
-    counted : (x : ℕ) → times x (map (λ (run : ℕ × Piece). run.0) sorted) ≡ times x (map (λ (run : ℕ × Piece). run.0) done)
-    counted x = sum_by-IsPermutation (λ (y : ℕ). cond (y == x) 1 0) (map (λ (run : ℕ × Piece). run.0) done) (map (λ (run : ℕ × Piece). run.0) sorted) (IsPermutation-map (λ (run : ℕ × Piece). run.0) done sorted moved)
+    counted : (x : ℕ) → times x (map (λ (job : ℕ × Piece). job.0) (log_of sorted)) ≡ times x (map (λ (job : ℕ × Piece). job.0) (log_of done))
+    counted x =
+        sum_by-IsPermutation (λ (y : ℕ). cond (y == x) 1 0) (map (λ (job : ℕ × Piece). job.0) (log_of done)) (map (λ (job : ℕ × Piece). job.0) (log_of sorted))
+        (IsPermutation-map (λ (job : ℕ × Piece). job.0) (log_of done) (log_of sorted) (flat_map-IsPermutation (λ (run : Run Piece). numbered run.first run.pieces.items) done sorted moved))
+
+    each : (x : ℕ) → times x (map (λ (job : ℕ × Piece). job.0) (log_of sorted)) ≡ once_from x 0 jobs
+    each x = counted x ∙ (below.each x ∙ from_zero x jobs)
 
 module _ {Seat Piece : Type 0} (Step : Seat → ℕ → Piece → Seat → Type 0) where
   -- what was run is a piece of its job

@@ -1,3 +1,4 @@
 pub mod Blocks
 pub mod Harvest
+pub mod Runs
 pub mod Worked

@@ -4,11 +4,12 @@ ghost use denote.Param.Send.{IsSend, IsSync};
 ghost use Rattle.par_work.specs.Fan.{WasRun};
 ghost use Rattle.par_work.specs.inner.Blocks.{AreBlocks};
 ghost use Rattle.par_work.specs.inner.Harvest.{IsCrew, IsHarvest};
+ghost use Rattle.par_work.specs.inner.Runs.{log_of};
 
 use crate::blocks::Blocks;
 use crate::claims::{Claims, Drawer};
 use crate::task::Task;
-use crate::worker::{Worker, draw_all};
+use crate::worker::{Run, Worker, draw_all};
 use mo_outside::Gate;
 use mo_types::OutOfMemory;
 use std::alloc::Global;
@@ -22,11 +23,11 @@ pub(crate) struct Crew<S> {
     pub(crate) seats: Vec<S>,
 }
 
-/// What workers brought in: their seats, the jobs that they ran with their pieces, and their draws.
+/// What workers brought in: their seats, what they ran, and their draws.
 #[derive(Drop)]
 pub(crate) struct Harvest<S, P> {
     pub(crate) ends: Vec<S>,
-    pub(crate) done: Vec<(u32, P)>,
+    pub(crate) done: Vec<Run<P>>,
     pub(crate) drawer: Drawer,
 }
 
@@ -46,7 +47,7 @@ pub(crate) fn work_all<R: Threads + Sync, T: Task + Sync, G: Gate + Sync>(
     requires blocks { AreBlocks blocks }
     requires jobs { blocks.jobs ≤ T.jobs task.now }
     requires fits { All (T.fits task.now) crew.seats.items }
-    ensures { IfOk result (λ h. IsHarvest (WasRun (T.fits task.now) (T.ran task.now)) (T.fits task.now) claims.now.id blocks crew.seats.items h.ends.items h.done.items h.drawer) }
+    ensures { IfOk result (λ h. IsHarvest (WasRun (T.fits task.now) (T.ran task.now)) (T.fits task.now) claims.now.id blocks crew.seats.items h.ends.items (log_of h.done.items) h.drawer) }
 {
     if crew.seats.len() < 2 {
         return work_at_one(alloc, gate, claims, task, blocks, crew);
@@ -54,11 +55,11 @@ pub(crate) fn work_all<R: Threads + Sync, T: Task + Sync, G: Gate + Sync>(
     let (low, high) = halves(claims, u64::from(blocks.count) + 1, crew)?;
     let front = move || -> Result<Harvest<T::Seat, T::Piece>, OutOfMemory>
         requires { IsSync R.row × IsSync T.row × IsSync G.row × IsCrew claims.now.id (blocks.count + 1) low.first low.seats.items low.drawer × AreBlocks blocks × (blocks.jobs ≤ T.jobs task.now) × All (T.fits task.now) low.seats.items }
-        ensures { IfOk result (λ h. IsHarvest (WasRun (T.fits task.entry.now) (T.ran task.entry.now)) (T.fits task.entry.now) claims.entry.now.id blocks low.seats.items h.ends.items h.done.items h.drawer) }
+        ensures { IfOk result (λ h. IsHarvest (WasRun (T.fits task.entry.now) (T.ran task.entry.now)) (T.fits task.entry.now) claims.entry.now.id blocks low.seats.items h.ends.items (log_of h.done.items) h.drawer) }
     { work_all(rt, alloc, gate, claims, task, blocks, low) };
     let back = move || -> Result<Harvest<T::Seat, T::Piece>, OutOfMemory>
         requires { IsSync R.row × IsSync T.row × IsSync G.row × IsCrew claims.now.id (blocks.count + 1) high.first high.seats.items high.drawer × AreBlocks blocks × (blocks.jobs ≤ T.jobs task.now) × All (T.fits task.now) high.seats.items }
-        ensures { IfOk result (λ h. IsHarvest (WasRun (T.fits task.entry.now) (T.ran task.entry.now)) (T.fits task.entry.now) claims.entry.now.id blocks high.seats.items h.ends.items h.done.items h.drawer) }
+        ensures { IfOk result (λ h. IsHarvest (WasRun (T.fits task.entry.now) (T.ran task.entry.now)) (T.fits task.entry.now) claims.entry.now.id blocks high.seats.items h.ends.items (log_of h.done.items) h.drawer) }
     { work_all(rt, alloc, gate, claims, task, blocks, high) };
     let (a, b) = join(rt, front, back);
     let front = a?;
@@ -116,7 +117,7 @@ fn work_at_one<T: Task, G: Gate>(
     requires blocks { AreBlocks blocks }
     requires jobs { blocks.jobs ≤ T.jobs task.now }
     requires fits { All (T.fits task.now) crew.seats.items }
-    ensures { IfOk result (λ h. IsHarvest (WasRun (T.fits task.now) (T.ran task.now)) (T.fits task.now) claims.now.id blocks crew.seats.items h.ends.items h.done.items h.drawer) }
+    ensures { IfOk result (λ h. IsHarvest (WasRun (T.fits task.now) (T.ran task.now)) (T.fits task.now) claims.now.id blocks crew.seats.items h.ends.items (log_of h.done.items) h.drawer) }
 {
     let Crew {
         first,
@@ -130,7 +131,7 @@ fn work_at_one<T: Task, G: Gate>(
         drawer,
         done: Vec::new(alloc),
     };
-    draw_all(gate, claims, task, blocks, &mut worker)?;
+    draw_all(alloc, gate, claims, task, blocks, &mut worker)?;
     let Worker {
         number: _,
         seat,

@@ -5,6 +5,7 @@ use Rattle.std.specs.List.{All}
 use Rattle.std.proofs.lemmas.Result.{IfOk-at_ok}
 use Rattle.par_work.specs.Fan.{WasRun}
 use Rattle.par_work.specs.inner.Harvest.{IsHarvest}
+use Rattle.par_work.specs.inner.Runs.{log_of}
 use Rattle.par_work.proofs.Harvests.{union, harvest_both, joined, all_low, all_high}
 use Rattle.par_work.proofs.crew.+crew.Goals as goal
 
@@ -25,8 +26,8 @@ returns g t c =
     let high = c.in_ok-low.high in
     let front = c.in_ok-front.front in
     let back = c.in_ok-back.back in
-    let a = IfOk-at_ok (λ h. IsHarvest (WasRun fits ran) fits id c.args.blocks low.seats.items h.ends.items h.done.items h.drawer) c.in_ok-front.was c.join-a.ensures.first in
-    let b = IfOk-at_ok (λ h. IsHarvest (WasRun fits ran) fits id c.args.blocks high.seats.items h.ends.items h.done.items h.drawer) c.in_ok-back.was c.join-a.ensures.second in
-    joined (WasRun fits ran) fits id c.args.blocks (low.seats.items ++ high.seats.items) c.args.crew.seats.items (front.ends.items ++ back.ends.items) (front.done.items ++ back.done.items) (union front.drawer back.drawer) c.both.result
+    let a = IfOk-at_ok (λ h. IsHarvest (WasRun fits ran) fits id c.args.blocks low.seats.items h.ends.items (log_of h.done.items) h.drawer) c.in_ok-front.was c.join-a.ensures.first in
+    let b = IfOk-at_ok (λ h. IsHarvest (WasRun fits ran) fits id c.args.blocks high.seats.items h.ends.items (log_of h.done.items) h.drawer) c.in_ok-back.was c.join-a.ensures.second in
+    joined (WasRun fits ran) fits id c.args.blocks (low.seats.items ++ high.seats.items) c.args.crew.seats.items (front.ends.items ++ back.ends.items) front.done.items back.done.items (union front.drawer back.drawer) c.both.result
     c.in_ok-low.ensures.seats c.both.ensures.ends c.both.ensures.done c.both.ensures.drawer
-    (harvest_both (WasRun fits ran) fits id c.args.blocks low.seats.items high.seats.items front.ends.items back.ends.items front.done.items back.done.items front.drawer back.drawer a b)
+    (harvest_both (WasRun fits ran) fits id c.args.blocks low.seats.items high.seats.items front.ends.items back.ends.items (log_of front.done.items) (log_of back.done.items) front.drawer back.drawer a b)
