@@ -1,44 +1,49 @@
 #!/usr/bin/env python3
 """Times jobs that are shared out among workers: `fan_speed.py [RUNS]`.
 
-Runs a million jobs of 75 steps, some 100 ns each, a million jobs without steps, and 7 jobs of 150 million steps, some
-0.2 s each, with 1, 2 and 4 workers. Prints for each the least seconds of the runs, and how many times as fast it was
-as with one worker. The program is built before by `rt run` in `crates/fan_speed`.
+Runs four million jobs of 50 steps, some 80 ns each, twenty million jobs without steps, and 7 jobs of 100 million
+steps, some 0.2 s each, with 1, 2 and 4 workers. Prints for each the least time of the runs, how many times as fast it
+was as with one worker, and the least processor time that one job took. The program is built before by `rt run` in
+`crates/fan_speed`.
 """
+import os
 import subprocess
 import sys
 import time
 from pathlib import Path
 
 PROGRAM = Path(__file__).resolve().parent.parent / "crates/fan_speed/out/fan_speed"
-LOADS = [("a million jobs of 75 steps", 1_000_000, 75), ("a million jobs without steps", 1_000_000, 0),
-         ("7 jobs of 150 million steps", 7, 150_000_000)]
+LOADS = [("4 million jobs of 50 steps", 4_000_000, 50), ("20 million jobs without steps", 20_000_000, 0),
+         ("7 jobs of 100 million steps", 7, 100_000_000)]
 
 
-def least_seconds(workers, jobs, steps, runs):
-    """The least seconds of the runs, and what the program printed."""
-    least, printed = None, set()
-    for _ in range(runs):
-        start = time.monotonic()
-        done = subprocess.run([PROGRAM, str(workers), str(jobs), str(steps)], check=True, capture_output=True, text=True)
-        seconds = time.monotonic() - start
-        printed.add(done.stdout)
-        least = seconds if least is None else min(least, seconds)
-    return least, printed
+def run(workers, jobs, steps):
+    """The seconds, the seconds of processor time, and what the program printed."""
+    start = time.monotonic()
+    child = subprocess.Popen([PROGRAM, str(workers), str(jobs), str(steps)], stdout=subprocess.PIPE, text=True)
+    printed = child.stdout.read()
+    _, status, usage = os.wait4(child.pid, 0)
+    seconds = time.monotonic() - start
+    if status != 0:
+        sys.exit("the program failed")
+    return seconds, usage.ru_utime + usage.ru_stime, printed
 
 
 def main(runs):
     if not PROGRAM.exists():
         sys.exit("build the program first: (cd crates/fan_speed && rt run)")
     for name, jobs, steps in LOADS:
-        alone, printed = least_seconds(1, jobs, steps, runs)
-        print(f"{name}: 1 worker {alone * 1e3:.0f} ms", end="")
-        for workers in (2, 4):
-            seconds, more = least_seconds(workers, jobs, steps, runs)
-            print(f", {workers} workers {seconds * 1e3:.0f} ms ({alone / seconds:.2f} times as fast)", end="")
-            if more != printed or len(more) != 1:
-                sys.exit("\nthe sums differ")
-        print()
+        alone, sums = None, set()
+        print(f"{name}:")
+        for workers in (1, 2, 4):
+            timed = [run(workers, jobs, steps) for _ in range(runs)]
+            seconds, processor = min(one[0] for one in timed), min(one[1] for one in timed)
+            sums |= {one[2] for one in timed}
+            alone = alone or seconds
+            print(f"  {workers} workers: {seconds * 1e3:.0f} ms, {alone / seconds:.2f} times as fast, "
+                  f"{processor / jobs * 1e9:.1f} ns of processor time a job")
+        if len(sums) != 1:
+            sys.exit("the sums differ")
 
 
 if __name__ == "__main__":
