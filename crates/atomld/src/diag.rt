@@ -46,6 +46,7 @@ impl<W: Write> Diag for WriterDiag<W> {
     fn put(&mut self, bytes: &[u8]) -> Result<(), Failed>
         ensures counts { self.new.faults ≡ counted (is_err result) self.old.faults }
         ensures faults { self.old.faults ≤ self.new.faults }
+        ensures still { OnOk result (self.new.faults ≡ self.old.faults) }
         ensures failed { OnErr result (Rises self.old.faults self.new.faults) }
         ensures ok { OnOk result (Appends (W.contents self.old.to) (W.contents self.new.to) bytes.now) }
         ensures err { OnErr result (AppendsPart (W.contents self.old.to) (W.contents self.new.to) bytes.now) }

@@ -159,6 +159,8 @@ fn fetch_from<R: rt::Files>(rt: &R, path: &[u8], into: &mut Vec<u8>) -> Result<b
 impl<R: rt::Files> Files for DiskFiles<R> {
     ghost holds = { λ _. None };
 
+    ghost asked = { λ _. None };
+
     ghost faults = { λ files. files.faults };
 
     /// Reads the file of the path, which is text. A file that is longer than 2^30 bytes isn't read on.
@@ -166,6 +168,8 @@ impl<R: rt::Files> Files for DiskFiles<R> {
         requires { into.old.items ≡ [] }
         ensures counts { self.new.faults ≡ counted (is_unread result) self.old.faults }
         ensures faults { self.old.faults ≤ self.new.faults }
+        ensures still { OnOk result (self.new.faults ≡ self.old.faults) }
+        ensures refused { IsErrOf result FetchFault.Memory → self.new.faults ≡ self.old.faults }
         ensures failed { IsErrOf result FetchFault.Failed → Rises self.old.faults self.new.faults }
         ensures no_text { ¬ IsUtf8 path.now → result ≡ Err FetchFault.Failed }
         ensures absent { result ≡ Ok false → into.new.items ≡ [] }

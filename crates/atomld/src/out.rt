@@ -68,12 +68,15 @@ fn make_executable<F: OpenFile>(file: &F) -> io::Result<()> {
 impl<R: rt::Files> Out for DiskOut<R> {
     ghost files = { λ _. None };
 
+    ghost calls = { λ _. None };
+
     ghost faults = { λ out. out.faults };
 
     /// Creates the file, or empties the one that is there.
     fn begin(&mut self, path: &[u8]) -> Result<(), Failed>
         ensures counts { self.new.faults ≡ counted (is_err result) self.old.faults }
         ensures faults { self.old.faults ≤ self.new.faults }
+        ensures still { OnOk result (self.new.faults ≡ self.old.faults) }
         ensures failed { OnErr result (Rises self.old.faults self.new.faults) }
         ensures open { OnOk result (IsSome self.new.file) }
         ensures no_text { ¬ IsUtf8 path.now → IsErr result }
@@ -93,11 +96,13 @@ impl<R: rt::Files> Out for DiskOut<R> {
 
     /// Writes once to the file that was begun last, and fails where none was, or where it is done.
     fn write(&mut self, bytes: &[u8]) -> Result<usize, Failed>
+        requires { 0 < length bytes.now }
         ensures counts { self.new.faults ≡ counted (is_err result) self.old.faults }
         ensures faults { self.old.faults ≤ self.new.faults }
+        ensures still { OnOk result (self.new.faults ≡ self.old.faults) }
         ensures failed { OnErr result (Rises self.old.faults self.new.faults) }
         ensures within { IfOk result (λ count. count ≤ length bytes.now) }
-        ensures some { IfOk result (λ count. 0 < length bytes.now → 0 < count) }
+        ensures some { IfOk result (λ count. 0 < count) }
         ensures open { OnOk result (IsSome self.old.file) }
         ensures reaches { IfOk result (λ count. IfSome self.old.file (λ old. IfSome self.new.file (λ new.
             Appends (R.File.contents old) (R.File.contents new) (take count bytes.now)))) }
@@ -116,6 +121,7 @@ impl<R: rt::Files> Out for DiskOut<R> {
     fn done(&mut self) -> Result<(), Failed>
         ensures counts { self.new.faults ≡ counted (is_err result) self.old.faults }
         ensures faults { self.old.faults ≤ self.new.faults }
+        ensures still { OnOk result (self.new.faults ≡ self.old.faults) }
         ensures failed { OnErr result (Rises self.old.faults self.new.faults) }
         ensures open { OnOk result (IsSome self.old.file) }
         ensures closed { self.new.file ≡ None }

@@ -46,6 +46,8 @@ impl<'a, R: rt::Files + AllocGlobal> CaseFiles<'a, R> {
 impl<R: rt::Files + AllocGlobal> Files for CaseFiles<'_, R> {
     ghost holds = { λ _. None };
 
+    ghost asked = { λ _. None };
+
     ghost faults = { λ files. files.faults };
 
     fn fetch(

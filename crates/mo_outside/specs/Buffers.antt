@@ -1,5 +1,7 @@
 -- What the objects in memory keep their bytes in.
-use Rattle.std.specs.Prelude.{ℕ, ◌≡◌, ◌≤◌, List, [], ◌∷◌, take, drop, slice_range}
+use Rattle.std.specs.Prelude.{ℕ, ◌≡◌, ◌≤◌, List, [], ◌∷◌, take, drop, slice_range, Option, Some, None}
+use Rattle.mo_outside.specs.declared.asked.Asked.{Asked}
+use Rattle.mo_outside.specs.declared.asked.Asked.TheVariants as asked
 use Rattle.mo_outside.specs.Written.{Written}
 use Rattle.mo_outside.specs.declared.file_buffer.Begun.{Begun}
 use Rattle.mo_outside.specs.declared.file_buffer.Begun.TheVariants.{Nothing, First, Second}
@@ -19,3 +21,9 @@ abbrev pub IsWithin : ℕ → Begun → Type 0
 IsWithin len Nothing = len ≡ 0
 IsWithin len (First file) = file.path_end ≤ len
 IsWithin len (Second first end second) = (first.path_end ≤ end) × (end ≤ second.path_end) × (second.path_end ≤ len)
+
+-- the paths that were asked for, unless memory for one was refused
+abbrev pub paths_in : Asked → Option (List (List ℕ))
+paths_in asked.Nothing = Some []
+paths_in (asked.Paths paths) = Some paths
+paths_in asked.Forgotten = None

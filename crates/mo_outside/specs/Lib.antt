@@ -3,6 +3,7 @@ pub mod Calls
 pub mod Faults
 pub mod Files
 pub mod Gates
+pub mod Log
 pub mod Memory
 pub mod Room
 pub mod Tells

@@ -14,9 +14,15 @@ pub record IsFilesOf (pairs : List (List ℕ × List ℕ)) (files : FileMap) : T
   pub each : All (λ pair. file_at files pair.0 ≡ Some pair.1) pairs
   pub only : (path : List ℕ) → All (λ pair. pair.0 ≢ path) pairs → file_at files path ≡ None
 
+-- files that can always be read, each a path with its bytes, and the paths that were asked for, where told
+pub record SureFileSet : Type 0 where
+  pub pairs : List (List ℕ × List ℕ)
+  pub asked : Option (List (List ℕ))
+
 -- files that can be read, each a path with its bytes, where some calls are to fail
 pub record MemoryFiles : Type 0 where
   pub pairs : List (List ℕ × List ℕ)
+  pub asked : Option (List (List ℕ))
   pub calls : Calls
 
 -- an output with room for paths and contents, where some calls are to fail

@@ -1,4 +1,4 @@
-ghost use Rattle.std.specs.Prelude.{◌≡◌, ◌==◌, ◌≤◌, ◌+◌, ◌||◌, is_err, not};
+ghost use Rattle.std.specs.Prelude.{◌≡◌, ◌==◌, ◌≤◌, ◌+◌, ◌||◌, is_err, not, OnOk};
 ghost use Rattle.std.specs.List.{list_any};
 ghost use Rattle.mo_outside.specs.Calls.{is_failing, counted};
 
@@ -50,6 +50,7 @@ impl CallCount {
         ensures failed { is_err result ≡ (is_failing self.old || not can_be_done) }
         ensures counts { self.new ≡ counted (is_err result) self.old }
         ensures faults { self.old.faults ≤ self.new.faults }
+        ensures still { OnOk result (self.new.faults ≡ self.old.faults) }
     {
         let fails = has_next(self.failing.as_slice(), self.made) || !can_be_done;
         self.made = self.made.saturating_add(1);

@@ -1,9 +1,12 @@
-ghost use Rattle.std.specs.Prelude.{◌≡◌, ◌↔◌, IsErrOf, IsTrue, OnErr, ◌≢◌, ◌≤◌, ◌^◌, [], AllPairs, IfOk, IfErr, length, if◌then◌else◌, Some, false};
+ghost use Rattle.std.specs.Prelude.{◌≡◌, ◌↔◌, IsErrOf, IsTrue, OnOk, OnErr, ◌≢◌, ◌≤◌, ◌^◌, [], AllPairs, IfOk, IfErr, length, if◌then◌else◌, Some, false};
 ghost use Rattle.std.specs.Option.{option_copied};
 ghost use Rattle.mo_outside.specs.Calls.{is_failing, counted};
 ghost use Rattle.mo_outside.specs.Files.{Fetches, file_at, fetched};
+ghost use Rattle.mo_outside.specs.Log.{Logs};
 ghost use Rattle.mo_outside.specs.Memory.{files_of, IsFilesOf};
+ghost use Rattle.mo_outside.specs.Tells.{Tells};
 
+use crate::asked::AskedPaths;
 use crate::calls::{CallCount, CallList};
 use crate::traits::{FetchFault, Files};
 use mo_types::{Bytes, Items};
@@ -51,14 +54,15 @@ fn fetch_from(pairs: &[(Bytes, Bytes)], path: &[u8], into: &mut Vec<u8>) -> Resu
 #[derive(Drop)]
 pub struct SureFiles {
     pairs: FileList,
+    asked: AskedPaths,
 }
 
 impl Model for SureFiles {
-    ghost use Rattle.std.specs.Prelude.{List, ℕ};
+    ghost use Rattle.mo_outside.specs.Memory.{SureFileSet};
 
-    ghost Value = { List (List ℕ × List ℕ) };
+    ghost Value = { SureFileSet };
 
-    ghost view = { λ files. files.pairs };
+    ghost view = { λ files. record { pairs = files.pairs; asked = files.asked } };
 }
 
 impl SureFiles {
@@ -66,23 +70,29 @@ impl SureFiles {
     pub fn new(pairs: FileList) -> SureFiles
         requires { AllPairs (λ one other. one.0 ≢ other.0) pairs }
         ensures holds { IsFilesOf pairs (files_of pairs) }
-        ensures starts { result ≡ pairs }
+        ensures starts { result ≡ record { pairs = pairs; asked = Some [] } }
     {
-        SureFiles { pairs }
+        SureFiles {
+            pairs,
+            asked: AskedPaths::new(),
+        }
     }
 }
 
 impl Files for SureFiles {
-    ghost holds = { λ files. Some (files_of files) };
+    ghost holds = { λ files. Some (files_of files.pairs) };
+
+    ghost asked = { λ files. files.asked };
 
     ghost faults = { λ _. 0 };
 
     fn fetch(
         &mut self,
-        _alloc: Global,
+        alloc: Global,
         path: &[u8],
         into: &mut Vec<u8>,
     ) -> Result<bool, FetchFault> {
+        self.asked.add(alloc, path);
         fetch_from(self.pairs.as_slice(), path, into)
     }
 }
@@ -91,6 +101,7 @@ impl Files for SureFiles {
 #[derive(Drop)]
 pub struct MemFiles {
     pairs: FileList,
+    asked: AskedPaths,
     calls: CallCount,
 }
 
@@ -99,7 +110,7 @@ impl Model for MemFiles {
 
     ghost Value = { MemoryFiles };
 
-    ghost view = { λ files. record { pairs = files.pairs; calls = files.calls } };
+    ghost view = { λ files. record { pairs = files.pairs; asked = files.asked; calls = files.calls } };
 }
 
 impl MemFiles {
@@ -108,10 +119,11 @@ impl MemFiles {
     pub fn new(pairs: FileList, failing: CallList) -> MemFiles
         requires { AllPairs (λ one other. one.0 ≢ other.0) pairs }
         ensures holds { IsFilesOf pairs (files_of pairs) }
-        ensures starts { result ≡ record { pairs = pairs; calls = record { failing = failing; made = 0; faults = 0 } } }
+        ensures starts { result ≡ record { pairs = pairs; asked = Some []; calls = record { failing = failing; made = 0; faults = 0 } } }
     {
         MemFiles {
             pairs,
+            asked: AskedPaths::new(),
             calls: CallCount::new(failing),
         }
     }
@@ -127,18 +139,25 @@ impl MemFiles {
 impl Files for MemFiles {
     ghost holds = { λ files. Some (files_of files.pairs) };
 
+    ghost asked = { λ files. files.asked };
+
     ghost faults = { λ files. files.calls.faults };
 
-    fn fetch(&mut self, _alloc: Global, path: &[u8], into: &mut Vec<u8>) -> Result<bool, FetchFault>
+    fn fetch(&mut self, alloc: Global, path: &[u8], into: &mut Vec<u8>) -> Result<bool, FetchFault>
         requires { into.old.items ≡ [] }
         ensures failed { IsErrOf result FetchFault.Failed ↔ IsTrue (is_failing self.old.calls) }
         ensures answer { IfOk result (λ there. Fetches (Some (files_of self.old.pairs)) path.now there into.new.items) }
         ensures absent { result ≡ Ok false → into.new.items ≡ [] }
         ensures size { length into.new.items ≤ 2 ^ 30 }
         ensures err { OnErr result (into.new.items ≡ []) }
-        ensures calls { self.new ≡ record self.old { calls = counted (is_failing self.old.calls) self.old.calls } }
+        ensures pairs { self.new.pairs ≡ self.old.pairs }
+        ensures asked { Tells (Logs path.now) self.old.asked self.new.asked }
+        ensures calls { self.new.calls ≡ counted (is_failing self.old.calls) self.old.calls }
         ensures faults { self.old.calls.faults ≤ self.new.calls.faults }
+        ensures still { OnOk result (self.new.calls.faults ≡ self.old.calls.faults) }
+        ensures refused { IsErrOf result FetchFault.Memory → self.new.calls.faults ≡ self.old.calls.faults }
     {
+        self.asked.add(alloc, path);
         if self.calls.count(true).is_err() {
             return Err(FetchFault::Failed);
         }

@@ -3,6 +3,7 @@
 //! and a count of faults, which never falls. For tests each of them stands in memory.
 #![tactic(auto)]
 
+mod asked;
 mod buffer;
 mod calls;
 mod file_buffer;

@@ -125,6 +125,7 @@ impl Diag for MemDiag {
         ensures err { OnErr result (self.new.lines ≡ self.old.lines) }
         ensures calls { self.new.calls ≡ counted (is_err result) self.old.calls }
         ensures faults { self.old.calls.faults ≤ self.new.calls.faults }
+        ensures still { OnOk result (self.new.calls.faults ≡ self.old.calls.faults) }
         ensures room { self.new.room ≡ self.old.room }
     {
         self.calls.count(self.lines.fits(bytes))?;

@@ -77,6 +77,8 @@ impl SureOut {
 impl Out for SureOut {
     ghost files = { λ out. out.files };
 
+    ghost calls = { λ _. None };
+
     ghost faults = { λ _. 0 };
 
     fn begin(&mut self, path: &[u8]) -> Result<(), Failed>
@@ -176,6 +178,8 @@ impl MemOut {
 impl Out for MemOut {
     ghost files = { λ out. Some out.files };
 
+    ghost calls = { λ _. None };
+
     ghost faults = { λ out. out.calls.faults };
 
     fn begin(&mut self, path: &[u8]) -> Result<(), Failed>
@@ -184,6 +188,7 @@ impl Out for MemOut {
         ensures err { OnErr result (self.new.files ≡ self.old.files) }
         ensures calls { self.new.calls ≡ counted (is_err result) self.old.calls }
         ensures faults { self.old.calls.faults ≤ self.new.calls.faults }
+        ensures still { OnOk result (self.new.calls.faults ≡ self.old.calls.faults) }
         ensures room { self.new.room ≡ self.old.room }
     {
         self.calls.count(self.files.can_begin(path))?;
@@ -198,6 +203,7 @@ impl Out for MemOut {
         ensures err { OnErr result (self.new.files ≡ self.old.files) }
         ensures calls { self.new.calls ≡ counted (is_err result) self.old.calls }
         ensures faults { self.old.calls.faults ≤ self.new.calls.faults }
+        ensures still { OnOk result (self.new.calls.faults ≡ self.old.calls.faults) }
         ensures room { self.new.room ≡ self.old.room }
     {
         self.calls.count(self.files.can_write(bytes))?;
@@ -211,6 +217,7 @@ impl Out for MemOut {
         ensures err { OnErr result (self.new.files ≡ self.old.files) }
         ensures calls { self.new.calls ≡ counted (is_err result) self.old.calls }
         ensures faults { self.old.calls.faults ≤ self.new.calls.faults }
+        ensures still { OnOk result (self.new.calls.faults ≡ self.old.calls.faults) }
         ensures room { self.new.room ≡ self.old.room }
     {
         self.calls.count(true)?;
