@@ -1,4 +1,4 @@
+pub mod Exits
 pub mod Faults
 pub mod Mode
 pub mod Pieces
-pub mod Words

@@ -1,9 +1,8 @@
 //! The words of the command line.
 
-ghost use Rattle.std.specs.Prelude.{IfErr};
-ghost use Rattle.atomld.specs.Words.{IsWordsFault};
+ghost use Rattle.std.specs.Prelude.{◌≡◌, [], ◌∷◌, IfOk, IsUtf8};
 
-use mo_types::{Arg, ArgList, OutOfMemory, Status, UsageRule};
+use mo_types::{Arg, ArgList, OutOfMemory};
 use std::alloc::Global;
 use std::env::FillError;
 use std::rt::Env;
@@ -28,23 +27,26 @@ fn word<R: Env>(rt: &R, alloc: Global, number: usize) -> Result<Option<Vec<u8>>,
     Err(OutOfMemory)
 }
 
-/// The words after the program's name. The first one that isn't UTF-8 is an unknown word, and no other word
-/// is looked at then.
-pub fn gather<R: Env>(rt: &R, alloc: Global) -> Result<ArgList, Status>
-    ensures { IfErr result IsWordsFault }
+// A word of a command line. One that isn't UTF-8 becomes a lone NUL, which no word that is given has, and which
+// is an unknown word wherever it stands.
+fn text_of(alloc: Global, bytes: Vec<u8>) -> Result<Arg, OutOfMemory>
+    ensures text { IsUtf8 bytes.items → IfOk result (λ arg. arg ≡ bytes.items) }
+    ensures no_text { ¬ IsUtf8 bytes.items → IfOk result (λ arg. arg ≡ 0 ∷ []) }
 {
+    match String::from_utf8(bytes) {
+        Ok(text) => Ok(Arg::new(text)),
+        Err(_) => Ok(Arg::new(String::from_str(alloc, "\0")?)),
+    }
+}
+
+/// The words after the program's name, each of them text or a lone NUL.
+pub fn gather<R: Env>(rt: &R, alloc: Global) -> Result<ArgList, OutOfMemory> {
     let mut words = ArgList::new(alloc);
     for number in 1..usize::MAX {
         let Some(bytes) = word(rt, alloc, number)? else {
             break;
         };
-        let Ok(text) = String::from_utf8(bytes) else {
-            return Err(Status::Usage {
-                word: number as u64,
-                rule: UsageRule::Unknown,
-            });
-        };
-        words.push(Arg::new(text))?;
+        words.push(text_of(alloc, bytes)?)?;
     }
     Ok(words)
 }

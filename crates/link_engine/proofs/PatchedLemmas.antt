@@ -29,7 +29,7 @@ number_behind : (width : ℕ) (front rest : List ℕ) (past place : ℕ) → pla
 unfolding number
 number_behind width front rest past place e = rw (e, drop-append-add) refl
 
-length-with_word : (at word : ℕ) (bytes : List ℕ) → at + 4 ≤ length bytes → length (with_word at word bytes) ≡ length bytes
+pub length-with_word : (at word : ℕ) (bytes : List ℕ) → at + 4 ≤ length bytes → length (with_word at word bytes) ≡ length bytes
 length-with_word at word bytes room =
     rw (length-append, length-append, length-take-le at bytes (omega arith), length-number_bytes, length-drop, length-drop) (omega arith)
 
@@ -68,7 +68,7 @@ number_apart width at word place bytes room (inr after) = number_after_word widt
 abbrev pub AreIn : ℕ → List RawReloc → Type 0
 AreIn size relocs = AllByRecursion (λ reloc. reloc.address + 4 ≤ size) relocs
 
-patched_by-is : (text : Section) (symbols : List Symbol) (reloc : RawReloc) (bytes : List ℕ) → patched_by text symbols 0 reloc bytes ≡ with_word reloc.address (branch_word (number 4 bytes reloc.address) (distance_of text symbols reloc)) bytes
+pub patched_by-is : (text : Section) (symbols : List Symbol) (reloc : RawReloc) (bytes : List ℕ) → patched_by text symbols 0 reloc bytes ≡ with_word reloc.address (branch_word (number 4 bytes reloc.address) (distance_of text symbols reloc)) bytes
 unfolding patched_by
 patched_by-is text symbols reloc bytes = ap (λ (at : ℕ). branch_at at (distance_of text symbols reloc) bytes) (zero-add reloc.address)
 

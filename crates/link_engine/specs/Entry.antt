@@ -1,5 +1,6 @@
 -- Where the program begins.
-use Rattle.std.specs.Prelude.{ℕ, ◌&&◌, List, [], codes, Option, Some, None, Result, Ok, Err, if◌then◌else◌}
+use Rattle.std.specs.Prelude.{ℕ, ◌≡◌, ◌&&◌, true, List, [], codes, Option, Some, None, Result, Ok, Err, if◌then◌else◌}
+use Rattle.std.specs.List.{AllByRecursion}
 use Rattle.std.specs.Str.{bytes_eq}
 use Rattle.mo_types.specs.Scan.{first_some}
 use Rattle.mo_types.specs.declared.answer.Status.{Status}
@@ -28,3 +29,18 @@ or_undefined None = Err (Refused (Undefined entry_name []))
 -- the entry's address in the object
 unfoldable pub entry_of : List Symbol → Result ℕ Status
 entry_of symbols = or_undefined (first_some entry_value symbols)
+
+-- a symbol that is defined in a section
+abbrev pub IsDefined : SymbolKind → Type 0
+IsDefined (Defined section value) = Unit {0}
+IsDefined _ = ⊥
+
+-- an external definition with the entry's name
+pub record IsEntry (symbol : Symbol) : Type 0 where
+  pub external : symbol.external ≡ true
+  pub named : symbol.name ≡ entry_name
+  pub defined : IsDefined symbol.kind
+
+-- no symbol is one
+abbrev pub HasNoEntry : List Symbol → Type 0
+HasNoEntry symbols = AllByRecursion (λ symbol. IsEntry symbol → ⊥) symbols

@@ -1,4 +1,6 @@
+pub mod Asks
 pub mod Branches
+pub mod Causes
 pub mod Command
 pub mod Entry
 pub mod Form
@@ -6,6 +8,7 @@ pub mod Image
 pub mod Input
 pub mod Names
 pub mod Object
+pub mod Parts
 pub mod Patching
 pub mod Reading
 pub mod Settles

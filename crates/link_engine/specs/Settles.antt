@@ -1,22 +1,14 @@
--- How a link ends, against its verdict and its causes.
-use Rattle.std.specs.Prelude.{ℕ, ◌≡◌, ◌⊎◌, List, [], Option, Some, None, Result, Ok, Err}
-use Rattle.mo_outside.specs.Files.{FileMap, fetched}
-use Rattle.mo_outside.specs.Tells.{Tells}
+-- How a link ends, against its verdict.
+use Rattle.std.specs.Prelude.{ℕ, ◌≡◌, ◌⊎◌, List, [], slice_get, Option, Some, None, option_map, Result, Ok, Err}
+use Rattle.mo_outside.specs.Log.{OutCall}
+use Rattle.mo_outside.specs.Tells.{Appends, AppendsSome, Stays, Tells}
 use Rattle.mo_outside.specs.Written.{Written}
-use Rattle.mo_types.specs.Scan.{first_some}
-use Rattle.mo_types.specs.declared.cause.Which.{Which}
-use Rattle.mo_types.specs.declared.object_fault.ObjFault.{ObjFault}
-use Rattle.mo_types.specs.declared.object_fault.ObjFault.TheVariants.{Limit}
+use Rattle.mo_types.specs.Answer.{IsDetermined}
+use Rattle.mo_types.specs.Message.{line_of}
 use Rattle.mo_types.specs.declared.answer.Status.{Status}
-use Rattle.mo_types.specs.declared.answer.Status.TheVariants.{Done, Usage, ReadFault, Refused, WriteFault, OutOfMemory}
-use Rattle.link_engine.specs.declared.form.TextObject.{TextObject}
+use Rattle.mo_types.specs.declared.answer.Status.TheVariants.{Done, WriteFault, OutOfMemory}
 use Rattle.link_engine.specs.declared.plan.Plan.{Plan}
-use Rattle.link_engine.specs.declared.words.Command.{Command}
-use Rattle.link_engine.specs.Command.{command_of}
-use Rattle.link_engine.specs.Entry.{entry_name, entry_value}
-use Rattle.link_engine.specs.Reading.{text_object}
-use Rattle.link_engine.specs.Verdict.{verdict}
-use Rattle.link_engine.specs.Writing.{WritesPart, WritesWhole}
+use Rattle.link_engine.specs.Writing.{AreCallsUpTo, AreFilesCalls, Hands, WritesAll, WritesUpTo}
 
 -- The answer is given only where the cause stands. Where it stands the answer is given, unless memory ran
 -- out or the fault came.
@@ -24,63 +16,42 @@ pub record ExactlyWhere (cause : Type 0) (answer status : Status) (fault : Type 
   pub only : status ≡ answer → cause
   pub always : cause → (status ≡ answer) ⊎ ((status ≡ OutOfMemory) ⊎ fault)
 
--- the command's input isn't there
-pub record IsMissing (words : List (List ℕ)) (files : FileMap) (path : List ℕ) : Type 0 where
-  pub command : Command
-  pub read : command_of words ≡ Ok command
-  pub input : command.input ≡ path
-  pub absent : fetched files path ≡ None
+-- what the output and the messages tell
+pub record Seen : Type 0 where
+  pub files : Option (List Written)
+  pub calls : Option (List OutCall)
+  pub lines : Option (List ℕ)
 
--- the command's input is there, and a fault is the first one that keeps it from being linked
-pub record IsFaulty (words : List (List ℕ)) (files : FileMap) (path : List ℕ) (fault : ObjFault) : Type 0 where
-  pub command : Command
-  pub bytes : List ℕ
-  pub read : command_of words ≡ Ok command
-  pub input : command.input ≡ path
-  pub there : fetched files path ≡ Some bytes
-  pub first : text_object bytes ≡ Err fault
+-- a line was put, or some first bytes of it, all of them where no fault of the messages was counted
+pub record Says (line : List ℕ) (quiet : Type 0) (old new : Option (List ℕ)) : Type 0 where
+  pub whole : quiet → Tells (Appends line) old new
+  pub prefix : Tells (AppendsSome line) old new
 
--- the command's input is there, and reaches a limit
-pub record IsLimited (words : List (List ℕ)) (files : FileMap) (which : Which) : Type 0 where
-  pub path : List ℕ
-  pub faulty : IsFaulty words files path (Limit which)
+-- nothing was written, and the line of an answer was put
+pub record Stopped (status : Status) (quiet : Type 0) (old new : Seen) : Type 0 where
+  pub files : Tells Stays old.files new.files
+  pub calls : Tells Stays old.calls new.calls
+  pub says : Says (line_of [] status) quiet old.lines new.lines
 
--- the command's input is of the form, and no symbol is an external definition of the entry
-pub record IsUndefined (words : List (List ℕ)) (files : FileMap) (name file : List ℕ) : Type 0 where
-  pub command : Command
-  pub bytes : List ℕ
-  pub object : TextObject
-  pub read : command_of words ≡ Ok command
-  pub there : fetched files command.input ≡ Some bytes
-  pub form : text_object bytes ≡ Ok object
-  pub none : first_some entry_value object.symbols ≡ None
-  pub entry : name ≡ entry_name
-  pub nobody : file ≡ []
+-- all files of a plan were written, and its line was put
+pub record Carries (plan : Plan) (quiet : Type 0) (old new : Seen) : Type 0 where
+  pub files : Tells (WritesAll plan.files) old.files new.files
+  pub calls : Tells (Hands (AreFilesCalls plan.files)) old.calls new.calls
+  pub says : Says plan.line quiet old.lines new.lines
 
--- there is something to write
-pub record IsBuilt (words : List (List ℕ)) (files : FileMap) : Type 0 where
-  pub plan : Plan
-  pub built : verdict words files ≡ Ok plan
+-- the files of a plan were written up to one, of which a part was written perhaps, and whose path was told
+pub record CarriesPart (plan : Plan) (quiet : Type 0) (old new : Seen) : Type 0 where
+  pub number : ℕ
+  pub file : List ℕ × List ℕ
+  pub there : slice_get plan.files number ≡ Some file
+  pub files : Tells (WritesUpTo plan.files number) old.files new.files
+  pub calls : Tells (Hands (AreCallsUpTo plan.files number)) old.calls new.calls
+  pub says : Says (line_of file.0 WriteFault) quiet old.lines new.lines
 
--- an answer, and what it leaves in the output, agree with a verdict
-abbrev pub Settles : Result Plan Status → Status → Option (List Written) → Option (List Written) → Type 0
-Settles given Done old new = (plan : Plan) × (given ≡ Ok plan) × Tells (WritesWhole plan.path plan.image) old new
-Settles given WriteFault old new = (plan : Plan) × (given ≡ Ok plan) × Tells (WritesPart plan.path plan.image) old new
-Settles given (Usage word rule) old new = given ≡ Err (Usage word rule)
-Settles given (Refused refusal) old new = given ≡ Err (Refused refusal)
-Settles given (ReadFault path) old new = Unit {0}
-Settles given OutOfMemory old new = Unit {0}
-
--- The answer is that of the verdict, unless memory ran out, or a fault of the files or of the output was
--- counted.
-abbrev pub Completes : Result Plan Status → Status → Type 0 → Type 0 → Type 0
-Completes (Ok plan) status files_fault out_fault = (status ≡ Done) ⊎ ((status ≡ OutOfMemory) ⊎ (files_fault ⊎ out_fault))
-Completes (Err fault) status files_fault out_fault = (status ≡ fault) ⊎ ((status ≡ OutOfMemory) ⊎ files_fault)
-
--- the path of the image that the words name
-abbrev pub path_of : Result Command Status → List ℕ
-path_of (Ok command) = command.output
-path_of (Err _) = []
-
-abbrev pub output_path : List (List ℕ) → List ℕ
-output_path words = path_of (command_of words)
+-- An answer, and what was written, against a verdict: it is a refusal exactly where the verdict is, and all of
+-- the plan was written exactly where there is one, but for want of memory and faults that were counted.
+pub record Settles (given : Result Plan Status) (status : Status) (files_fault out_fault quiet : Type 0) (old new : Seen) : Type 0 where
+  pub stops : (stop : Status) → IsDetermined stop → ExactlyWhere (given ≡ Err stop) stop status files_fault
+  pub plans : (plan : Plan) → given ≡ Ok plan → (status ≡ Done) ⊎ ((status ≡ OutOfMemory) ⊎ (files_fault ⊎ out_fault))
+  pub done : status ≡ Done → (plan : Plan) × (given ≡ Ok plan) × Carries plan quiet old new
+  pub part : status ≡ WriteFault → (plan : Plan) × (given ≡ Ok plan) × CarriesPart plan quiet old new

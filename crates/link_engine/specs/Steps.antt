@@ -30,7 +30,13 @@ IsStop Done = ⊥
 IsStop WriteFault = ⊥
 IsStop _ = Unit {0}
 
--- the path is that of the command's input
+-- no file that couldn't be read is behind the answer
+abbrev pub IsReadWell : Status → Type 0
+IsReadWell (ReadFault _) = ⊥
+IsReadWell OutOfMemory = ⊥
+IsReadWell _ = Unit {0}
+
+-- the path is that of the command's input, the last file that is asked for
 pub record IsInput (words : List (List ℕ)) (path : List ℕ) : Type 0 where
   pub command : Command
   pub read : command_of words ≡ Ok command

@@ -1,5 +1,5 @@
 -- What a link answers: the definitions, without an outside that fails.
-use Rattle.std.specs.Prelude.{ℕ, List, Result, Ok}
+use Rattle.std.specs.Prelude.{ℕ, List, [], ◌∷◌, Option, Some, None, Result, Ok}
 use Rattle.mo_outside.specs.Files.{FileMap}
 use Rattle.mo_types.specs.Gives.{◌>>=◌}
 use Rattle.mo_types.specs.declared.answer.Status.{Status}
@@ -12,15 +12,25 @@ use Rattle.link_engine.specs.Image.{image_of}
 use Rattle.link_engine.specs.Input.{input_of}
 use Rattle.link_engine.specs.Reading.{read}
 
--- what is to be written for a command and its object, whose entry has an address
+-- what is to be written for a command and its object, whose entry has an address: the image, and no line
 abbrev pub plan_of : Command → TextObject → ℕ → Plan
-plan_of command object entry = record { path = command.output; image = image_of object entry }
+plan_of command object entry = record { files = (command.output, image_of object entry) ∷ []; line = [] }
+
+-- what is to be written for a command and the bytes of its input, or the first refusal in the order of the steps
+unfoldable pub plan_for : Command → List ℕ → Result Plan Status
+plan_for command bytes = do
+  object ← read command bytes
+  entry ← entry_of object.symbols
+  Ok (plan_of command object entry)
 
 -- what is to be written for the words and the files, or the first refusal in the order of the steps
 unfoldable pub verdict : List (List ℕ) → FileMap → Result Plan Status
 verdict words files = do
   command ← command_of words
   bytes ← input_of files command
-  object ← read command bytes
-  entry ← entry_of object.symbols
-  Ok (plan_of command object entry)
+  plan_for command bytes
+
+-- It holds of the files that are told. Where none are told it holds of some files.
+abbrev pub ForFiles : Option FileMap → (FileMap → Type 0) → Type 0
+ForFiles (Some files) holds = holds files
+ForFiles None holds = (files : FileMap) × holds files

@@ -4,21 +4,16 @@
 //! refusals count. Each step has one contract, by one definition of `specs/`.
 #![tactic(auto)]
 
-ghost use Rattle.std.specs.Prelude.{◌≡◌, ◌≤◌, ◌⊎◌, ℕ, List, IfErr, IfSome};
+ghost use Rattle.std.specs.Prelude.{◌≡◌, ◌≢◌, ◌≤◌, ℕ, List};
 ghost use Rattle.mo_outside.specs.Faults.{Rises};
-ghost use Rattle.mo_outside.specs.Tells.{Appends, AppendsSome, Stays, Tells};
-ghost use Rattle.mo_types.specs.Message.{line_of};
-ghost use Rattle.mo_types.specs.declared.answer.Refusal.TheVariants.{Limit, Malformed, Missing, Undefined, Unsupported};
-ghost use Rattle.mo_types.specs.declared.answer.Status.TheVariants.{Done, OutOfMemory, ReadFault, Refused, Usage, WriteFault};
-ghost use Rattle.mo_types.specs.declared.cause.Feature.{Feature};
-ghost use Rattle.mo_types.specs.declared.cause.Rule.{Rule};
+ghost use Rattle.mo_outside.specs.Tells.{Tells};
+ghost use Rattle.mo_types.specs.declared.answer.Status.TheVariants.{OutOfMemory, ReadFault, Usage, WriteFault};
 ghost use Rattle.mo_types.specs.declared.cause.UsageRule.{UsageRule};
-ghost use Rattle.mo_types.specs.declared.cause.Which.{Which};
-ghost use Rattle.mo_types.specs.declared.object_fault.ObjFault.TheVariants as fault;
+ghost use Rattle.link_engine.specs.Asks.{Asks, AsksSome, tried};
 ghost use Rattle.link_engine.specs.Command.{command_of};
-ghost use Rattle.link_engine.specs.Settles.{Completes, ExactlyWhere, IsBuilt, IsFaulty, IsLimited, IsMissing, IsUndefined, Settles, output_path};
-ghost use Rattle.link_engine.specs.Steps.{IsInput, IsStop};
-ghost use Rattle.link_engine.specs.Verdict.{verdict};
+ghost use Rattle.link_engine.specs.Settles.{ExactlyWhere, Settles, Stopped};
+ghost use Rattle.link_engine.specs.Steps.{IsInput, IsReadWell, IsStop};
+ghost use Rattle.link_engine.specs.Verdict.{ForFiles, verdict};
 
 mod branches;
 mod entry;
@@ -34,9 +29,11 @@ mod run;
 mod words;
 mod write;
 
-pub use crate::laws::branches_have_their_distances;
-use crate::run::{Ended, run};
-use mo_message::tell;
+pub use crate::laws::{
+    branches_have_their_distances, every_refusal_has_its_cause, parts_stand_at_their_places,
+};
+use crate::plan::make_plan;
+use crate::run::{carry_out, ended};
 use mo_outside::{Diag, Files, Gate, Out};
 use mo_types::{ArgList, Status};
 use std::alloc::Global;
@@ -44,8 +41,8 @@ use std::alloc::Global;
 /// Links the object that the words name, and writes the image.
 ///
 /// The words are those of the command line after the program's name: a path, and perhaps `-o` with the
-/// path of the image (ld(1)). The whole image is in memory before the output is begun. One line goes to
-/// `diag` for each answer but `Done`.
+/// path of the image (ld(1)). Each file is asked for once. The whole image is in memory before the output is
+/// begun, and each write is handed all that is left of it. One line goes to `diag` for each answer but `Done`.
 pub fn link<F: Files, O: Out, D: Diag, G: Gate + Sync>(
     alloc: Global,
     words: &ArgList,
@@ -54,35 +51,26 @@ pub fn link<F: Files, O: Out, D: Diag, G: Gate + Sync>(
     diag: &mut D,
     _gate: &G,
 ) -> Status
-    // Of each answer, where it comes.
+    // The answer, and what was written and told: the verdict's, but for want of memory and counted faults.
+    // Where the files tell nothing, that of some files.
+    ensures settles { ForFiles (F.holds files.old) (λ held. Settles (verdict words.now held) result
+        (Rises (F.faults files.old) (F.faults files.new)) (Rises (O.faults out.old) (O.faults out.new)) (¬ Rises (D.faults diag.old) (D.faults diag.new))
+        (record { files = O.files out.old; calls = O.calls out.old; lines = D.lines diag.old })
+        (record { files = O.files out.new; calls = O.calls out.new; lines = D.lines diag.new })) }
     ensures usage { (word : ℕ) (rule : UsageRule)
         → ExactlyWhere (command_of words.now ≡ Err (Usage word rule)) (Usage word rule) result ⊥ }
+    ensures stopped { IsStop result → Stopped result (¬ Rises (D.faults diag.old) (D.faults diag.new))
+        (record { files = O.files out.old; calls = O.calls out.old; lines = D.lines diag.old })
+        (record { files = O.files out.new; calls = O.calls out.new; lines = D.lines diag.new }) }
+
+    // What is asked for, and the faults.
+    ensures asks { result ≢ OutOfMemory → Tells (Asks (tried words.now)) (F.asked files.old) (F.asked files.new) }
+    ensures asks_some { Tells (AsksSome (tried words.now)) (F.asked files.old) (F.asked files.new) }
     ensures read_fault { (path : List ℕ) → result ≡ ReadFault path
         → IsInput words.now path × Rises (F.faults files.old) (F.faults files.new) }
-    ensures missing { IfSome (F.holds files.old) (λ held. (path : List ℕ)
-        → ExactlyWhere (IsMissing words.now held path) (Refused (Missing path)) result (Rises (F.faults files.old) (F.faults files.new))) }
-    ensures malformed { IfSome (F.holds files.old) (λ held. (path : List ℕ) (place : ℕ) (rule : Rule)
-        → ExactlyWhere (IsFaulty words.now held path (fault.Malformed place rule)) (Refused (Malformed path place rule)) result (Rises (F.faults files.old) (F.faults files.new))) }
-    ensures unsupported { IfSome (F.holds files.old) (λ held. (path : List ℕ) (feature : Feature)
-        → ExactlyWhere (IsFaulty words.now held path (fault.Unsupported feature)) (Refused (Unsupported path feature)) result (Rises (F.faults files.old) (F.faults files.new))) }
-    ensures limit { IfSome (F.holds files.old) (λ held. (which : Which)
-        → ExactlyWhere (IsLimited words.now held which) (Refused (Limit which)) result (Rises (F.faults files.old) (F.faults files.new))) }
-    ensures undefined { IfSome (F.holds files.old) (λ held. (name file : List ℕ)
-        → ExactlyWhere (IsUndefined words.now held name file) (Refused (Undefined name file)) result (Rises (F.faults files.old) (F.faults files.new))) }
-    ensures done { IfSome (F.holds files.old) (λ held.
-        ExactlyWhere (IsBuilt words.now held) Done result (Rises (F.faults files.old) (F.faults files.new) ⊎ Rises (O.faults out.old) (O.faults out.new))) }
     ensures write_fault { result ≡ WriteFault → Rises (O.faults out.old) (O.faults out.new) }
-
-    // The answer and what is written are the verdict's, and no other answer comes but for memory and faults.
-    ensures settles { IfSome (F.holds files.old) (λ held. Settles (verdict words.now held) result (O.files out.old) (O.files out.new)) }
-    ensures complete { IfSome (F.holds files.old) (λ held.
-        Completes (verdict words.now held) result (Rises (F.faults files.old) (F.faults files.new)) (Rises (O.faults out.old) (O.faults out.new))) }
-    ensures not_begun { IsStop result → Tells Stays (O.files out.old) (O.files out.new) }
-
-    // The message.
-    ensures line { ¬ Rises (D.faults diag.old) (D.faults diag.new)
-        → Tells (Appends (line_of (output_path words.now) result)) (D.lines diag.old) (D.lines diag.new) }
-    ensures prefix { Tells (AppendsSome (line_of (output_path words.now) result)) (D.lines diag.old) (D.lines diag.new) }
+    ensures files_still { IsReadWell result → F.faults files.new ≡ F.faults files.old }
+    ensures out_still { result ≢ WriteFault → O.faults out.new ≡ O.faults out.old }
 
     // The outside.
     ensures holds { F.holds files.new ≡ F.holds files.old }
@@ -90,9 +78,10 @@ pub fn link<F: Files, O: Out, D: Diag, G: Gate + Sync>(
     ensures out_faults { O.faults out.old ≤ O.faults out.new }
     ensures diag_faults { D.faults diag.old ≤ D.faults diag.new }
 {
-    let Ended { status, path } = run(alloc, words, files, out);
-    tell(diag, path.as_slice(), &status);
-    status
+    match make_plan(alloc, words, files) {
+        Ok(plan) => carry_out(out, diag, &plan),
+        Err(status) => ended(diag, b"", status),
+    }
 }
 
 #[cfg(test)]

@@ -1,64 +1,59 @@
-//! All steps of a link but the message.
+//! Writing what is to be written, and saying how a link ended.
 
-ghost use Rattle.std.specs.Prelude.{◌≡◌, ◌≤◌, ◌⊎◌, ℕ, List, IfErr, IfSome};
+ghost use Rattle.std.specs.Prelude.{◌≡◌, ◌≤◌, ◌⊎◌};
 ghost use Rattle.mo_outside.specs.Faults.{Rises};
-ghost use Rattle.mo_outside.specs.Tells.{Stays, Tells};
-ghost use Rattle.mo_types.specs.declared.answer.Status.TheVariants.{Done, OutOfMemory, ReadFault, Usage, WriteFault};
-ghost use Rattle.mo_types.specs.declared.cause.UsageRule.{UsageRule};
-ghost use Rattle.link_engine.specs.Command.{command_of};
-ghost use Rattle.link_engine.specs.Settles.{Settles, output_path};
-ghost use Rattle.link_engine.specs.Steps.{IsInput, IsStop};
-ghost use Rattle.link_engine.specs.Verdict.{verdict};
-ghost use Rattle.link_engine.specs.Writing.{WritesPart, WritesWhole};
+ghost use Rattle.mo_types.specs.Message.{line_of};
+ghost use Rattle.mo_types.specs.declared.answer.Status.TheVariants.{Done, WriteFault};
+ghost use Rattle.link_engine.specs.Settles.{Carries, CarriesPart, Says};
 
-use crate::plan::{Plan, make_plan};
-use crate::write::write;
-use mo_outside::{Files, Out};
-use mo_types::{ArgList, Bytes, Status};
-use std::alloc::Global;
+use crate::plan::Plan;
+use crate::write::write_files;
+use mo_message::tell;
+use mo_outside::{Diag, Out};
+use mo_types::Status;
 
-/// How a link ended.
-#[derive(Debug, Drop)]
-pub struct Ended {
-    pub status: Status,
-    /// The path of the image, where writing it was begun.
-    pub path: Bytes,
-}
-
-fn carry_out<O: Out>(out: &mut O, plan: &Plan) -> Status
-    ensures faults { O.faults out.old ≤ O.faults out.new }
-    ensures kind { (result ≡ Done) ⊎ (result ≡ WriteFault) }
-    ensures done { result ≡ Done → Tells (WritesWhole plan.now.path plan.now.image) (O.files out.old) (O.files out.new) }
-    ensures part { result ≡ WriteFault → Tells (WritesPart plan.now.path plan.now.image) (O.files out.old) (O.files out.new) }
-    ensures failed { result ≡ WriteFault → Rises (O.faults out.old) (O.faults out.new) }
+// Puts a line, where it isn't empty. A fault is counted where the line goes.
+#[tactic(auto, using(crate::proofs::SaysLemmas::says))]
+fn say<D: Diag>(diag: &mut D, line: &[u8])
+    ensures faults { D.faults diag.old ≤ D.faults diag.new }
+    ensures says { Says line.now (¬ Rises (D.faults diag.old) (D.faults diag.new)) (D.lines diag.old) (D.lines diag.new) }
 {
-    match write(out, plan.path.as_slice(), plan.image.as_slice()) {
-        Ok(()) => Status::Done,
-        Err(_) => Status::WriteFault,
+    if !line.is_empty() {
+        let _ = diag.put(line);
     }
 }
 
-/// Links, and says how that ended.
-pub fn run<F: Files, O: Out>(alloc: Global, words: &ArgList, files: &mut F, out: &mut O) -> Ended
-    ensures holds { F.holds files.new ≡ F.holds files.old }
-    ensures files_faults { F.faults files.old ≤ F.faults files.new }
-    ensures out_faults { O.faults out.old ≤ O.faults out.new }
-    ensures settles { IfSome (F.holds files.old) (λ held. Settles (verdict words.now held) result.status (O.files out.old) (O.files out.new)) }
-    ensures usage { (word : ℕ) (rule : UsageRule) → result.status ≡ Usage word rule → command_of words.now ≡ Err (Usage word rule) }
-    ensures misused { IfErr (command_of words.now) (λ fault. (result.status ≡ fault) ⊎ (result.status ≡ OutOfMemory)) }
-    ensures read_fault { (path : List ℕ) → result.status ≡ ReadFault path → IsInput words.now path × Rises (F.faults files.old) (F.faults files.new) }
-    ensures write_fault { result.status ≡ WriteFault → Rises (O.faults out.old) (O.faults out.new) }
-    ensures not_begun { IsStop result.status → Tells Stays (O.files out.old) (O.files out.new) }
-    ensures path { result.status ≡ WriteFault → result.path ≡ output_path words.now }
+// Tells the line of an answer, and the answer.
+#[tactic(auto, using(crate::proofs::SaysLemmas::says))]
+pub fn ended<D: Diag>(diag: &mut D, written: &[u8], status: Status) -> Status
+    ensures faults { D.faults diag.old ≤ D.faults diag.new }
+    ensures same { result ≡ status }
+    ensures says { Says (line_of written.now status) (¬ Rises (D.faults diag.old) (D.faults diag.new)) (D.lines diag.old) (D.lines diag.new) }
 {
-    match make_plan(alloc, words, files) {
-        Ok(plan) => Ended {
-            status: carry_out(out, &plan),
-            path: plan.path,
-        },
-        Err(status) => Ended {
-            status,
-            path: Bytes::new(),
-        },
+    tell(diag, written, &status);
+    status
+}
+
+/// Writes the files of a plan and puts its line, or tells the path of the file that couldn't be written.
+pub fn carry_out<O: Out, D: Diag>(out: &mut O, diag: &mut D, plan: &Plan) -> Status
+    ensures out_faults { O.faults out.old ≤ O.faults out.new }
+    ensures diag_faults { D.faults diag.old ≤ D.faults diag.new }
+    ensures kind { (result ≡ Done) ⊎ (result ≡ WriteFault) }
+    ensures still { result ≡ Done → O.faults out.new ≡ O.faults out.old }
+    ensures failed { result ≡ WriteFault → Rises (O.faults out.old) (O.faults out.new) }
+    ensures done { result ≡ Done → Carries plan.now (¬ Rises (D.faults diag.old) (D.faults diag.new))
+        (record { files = O.files out.old; calls = O.calls out.old; lines = D.lines diag.old })
+        (record { files = O.files out.new; calls = O.calls out.new; lines = D.lines diag.new }) }
+    ensures part { result ≡ WriteFault → CarriesPart plan.now (¬ Rises (D.faults diag.old) (D.faults diag.new))
+        (record { files = O.files out.old; calls = O.calls out.old; lines = D.lines diag.old })
+        (record { files = O.files out.new; calls = O.calls out.new; lines = D.lines diag.new }) }
+{
+    let files = plan.files.as_slice();
+    match write_files(out, files) {
+        Ok(()) => {
+            say(diag, plan.line.as_slice());
+            Status::Done
+        }
+        Err(number) => ended(diag, files[number].0.as_slice(), Status::WriteFault),
     }
 }

@@ -102,6 +102,9 @@ fn assembled_code() -> &'static [u8] {
 
 const IMAGE_SIZE: usize = 16384;
 
+const IMAGE_HEADER: &[u8] =
+    b"\xcf\xfa\xed\xfe\x0c\0\0\x01\0\0\0\0\x02\0\0\0\x06\0\0\0\x78\x01\0\0\x85\0\x20\0";
+
 // Room for the path `out` and an image.
 const ROOM: u64 = 16387;
 
@@ -162,33 +165,44 @@ fn has_at(image: &[u8], at: usize, bytes: &[u8]) -> bool {
     }
 }
 
-#[test]
-fn one_object(rt: HostRuntime) -> Result<(), Fail> {
-    let out = image_of(rt.alloc(), returning_zero())?;
-    assert_eq!(rt; out.path(0), Some(b"out".as_slice()));
-    assert_eq!(rt; out.is_done(0), Some(true));
+// The image of an object, which is done at `out`.
+fn assert_image(
+    rt: &(impl Abort + AllocGlobal),
+    object: &[u8],
+    code: &[u8],
+    entry: &[u8],
+) -> Result<(), OutOfMemory> {
+    let out = image_of(rt.alloc(), object)?;
+    assert!(rt; out.path(0) == Some(b"out".as_slice()));
+    assert!(rt; out.is_done(0) == Some(true));
     let image = out.bytes(0).unwrap_or(b"");
-    assert_eq!(rt; image.len(), IMAGE_SIZE);
-    assert!(rt;
-        has_at(
-            image,
-            0,
-            b"\xcf\xfa\xed\xfe\x0c\0\0\x01\0\0\0\0\x02\0\0\0\x06\0\0\0\x78\x01\0\0\x85\0\x20\0"
-        )
-    );
-    assert!(rt; has_at(image, 0x180, b"\x28\0\0\x80\x18\0\0\0\xb8\x01\0\0\0\0\0\0"));
-    assert!(rt; has_at(image, 0x1b8, b"\0\0\x80\x52\xc0\x03\x5f\xd6\0\0\0\0"));
+    assert!(rt; image.len() == IMAGE_SIZE);
+    assert!(rt; has_at(image, 0, IMAGE_HEADER));
+    assert!(rt; has_at(image, 0x180, b"\x28\0\0\x80\x18\0\0\0"));
+    assert!(rt; has_at(image, 0x188, entry));
+    assert!(rt; has_at(image, 0x1b8, code));
     Ok(())
 }
 
+// The object with zeros after it that no field of it names.
+fn with_more(alloc: Global, object: &[u8]) -> Result<Vec<u8>, OutOfMemory> {
+    let mut bytes = Vec::from_slice(alloc, object)?;
+    bytes.resize(object.len() + 5000, 0)?;
+    Ok(bytes)
+}
+
 #[test]
-fn object_of_clang(rt: HostRuntime) -> Result<(), Fail> {
-    let out = image_of(rt.alloc(), assembled())?;
-    let image = out.bytes(0).unwrap_or(b"");
-    assert_eq!(rt; image.len(), IMAGE_SIZE);
-    assert!(rt; has_at(image, 0x1b8, assembled_code()));
+fn one_object(rt: HostRuntime) -> Result<(), Fail> {
+    let start: &[u8] = b"\xb8\x01\0\0\0\0\0\0";
+    let returns: &[u8] = b"\0\0\x80\x52\xc0\x03\x5f\xd6\0\0\0\0";
+    assert_image(&rt, returning_zero(), returns, start)?;
+    let long = with_more(rt.alloc(), returning_zero())?;
+    assert_image(&rt, long.as_slice(), returns, start)?;
     // `_main` stands 8 bytes after the start of the code.
-    assert!(rt; has_at(image, 0x180, b"\x28\0\0\x80\x18\0\0\0\xc0\x01\0\0\0\0\0\0"));
+    let later = b"\xc0\x01\0\0\0\0\0\0";
+    assert_image(&rt, assembled(), assembled_code(), later)?;
+    let calls = b"\x02\0\0\x94\xc0\x03\x5f\xd6\xc0\x03\x5f\xd6\0\0\0\0";
+    assert_image(&rt, calling(), calls, start)?;
     Ok(())
 }
 
@@ -287,54 +301,46 @@ fn assert_write_fault(
     Ok(())
 }
 
-#[test]
-fn failing_calls(rt: HostRuntime) -> Result<(), Fail> {
-    let out = image_of(rt.alloc(), calling())?;
-    let image = out.bytes(0).unwrap_or(b"");
-    assert!(rt;
-        has_at(
-            image,
-            0x1b8,
-            b"\x02\0\0\x94\xc0\x03\x5f\xd6\xc0\x03\x5f\xd6\0\0\0\0"
-        )
-    );
-    assert_eq!(rt; image.len(), IMAGE_SIZE);
-    assert_write_fault(&rt, ROOM, 1, None)?;
-    assert_write_fault(&rt, ROOM, 2, Some(b""))?;
-    assert_write_fault(&rt, ROOM, 3, Some(image))?;
-    // The room for the last byte is missing.
-    assert_write_fault(&rt, ROOM - 1, 0, Some(b""))?;
-    Ok(())
-}
-
-#[test]
-fn first_fetch_fails(rt: HostRuntime) -> Result<(), Fail> {
+fn assert_read_fault(rt: &(impl Abort + AllocGlobal)) -> Result<(), OutOfMemory> {
     let alloc = rt.alloc();
     let mut files = MemFiles::new(one_file(alloc, returning_zero())?, one_call(alloc, 1)?);
     let mut out = SureOut::new(alloc, ROOM)?;
     let mut diag = SureDiag::new(alloc, 64)?;
     let status = link_main(alloc, &mut files, &mut out, &mut diag)?;
     let path = Bytes::from_slice(alloc, b"main.o")?;
-    assert_eq!(rt; status, Status::ReadFault { path });
-    assert_eq!(rt;
-        diag.lines(),
-        Some(b"atomld: cannot read main.o\n".as_slice())
-    );
+    assert!(rt; status == Status::ReadFault { path });
+    assert!(rt; diag.lines() == Some(b"atomld: cannot read main.o\n".as_slice()));
     assert!(rt; out.path(0).is_none());
     Ok(())
 }
 
-#[test]
-fn message_fails(rt: HostRuntime) -> Result<(), Fail> {
+fn assert_message_fault(
+    rt: &(impl Abort + AllocGlobal),
+    failing: u64,
+    lines: &str,
+) -> Result<(), OutOfMemory> {
     let alloc = rt.alloc();
-    for (failing, lines) in [(0, "atomld: not found: main.o\n"), (1, "")] {
-        let mut files = SureFiles::new(Items::new(alloc));
-        let mut out = SureOut::new(alloc, ROOM)?;
-        let mut diag = MemDiag::new(alloc, 64, one_call(alloc, failing)?)?;
-        let status = link_main(alloc, &mut files, &mut out, &mut diag)?;
-        let path = Bytes::from_slice(alloc, b"main.o")?;
-        assert_eq!(rt; status, Status::Refused(Refusal::Missing { path }));
-        assert_eq!(rt; diag.lines(), lines.as_bytes());
-    }
+    let mut files = SureFiles::new(Items::new(alloc));
+    let mut out = SureOut::new(alloc, ROOM)?;
+    let mut diag = MemDiag::new(alloc, 64, one_call(alloc, failing)?)?;
+    let status = link_main(alloc, &mut files, &mut out, &mut diag)?;
+    let path = Bytes::from_slice(alloc, b"main.o")?;
+    assert!(rt; status == Status::Refused(Refusal::Missing { path }));
+    assert!(rt; diag.lines() == lines.as_bytes());
+    Ok(())
+}
+
+#[test]
+fn failing_calls(rt: HostRuntime) -> Result<(), Fail> {
+    let out = image_of(rt.alloc(), calling())?;
+    let image = out.bytes(0).unwrap_or(b"");
+    assert_write_fault(&rt, ROOM, 1, None)?;
+    assert_write_fault(&rt, ROOM, 2, Some(b""))?;
+    assert_write_fault(&rt, ROOM, 3, Some(image))?;
+    // The room for the last byte is missing.
+    assert_write_fault(&rt, ROOM - 1, 0, Some(b""))?;
+    assert_read_fault(&rt)?;
+    assert_message_fault(&rt, 0, "atomld: not found: main.o\n")?;
+    assert_message_fault(&rt, 1, "")?;
     Ok(())
 }

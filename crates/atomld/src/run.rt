@@ -1,0 +1,35 @@
+//! The program, over any words, files, output and messages.
+
+ghost use Rattle.std.specs.Prelude.{◌≡◌, ◌⊎◌, List, ℕ, IfOk, IfErr};
+ghost use Rattle.mo_outside.specs.Faults.{Rises};
+ghost use Rattle.link_engine.specs.Verdict.{ForFiles, verdict};
+ghost use Rattle.atomld.specs.Exits.{Exits};
+
+use link_engine::link;
+use mo_message::tell;
+use mo_outside::{Diag, Files, FreeGate, Out};
+use mo_types::{ArgList, OutOfMemory, Status};
+use std::alloc::Global;
+
+/// Links what the words say, or tells that memory for them was refused, and answers the exit status.
+pub fn run<F: Files, O: Out, D: Diag>(
+    alloc: Global,
+    words: Result<ArgList, OutOfMemory>,
+    files: &mut F,
+    out: &mut O,
+    diag: &mut D,
+) -> u8
+    ensures exits { IfOk words (λ words. ForFiles (F.holds files.old) (λ held. Exits (verdict words held) result
+        (Rises (F.faults files.old) (F.faults files.new)) (Rises (O.faults out.old) (O.faults out.new)) (¬ Rises (D.faults diag.old) (D.faults diag.new))
+        (record { files = O.files out.old; calls = O.calls out.old; lines = D.lines diag.old })
+        (record { files = O.files out.new; calls = O.calls out.new; lines = D.lines diag.new }))) }
+    ensures memory { IfErr words (λ fault. result ≡ 4) }
+{
+    match words {
+        Ok(words) => link(alloc, &words, files, out, diag, &FreeGate).code(),
+        Err(_) => {
+            tell(diag, b"", &Status::OutOfMemory);
+            Status::OutOfMemory.code()
+        }
+    }
+}
