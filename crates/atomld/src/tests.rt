@@ -1,9 +1,10 @@
 use crate::diag::WriterDiag;
 use crate::files::DiskFiles;
 use crate::out::DiskOut;
+use crate::run::run;
 use crate::words::gather;
-use mo_outside::{Diag, Failed, FetchFault, Files, Out};
-use mo_types::{Status, UsageRule};
+use mo_outside::{Diag, Failed, FetchFault, Files, Out, SureDiag, SureFiles, SureOut};
+use mo_types::{Items, OutOfMemory};
 use std::env::FillError;
 use std::io::{ErrorKind, Write};
 use std::os::unix::fs::PermissionsExt;
@@ -126,6 +127,24 @@ impl Env for Line<'_> {
     }
 }
 
+// What the program answers and says of a command line, where no file is there.
+fn assert_answer(
+    rt: &(impl Abort + AllocGlobal),
+    line: &[u8],
+    code: u8,
+    says: &str,
+) -> Result<(), OutOfMemory> {
+    let alloc = rt.alloc();
+    let words = gather(&Line(line), alloc);
+    let mut files = SureFiles::new(Items::new(alloc));
+    let mut out = SureOut::new(alloc, 64)?;
+    let mut diag = SureDiag::new(alloc, 64)?;
+    assert!(rt; run(alloc, words, &mut files, &mut out, &mut diag) == code);
+    assert!(rt; diag.lines() == Some(says.as_bytes()));
+    assert!(rt; out.path(0).is_none());
+    Ok(())
+}
+
 #[test]
 fn gathers_the_words(rt: HostRuntime) -> Result<(), Fail> {
     let alloc = rt.alloc();
@@ -133,11 +152,8 @@ fn gathers_the_words(rt: HostRuntime) -> Result<(), Fail> {
     let mut line = b"atomld -o ".to_vec(alloc)?;
     line.extend_from_slice(&long)?;
     line.extend_from_slice(b" main.o")?;
-    let Ok(words) = gather(&Line(&line), alloc) else {
-        assert!(rt; false, "the words were refused");
-        return Ok(());
-    };
-    assert_eq!(rt; words.len(), 3);
+    let words = gather(&Line(&line), alloc)?;
+    assert!(rt; words.len() == 3);
     for (number, want) in [(0, b"-o".as_slice()), (1, &long), (2, b"main.o")] {
         assert!(rt;
             words
@@ -145,10 +161,18 @@ fn gathers_the_words(rt: HostRuntime) -> Result<(), Fail> {
                 .is_some_and(|word| word.as_bytes() == want)
         );
     }
-    let unknown = Status::Usage {
-        word: 2,
-        rule: UsageRule::Unknown,
-    };
-    assert!(rt; gather(&Line(b"atomld main.o \xff"), alloc).err() == Some(unknown));
+    for (line, code, says) in [
+        (
+            b"atomld main.o \xff".as_slice(),
+            2,
+            "atomld: usage: word 2: unknown\n",
+        ),
+        (b"atomld -frob \xff", 2, "atomld: usage: word 1: unknown\n"),
+        (b"atomld -o \xff", 2, "atomld: usage: word 2: unknown\n"),
+        (b"atomld", 2, "atomld: usage: word 0: noinput\n"),
+        (b"atomld -o out main.o", 1, "atomld: not found: main.o\n"),
+    ] {
+        assert_answer(&rt, line, code, says)?;
+    }
     Ok(())
 }

@@ -73,7 +73,7 @@ two_parts first second place end before within =
 -- there is room before the section, and for it
 room_before : (text : Section) → front_size ≤ (placement_of text).text_offset
 unfolding placement_of
-room_before text = (is_least_computed (2 ^ text.align) front_size (pow_pos (lit< tt))).enough
+room_before text = (is_least_computed (2 ^ text.align) front_size (pow_pos text.align)).enough
 
 room_for : (text : Section) → (placement_of text).text_offset + text.size ≤ (placement_of text).segment_size
 unfolding placement_of

@@ -182,7 +182,6 @@ calls_finished file w x y z begin writes finish =
     (λ a d whole. record { calls = whole.calls; each = record { failed = inr (inl whole.each) }; handed = whole.handed }) w z
     (calls_whole file w x y z begin writes finish)
 
-
 -- a file that was begun, and has some first bytes
 pub record Grows (path bytes : List ℕ) (done : Bool) (old new : List Written) : Type 0 where
   pub grown : new ≡ old ++ record { path = path; bytes = bytes; done = done } ∷ []

@@ -28,16 +28,44 @@ impl<'a, R: rt::Files + AllocGlobal> CaseFiles<'a, R> {
         }
     }
 
+    fn read_stored(&self, path: &str) -> io::Result<Vec<u8>> {
+        let folder = self.folder;
+        fs::read(self.rt, format!(in self.rt.alloc(); "{folder}/{path}")?)
+    }
+
+    // The bytes of the files that a list names, each as often as it says, one after the other.
+    fn join(&self, list: &str) -> io::Result<Vec<u8>> {
+        let mut bytes = Vec::new(self.rt.alloc());
+        for row in list.lines() {
+            let (count, path) = row.split_once(' ').unwrap_or(("", row));
+            let part = self.read_stored(path)?;
+            for _ in 0..count.parse::<u64>().unwrap_or(1) {
+                bytes.extend_from_slice(part.as_slice())?;
+            }
+        }
+        Ok(bytes)
+    }
+
+    // A large file is stored as the list of its parts.
+    fn read_parts(&self, path: &str) -> io::Result<Option<Vec<u8>>> {
+        let list = format!(in self.rt.alloc(); "{path}.parts")?;
+        match self.read_stored(list.as_str()) {
+            Ok(rows) => Ok(Some(
+                self.join(str::from_utf8(rows.as_slice()).unwrap_or(""))?,
+            )),
+            Err(e) if e.kind() == ErrorKind::NotFound => Ok(None),
+            Err(e) => Err(e),
+        }
+    }
+
     // The whole file, or `None` where there is none.
     fn read(&self, path: &[u8]) -> io::Result<Option<Vec<u8>>> {
         let Ok(path) = str::from_utf8(path) else {
             return Ok(None);
         };
-        let folder = self.folder;
-        let place = format!(in self.rt.alloc(); "{folder}/{path}")?;
-        match fs::read(self.rt, place) {
+        match self.read_stored(path) {
             Ok(bytes) => Ok(Some(bytes)),
-            Err(e) if e.kind() == ErrorKind::NotFound => Ok(None),
+            Err(e) if e.kind() == ErrorKind::NotFound => self.read_parts(path),
             Err(e) => Err(e),
         }
     }
