@@ -1,6 +1,6 @@
 //! The words of the command line.
 
-ghost use Rattle.std.specs.Prelude.{◌≡◌, [], ◌∷◌, IfOk, IsUtf8};
+ghost use Rattle.std.specs.Prelude.{◌≡◌, ◌⊎◌, [], ◌∷◌, IfOk, IsUtf8};
 
 use mo_types::{Arg, ArgList, OutOfMemory};
 use std::alloc::Global;
@@ -31,7 +31,7 @@ fn word<R: Env>(rt: &R, alloc: Global, number: usize) -> Result<Option<Vec<u8>>,
 // is an unknown word wherever it stands.
 fn text_of(alloc: Global, bytes: Vec<u8>) -> Result<Arg, OutOfMemory>
     ensures text { IsUtf8 bytes.items → IfOk result (λ arg. arg ≡ bytes.items) }
-    ensures no_text { ¬ IsUtf8 bytes.items → IfOk result (λ arg. arg ≡ 0 ∷ []) }
+    ensures other { IfOk result (λ arg. (arg ≡ bytes.items) ⊎ (arg ≡ 0 ∷ [])) }
 {
     match String::from_utf8(bytes) {
         Ok(text) => Ok(Arg::new(text)),
