@@ -8,7 +8,7 @@ use mo_types::{Items, OutOfMemory};
 use std::env::FillError;
 use std::io::{ErrorKind, Write};
 use std::os::unix::fs::PermissionsExt;
-use std::process::id;
+use std::process::{Abort, id};
 use std::rt::Env;
 use std::test::Fail;
 use std::{fs, io};

@@ -21,7 +21,7 @@ fn one_file(alloc: Global) -> Result<FileList, OutOfMemory>
     ensures { IfOk result (λ pairs. AllPairs (λ one other. one.0 ≢ other.0) pairs) }
 {
     let path = Bytes::from_slice(alloc, b"main.o")?;
-    let bytes = Bytes::from_vec(vec![in alloc; 7u8; FILE_SIZE]?);
+    let bytes = Bytes::from_vec(vec![in alloc; 7u8; FILE_SIZE]?)?;
     let mut pairs = Items::new(alloc);
     pairs.push((path, bytes))?;
     Ok(pairs)
