@@ -50,9 +50,7 @@ impl<'a, R: rt::Files + AllocGlobal> CaseFiles<'a, R> {
     fn read_parts(&self, path: &str) -> io::Result<Option<Vec<u8>>> {
         let list = format!(in self.rt.alloc(); "{path}.parts")?;
         match self.read_stored(list.as_str()) {
-            Ok(rows) => Ok(Some(
-                self.join(str::from_utf8(rows.as_slice()).unwrap_or(""))?,
-            )),
+            Ok(rows) => Ok(Some(self.join(str::from_utf8(rows.as_slice()).unwrap_or(""))?)),
             Err(e) if e.kind() == ErrorKind::NotFound => Ok(None),
             Err(e) => Err(e),
         }
