@@ -2,7 +2,7 @@
 use Rattle.std.proofs.Common.{tests, ◌≡◌, ℕ, suc, ◌+◌, ◌-◌, ◌*◌, ◌^◌, ◌<◌, ◌≤◌, ◌==◌, List, [], ◌∷◌, ◌++◌, length, take, drop, get_or, true, false, Some, None, refl, sym, ap, ◌∙◌, arith, add-one, drop-cons}
 use Rattle.std.proofs.Math.Nat.{pow-suc, pow-le-pow_right}
 use Rattle.std.proofs.Math.Seq.{take-suc}
-use Rattle.std.proofs.lemmas.List.{take_all, drop_all}
+use Rattle.std.proofs.lemmas.List.{take_all, drop_all, length-take, take-take}
 use Rattle.mo_ar.specs.Text.{ended, trimmed, decimal, decimal_from}
 use Rattle.std.specs.Char.{is_ascii_digit}
 
@@ -121,3 +121,10 @@ few_after text i number spelling short =
     omega (arith, p, f)
 
 pub ruleset digits = (spell_starts, spell_goes_on, spell_stops, spell_ends, nothing_spelled, few_before, few_after)
+
+pub shorter : (k size : ℕ) (xs : List ℕ) (text : List ℕ) → take k (take size xs) ≡ text → k ≤ length (take size xs) → take k xs ≡ text
+shorter k size xs text is within =
+    let bound : k ≤ size = omega (arith, length-take size xs) in
+    sym (take-take k size xs bound) ∙ is
+
+pub ruleset parts = (shorter)

@@ -11,7 +11,7 @@ ghost use Rattle.mo_ar.specs.Faults.{IsObjFault};
 ghost use Rattle.mo_ar.specs.inner.Tables.{IsSpan};
 
 use crate::chain::walk;
-use crate::contents::{FAULT, entries_of, is_contents, is_whole, strings_of};
+use crate::contents::{FAULT, entries_of, is_contents, is_whole, strings_part};
 use crate::member::{Member, MemberList, member_at, next_of};
 use crate::offer_list::OfferList;
 use crate::places::numbered;
@@ -73,11 +73,11 @@ fn opened(first: &Member, size: usize) -> Opening
 }
 
 #[tactic(auto, unfolding(crate::specs::Archive::opening_of))]
-fn opening_of(alloc: Global, bytes: &Bytes) -> Result<Opening, ObjFault>
+fn opening_of(bytes: &Bytes) -> Result<Opening, ObjFault>
     ensures exact { Gives IsObjFault result (archives.opening_of bytes.now) }
     ensures within { IfOk result (λ opening. IfSome opening.table (IsSpan (length bytes.now))) }
 {
-    let Some(first) = member_at(alloc, bytes, SARMAG)? else {
+    let Some(first) = member_at(bytes, SARMAG)? else {
         return Ok(Opening {
             start: SARMAG,
             table: None,
@@ -96,25 +96,25 @@ fn opening_of(alloc: Global, bytes: &Bytes) -> Result<Opening, ObjFault>
 #[tactic(auto, unfolding(crate::specs::Contents::offers_in))]
 fn offers_in(
     alloc: Global,
-    table: &[u8],
+    table: &Bytes,
     places: &[usize],
     size: usize,
 ) -> Result<OfferList, ObjFault>
     requires { IsRising size places.now }
     ensures { Gives IsObjFault result (contents.offers_in table.now places.now) }
 {
-    if !is_whole(table) {
+    if !is_whole(table.as_slice()) {
         return Err(FAULT);
     }
     let cells = numbered(alloc, places, size)?;
-    let entries = entries_of(alloc, table, cells.as_slice(), places)?;
-    let strings = Bytes::from_slice(alloc, strings_of(table))?;
+    let entries = entries_of(alloc, table.as_slice(), cells.as_slice(), places)?;
+    let strings = strings_part(table)?;
     Ok(OfferList::from_entries(alloc, strings, entries)?)
 }
 
 fn offered(
     alloc: Global,
-    bytes: &[u8],
+    bytes: &Bytes,
     table: Option<Span>,
     places: &[usize],
 ) -> Result<OfferList, ObjFault>
@@ -124,8 +124,8 @@ fn offered(
 {
     match table {
         Some(span) => {
-            let table = &bytes[span.from..span.from + span.size];
-            offers_in(alloc, table, places, bytes.len())
+            let table = bytes.part(span.from, span.size)?;
+            offers_in(alloc, &table, places, bytes.len())
         }
         None => Ok(OfferList::empty(alloc)?),
     }
@@ -140,7 +140,7 @@ pub fn read_archive(alloc: Global, bytes: &Bytes) -> Result<Archive, ObjFault>
     requires { kinds.kind_of bytes.now ≡ kind.Archive }
     ensures exact { Gives IsObjFault result (archives.archive_of bytes.now) }
 {
-    let opening = opening_of(alloc, bytes)?;
+    let opening = opening_of(bytes)?;
     let walked = walk(alloc, bytes, opening.start)?;
     let data = bytes.as_slice();
     if walked.end < data.len() {
@@ -149,7 +149,7 @@ pub fn read_archive(alloc: Global, bytes: &Bytes) -> Result<Archive, ObjFault>
             rule: Rule::Member,
         });
     }
-    let offers = offered(alloc, data, opening.table, walked.places.as_slice())?;
+    let offers = offered(alloc, bytes, opening.table, walked.places.as_slice())?;
     if walked.members.len() >= LIMIT {
         return Err(ObjFault::Limit(Which::Members));
     }

@@ -23,7 +23,7 @@ pub fn walk(alloc: Global, bytes: &Bytes, from: usize) -> Result<Walked, OutOfMe
     let mut places = Vec::new(alloc);
     let mut members = Vec::new(alloc);
     let mut at = from;
-    while let Some(member) = member_at(alloc, bytes, at)? {
+    while let Some(member) = member_at(bytes, at)? {
         let next = next_of(&member);
         places.push(at)?;
         members.push(member)?;

@@ -14,7 +14,7 @@ use crate::offers::Entry;
 use crate::places::number_of;
 use byteorder::{ByteOrder, LittleEndian};
 use memchr::memchr;
-use mo_types::{ObjFault, Rule};
+use mo_types::{Bytes, ObjFault, OutOfMemory, Rule};
 use std::alloc::Global;
 
 const SYMDEF: &[u8] = b"__.SYMDEF";
@@ -58,9 +58,20 @@ pub fn is_whole(table: &[u8]) -> bool
     strings <= table.len() - 8 - pairs
 }
 
-/// The strings of a table.
+/// The strings of a table, as a part of the file.
 #[tactic(auto, unfolding(crate::specs::Contents::strings_of))]
-pub fn strings_of(table: &[u8]) -> &[u8]
+pub fn strings_part(table: &Bytes) -> Result<Bytes, OutOfMemory>
+    requires { IsTable table.now }
+    ensures { IfOk result (λ strings. strings ≡ contents.strings_of table.now) }
+{
+    let pairs = number(table.as_slice(), 0) as usize;
+    let size = number(table.as_slice(), 4 + pairs) as usize;
+    table.part(8 + pairs, size)
+}
+
+// The strings of a table.
+#[tactic(auto, unfolding(crate::specs::Contents::strings_of))]
+fn strings_of(table: &[u8]) -> &[u8]
     requires { IsTable table.now }
     ensures value { result.now ≡ contents.strings_of table.now }
     ensures few { length result.now < 2 ^ 32 }

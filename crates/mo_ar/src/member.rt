@@ -7,7 +7,6 @@ ghost use Rattle.mo_ar.specs.Text as texts;
 
 use crate::text::{decimal, trimmed_len};
 use mo_types::{Bytes, Items, OutOfMemory};
-use std::alloc::Global;
 
 /// A member of an archive: its name, and where its data begin in the archive and their size, both in bytes.
 #[derive(Debug, Drop, PartialEq, Eq)]
@@ -67,19 +66,15 @@ fn long_name(name: &[u8]) -> Option<u64>
     }
 }
 
-// A text without its padding.
-fn name_of(
-    alloc: Global,
-    bytes: &Bytes,
-    at: usize,
-    size: usize,
-    padding: u8,
-) -> Result<Bytes, OutOfMemory>
+// A text without its padding, as a part of the file.
+#[tactic(auto, using(crate::proofs::TextLemmas::parts))]
+fn name_of(bytes: &Bytes, at: usize, size: usize, padding: u8) -> Result<Bytes, OutOfMemory>
     requires { at + size ≤ length bytes.now }
     ensures { IfOk result (λ name. name ≡ texts.trimmed padding (texts.part bytes.now at size)) }
 {
     let text = &bytes.as_slice()[at..at + size];
-    Bytes::from_slice(alloc, &text[..trimmed_len(text, padding)])
+    let name = bytes.part(at, trimmed_len(text, padding))?;
+    Ok(name)
 }
 
 #[tactic(auto, unfolding(crate::specs::Member::name_at))]
@@ -94,7 +89,6 @@ fn long_name_at(bytes: &[u8], at: usize) -> Option<u64>
 
 #[tactic(auto, unfolding(crate::specs::Member::name_at))]
 fn named(
-    alloc: Global,
     bytes: &Bytes,
     at: usize,
     size: usize,
@@ -108,7 +102,7 @@ fn named(
 {
     let Some(long) = long else {
         return Ok(Some(Member {
-            name: name_of(alloc, bytes, at, AR_NAME_SIZE, b' ')?,
+            name: name_of(bytes, at, AR_NAME_SIZE, b' ')?,
             from: (at + HEADER_SIZE) as u64,
             size: size as u64,
         }));
@@ -118,7 +112,7 @@ fn named(
     }
     let long = long as usize;
     Ok(Some(Member {
-        name: name_of(alloc, bytes, at + HEADER_SIZE, long, 0)?,
+        name: name_of(bytes, at + HEADER_SIZE, long, 0)?,
         from: (at + HEADER_SIZE + long) as u64,
         size: (size - long) as u64,
     }))
@@ -127,7 +121,7 @@ fn named(
 /// The member whose header stands at a place, or `None` where no header stands there or its data aren't within
 /// the file.
 #[tactic(auto, unfolding(crate::specs::Member::member_at))]
-pub fn member_at(alloc: Global, bytes: &Bytes, at: usize) -> Result<Option<Member>, OutOfMemory>
+pub fn member_at(bytes: &Bytes, at: usize) -> Result<Option<Member>, OutOfMemory>
     ensures exact { IfOk result (λ member. member ≡ members.member_at bytes.now at) }
     ensures within { IfOk result (λ member. IfSome member (IsWithin (length bytes.now) at)) }
     ensures small { IfOk result (λ member. IfSome member (λ found. found.from + found.size < 2 ^ 63)) }
@@ -142,7 +136,7 @@ pub fn member_at(alloc: Global, bytes: &Bytes, at: usize) -> Result<Option<Membe
     if ((data.len() - at - HEADER_SIZE) as u64) < size {
         return Ok(None);
     }
-    named(alloc, bytes, at, size as usize, long_name_at(data, at))
+    named(bytes, at, size as usize, long_name_at(data, at))
 }
 
 /// Where the header after a member's stands.
