@@ -1,3 +1,4 @@
 pub mod CommandLemmas
 pub mod FixupLemmas
+pub mod MeaningLemmas
 pub mod StringLemmas

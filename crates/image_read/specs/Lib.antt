@@ -2,3 +2,4 @@ pub mod Commands
 pub mod Fixups
 pub mod Imports
 pub mod Mapped
+pub mod Meaning

@@ -61,8 +61,9 @@ fn short_at(image: &[u8], address: u64) -> Option<u16>
     Some(u16::from(low) + 0x100 * u16::from(high))
 }
 
+/// The number of 4 bytes at an address.
 #[tactic(auto, unfolding(crate::specs::Fixups::word_at))]
-fn word_at(image: &[u8], address: u64) -> Option<u32>
+pub fn word_at(image: &[u8], address: u64) -> Option<u32>
     requires { address + 4 ≤ 2 ^ 64 }
     ensures { result ≡ fixups.word_at image.now address }
 {
@@ -71,8 +72,9 @@ fn word_at(image: &[u8], address: u64) -> Option<u32>
     Some(u32::from(low) + 0x1_0000 * u32::from(high))
 }
 
+/// The number of 8 bytes at an address.
 #[tactic(auto, unfolding(crate::specs::Fixups::long_at))]
-fn long_at(image: &[u8], address: u64) -> Option<u64>
+pub fn long_at(image: &[u8], address: u64) -> Option<u64>
     requires { address + 8 ≤ 2 ^ 64 }
     ensures { result ≡ fixups.long_at image.now address }
 {

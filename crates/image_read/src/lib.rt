@@ -4,10 +4,12 @@
 mod commands;
 mod fixups;
 mod imports;
+mod meaning;
 mod memory;
 #[cfg(test)]
 mod tests;
 
 pub use fixups::{FixupRead, fixup_at};
 pub use imports::import_name;
+pub use meaning::{Meaning, denote};
 pub use memory::mapped;

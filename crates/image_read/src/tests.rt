@@ -1,6 +1,7 @@
 //! A small image, and copies of it with other bytes at some places. What they have to be read as was told by another
 //! reader, which is written from the same headers.
-use crate::{FixupRead, fixup_at, import_name, mapped};
+use crate::{FixupRead, Meaning, denote, fixup_at, import_name, mapped};
+use mo_types::RefKind;
 use std::alloc::{AllocError, Global};
 use std::process::Abort;
 use std::test::Fail;
@@ -167,6 +168,57 @@ fn fixups() -> &'static str {
 "
 }
 
+const KINDS: [RefKind; 12] = [
+    RefKind::Pointer,
+    RefKind::Diff32,
+    RefKind::Diff64,
+    RefKind::Branch,
+    RefKind::Page,
+    RefKind::PageOff,
+    RefKind::GotPage,
+    RefKind::GotPageOff,
+    RefKind::GotDelta,
+    RefKind::GotPointer,
+    RefKind::TlvPage,
+    RefKind::TlvPageOff,
+];
+
+// Bytes of the sample and an address, and what the field there tells by each of those kinds: an address, import and
+// addend, a difference, an offset in a page, or nothing.
+fn meanings() -> &'static str {
+    "\
+@5120: a8756 d4660 d4503599627375156 a23760 a2379776 l4 a2379776 l4 a9780 a8756 a2379776 l4
+@5128: i0,5 d83886080 d-9214364837516148736 a67113992 a4096 l0 a4096 l0 a83891208 i0,5 a4096 l0
+@5136: d-16 d-16 d-16 a5072 a0 l4095 a0 l4095 a5120 d-16 a0 l4095
+@5144: i1,255 d-16777215 d-9218868432949215231 x a16384 l0 a16384 l0 x i1,255 a16384 l0
+@5152: a68719480831 d-1 d68719476735 a5148 a0 l4095 a0 l4095 a5151 a68719480831 a0 l4095
+@5160: d13107 d13107 d13107 a57588 a6705152 l12 a6705152 l12 a18267 d13107 a6705152 l12
+@5164: d0 d0 d0 a5164 a4096 l0 a4096 l0 a5164 d0 a4096 l0
+@5166: d0 d0 d0 a5166 a4096 l0 a4096 l0 a5166 d0 a4096 l0
+@5100: d0 d0 d0 a5100 a4096 l0 a4096 l0 a5100 d0 a4096 l0
+@9196: x d0 x a9196 a8192 l0 a8192 l0 a9196 x a8192 l0
+@20480: x x x x x x x x x x x x
+416=ffffff97@5136: d-1744830465 d-1744830465 d-1744830465 a5132 x l4095 x l4095 x d-1744830465 x l4095
+416=00000096@5136: d-1778384896 d-1778384896 d-1778384896 x a4096 l0 a4096 l0 x d-1778384896 a4096 l0
+416=ffffff95@5136: d-1778384897 d-1778384897 d-1778384897 a134222860 x l4095 x l4095 x d-1778384897 x l4095
+416=100000b0@5136: d-1342177264 d-1342177264 d-1342177264 a5200 a8192 l0 a8192 l0 x d-1342177264 a8192 l0
+416=10ffff90@5136: d-1862271216 d-1862271216 d-1862271216 a67113040 x l4095 x l4095 x d-1862271216 x l4095
+416=e0ffff90@5136: d-1862271008 d-1862271008 d-1862271008 a67113872 x l4095 x l4095 x d-1862271008 x l4095
+416=00048091@5136: d-1853881344 d-1853881344 d-1853881344 a100672528 x l1 x l1 x d-1853881344 x l1
+416=00fc7ff9@5136: d-109052928 d-109052928 d-109052928 a100664336 a4294459392 l32760 a4294459392 l32760 x d-109052928 a4294459392 l32760
+416=00fcbf3d@5136: d-3258975232 d1035992064 d-3258975232 a117441552 x l65520 x l65520 a1035997200 d-3258975232 x l65520
+416=0004c03d@5136: d-3258973184 d1035994112 d-3258973184 a117449744 x l16 x l16 a1035999248 d-3258973184 x l16
+416=00fc7f39@5136: d-3330278400 d964688896 d-3330278400 a100664336 a4294451200 l4095 a4294451200 l4095 a964694032 d-3330278400 a4294451200 l4095
+416=f0ebffff@5136: d-5136 d-5136 d-5136 x x l4090 x l4090 a0 d-5136 x l4090
+416=efebffff@5136: d-5137 d-5137 d-5137 x x l4090 x l4090 x d-5137 x l4090
+128=00f0ffffffffffff@5120: x d4660 d4503599627375156 a23760 a2379776 l4 a2379776 l4 a9780 x a2379776 l4
+602=02@5120: x d4660 d4503599627375156 a23760 a2379776 l4 a2379776 l4 a9780 x a2379776 l4
+618=20@5128: x d83886080 d-9214364837516148736 a67113992 a4096 l0 a4096 l0 a83891208 x a4096 l0
+256=ffffffff@5160: x d13107 d13107 a57588 a6705152 l12 a6705152 l12 a18267 x a6705152 l12
+164=00@4096: x x x x x x x x x x x x
+"
+}
+
 fn digit(number: u8) -> u8 {
     if number < 10 {
         b'0' + number
@@ -222,6 +274,25 @@ fn fixups_of(alloc: Global, image: &[u8]) -> Result<Vec<u8>, AllocError> {
     let mut out = Vec::new(alloc);
     for address in &POINTERS {
         let text = told(alloc, fixup_at(image, *address))?;
+        out.extend_from_slice(text.as_bytes())?;
+    }
+    Ok(out)
+}
+
+fn meaning_told(alloc: Global, meaning: Meaning) -> Result<String, AllocError> {
+    match meaning {
+        Meaning::Address(address) => format!(in alloc; "a{address} "),
+        Meaning::Imported { import, addend } => format!(in alloc; "i{import},{addend} "),
+        Meaning::Difference(difference) => format!(in alloc; "d{difference} "),
+        Meaning::Low12(offset) => format!(in alloc; "l{offset} "),
+        Meaning::Broken => format!(in alloc; "x "),
+    }
+}
+
+fn meanings_of(alloc: Global, image: &[u8], address: u64) -> Result<Vec<u8>, AllocError> {
+    let mut out = Vec::new(alloc);
+    for kind in &KINDS {
+        let text = meaning_told(alloc, denote(image, address, *kind))?;
         out.extend_from_slice(text.as_bytes())?;
     }
     Ok(out)
@@ -303,5 +374,18 @@ fn names_of_imports(rt: HostRuntime) -> Result<(), Fail> {
         );
     }
     assert!(rt; import_name(sample().get(..496).unwrap_or(b""), 1) == Some(b"_bc".as_slice()));
+    Ok(())
+}
+
+#[test]
+fn fields_by_their_kinds(rt: HostRuntime) -> Result<(), Fail> {
+    for (place, text) in meanings().lines().filter_map(|line| line.split_once(": ")) {
+        let Some((edits, address)) = place.split_once('@') else {
+            continue;
+        };
+        let image = edited(rt.alloc(), edits)?;
+        let found = meanings_of(rt.alloc(), &image, address.parse().unwrap_or(0))?;
+        expect(&rt, &found, text);
+    }
     Ok(())
 }
