@@ -95,6 +95,8 @@ fn gives_triples<R: Threads + Sync>(
     Ok(is_in_order && counted == u64::from(jobs) && ends.len() == workers)
 }
 
+// A body that runs both workers in one thread meets every contract. It fails here, since the first worker waits at
+// the gate until its looks run out, and at the next test, where job 0 waits for job 1.
 #[test]
 fn shares_and_the_gate(rt: HostRuntime) -> Result<(), Fail> {
     for (i, from, to) in [(0, 0, 2), (1, 2, 4), (2, 4, 7)] {
