@@ -14,5 +14,4 @@ pub mod PatchedLemmas
 pub mod PlacedLemmas
 pub mod PlanLemmas
 pub mod SaysLemmas
-pub mod WordLemmas
 pub mod WritingLemmas

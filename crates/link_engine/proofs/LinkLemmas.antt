@@ -16,7 +16,11 @@ use Rattle.mo_types.specs.declared.object_fault.ObjFault.TheVariants as fault
 use Rattle.link_engine.specs.declared.form.TextObject.{TextObject}
 use Rattle.link_engine.specs.declared.plan.Plan.{Plan}
 use Rattle.link_engine.specs.declared.words.Command.{Command}
-use Rattle.link_engine.specs.Command.{Group, Path, Output, Bare, Other, first_fault, groups, inputs, output_or, made, default_output, command_of}
+use Rattle.mo_cmd.specs.Command as whole
+use Rattle.mo_cmd.specs.declared.command.Command.{Command as WholeCommand}
+use Rattle.mo_cmd.specs.declared.command.UsageFault.{UsageFault}
+use Rattle.mo_cmd.specs.declared.command.UsageFault.TheVariants.{At, OutOfMemory as NoMemory}
+use Rattle.link_engine.specs.Command.{command_of, told}
 use Rattle.link_engine.specs.Entry.{entry_of, entry_name, entry_value, or_undefined}
 use Rattle.link_engine.proofs.EntryLemmas.{entry_found, entry_missed}
 use Rattle.link_engine.specs.Input.{input_of, or_missing}
@@ -25,28 +29,16 @@ use Rattle.link_engine.specs.Causes.{Cause, IsFaulty, IsMissing, IsUndefined}
 use Rattle.link_engine.specs.Settles.{Carries, CarriesPart, ExactlyWhere, Seen, Settles}
 use Rattle.link_engine.specs.Steps.{IsStop, IsWordsStop}
 use Rattle.link_engine.specs.Verdict.{plan_for, verdict}
-use Rattle.link_engine.specs.Word.{has_nul}
 
 -- The words alone can't be refused, nor a file be at fault.
-either_kind : (test : Bool) (x y : Option Status) → IfSome x IsWordsStop → IfSome y IsWordsStop → IfSome (if test then x else y) IsWordsStop
-either_kind true x y p q = p
-either_kind false x y p q = q
-
-fault_kind : (gs : List Group) (word : ℕ) (named : Bool) → IfSome (first_fault word named gs) IsWordsStop
-fault_kind [] word named = tt
-fault_kind (Path path ∷ rest) word named = either_kind named _ _ tt (fault_kind rest (word + 1) true)
-fault_kind (Output value ∷ rest) word named = either_kind (has_nul value) _ _ tt (fault_kind rest (word + 2) named)
-fault_kind (Bare ∷ rest) word named = tt
-fault_kind (Other ∷ rest) word named = tt
-
-made_kind : (first : Option Status) (paths : List (List ℕ)) (output : List ℕ) → IfSome first IsWordsStop → IfErr (made first paths output) IsWordsStop
-made_kind (Some status) paths output kind = kind
-made_kind None [] output kind = tt
-made_kind None (path ∷ paths) output kind = tt
+told_kind : (read : Result WholeCommand UsageFault) → IfErr (told read) IsWordsStop
+told_kind (Ok command) = tt
+told_kind (Err (At word rule)) = tt
+told_kind (Err NoMemory) = tt
 
 command_kind : (words : List (List ℕ)) → IfErr (command_of words) IsWordsStop
 unfolding command_of
-command_kind words = made_kind (first_fault 1 false (groups words)) (inputs (groups words)) (output_or default_output (groups words)) (fault_kind (groups words) 1 false)
+command_kind words = told_kind (whole.command_of words)
 
 no_refusal : (words : List (List ℕ)) (refusal : Refusal) → command_of words ≡ Err (Refused refusal) → ⊥
 no_refusal words refusal e = subst (λ (r : Result Command Status). IfErr r IsWordsStop) e (command_kind words)

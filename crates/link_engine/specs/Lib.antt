@@ -14,5 +14,4 @@ pub mod Reading
 pub mod Settles
 pub mod Steps
 pub mod Verdict
-pub mod Word
 pub mod Writing

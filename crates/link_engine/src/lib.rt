@@ -40,8 +40,8 @@ use std::alloc::Global;
 
 /// Links the object that the words name, and writes the image.
 ///
-/// The words are those of the command line after the program's name: a path, and perhaps `-o` with the
-/// path of the image (ld(1)). Each file is asked for once. The whole image is in memory before the output is
+/// The words are those of the command line after the program's name, as `mo_cmd` reads them (ld(1)): a path, and perhaps
+/// `-o` with the path of the image. Each file is asked for once. The whole image is in memory before the output is
 /// begun, and each write is handed all that is left of it. One line goes to `diag` for each answer but `Done`.
 pub fn link<F: Files, O: Out, D: Diag, G: Gate + Sync>(
     alloc: Global,

@@ -268,6 +268,7 @@ fn usage_words(rt: HostRuntime) -> Result<(), Fail> {
     for (words, line) in [
         ("", "atomld: usage: word 0: noinput\n"),
         ("a.o -o", "atomld: usage: word 2: novalue\n"),
+        ("-threads 65 a.o", "atomld: usage: word 1: badvalue\n"),
         ("-frob a.o", "atomld: usage: word 1: unknown\n"),
         (" a.o", "atomld: usage: word 1: unknown\n"),
         ("a.o b.o", "atomld: usage: word 2: unknown\n"),
