@@ -1,6 +1,6 @@
 #!/usr/bin/env bash
 # Reads objects whose parts overlap: `bench/hostile.sh`. Prints for each form the seconds, the peak memory in KiB, and
-# the answer of atomld, and of ld64.lld where it is there.
+# the answer of atomld, and of ld64.lld where it is there, which is stopped after 20 seconds (status 124).
 set -euo pipefail
 bench=$(cd "$(dirname "$0")" && pwd)
 atomld=$bench/../crates/atomld/out/atomld
@@ -28,6 +28,6 @@ for form in names local long sections strings; do
     echo "$form: $(stat -c %s "$folder/$form.o") bytes"
     run atomld "$atomld" -o "$folder/$form" "$folder/$form.o"
     if [ -n "$lld" ]; then
-        run ld64.lld "$lld" -arch arm64 -platform_version macos 11.0 11.0 -o "$folder/$form.lld" "$folder/$form.o"
+        run ld64.lld timeout 20 "$lld" -arch arm64 -platform_version macos 11.0 11.0 -o "$folder/$form.lld" "$folder/$form.o"
     fi
 done
