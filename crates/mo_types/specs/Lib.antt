@@ -6,6 +6,7 @@ pub mod FaultText
 pub mod Gives
 pub mod Keys
 pub mod Kind
+pub mod Loaded
 pub mod Message
 pub mod Refs
 pub mod RelocationRules

@@ -8,6 +8,7 @@ mod goal;
 mod items;
 mod key;
 mod kind;
+mod loaded;
 mod memory;
 mod object;
 mod object_fault;
@@ -18,6 +19,7 @@ mod section;
 mod string;
 #[cfg(test)]
 mod tests;
+mod unwind;
 mod whole;
 
 pub use answer::{Refusal, Status};
@@ -27,6 +29,7 @@ pub use goal::{Goal, GoalList};
 pub use items::Items;
 pub use key::{AtomKey, FileId, files_are_in_order, keys_are_in_order};
 pub use kind::{Kind, kind_of};
+pub use loaded::{Loaded, LoadedFile, LoadedList};
 pub use memory::OutOfMemory;
 pub use object::{
     Object, RawReloc, RelocList, Section, SectionList, Symbol, SymbolKind, SymbolList,
@@ -36,3 +39,4 @@ pub use out_section::{KeyList, OutSection, OutSections};
 pub use reference::{Field, Ref, RefKind, RefList, Target};
 pub use reference_fault::RefFault;
 pub use string::{Arg, ArgList, Bytes, NameList};
+pub use unwind::{Unwind, UnwindList};

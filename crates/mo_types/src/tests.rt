@@ -245,6 +245,32 @@ fn keys_rise() -> bool {
     true
 }
 
+// Workers in threads of their own may read it.
+fn is_shared<T: Send + Sync>(_read: &T) -> bool {
+    true
+}
+
+// A thousand files, by rising id.
+fn files_are_loaded(alloc: Global) -> Result<bool, OutOfMemory> {
+    let mut files = LoadedList::new(alloc);
+    for member in 1..1001 {
+        files.push(LoadedFile {
+            id: FileId {
+                position: 0,
+                member,
+            },
+            label: Bytes::from_static(b"lib.a(a.o)"),
+            object: object_of(alloc, 2, b"a\0", 1, 0x100)?,
+            atoms: AtomList::new(alloc),
+            refs: RefList::new(alloc),
+            unwinds: UnwindList::new(alloc),
+        })?;
+    }
+    let loaded = Loaded { files };
+    let last = loaded.files.get(999).map(|file| file.id.member);
+    Ok(is_shared(&loaded) && last == Some(1000))
+}
+
 #[test]
 fn strings_and_lists_keep_their_order(rt: HostRuntime) -> Result<(), Fail> {
     assert!(rt; parts_are_shared(rt.alloc())?);
@@ -253,6 +279,7 @@ fn strings_and_lists_keep_their_order(rt: HostRuntime) -> Result<(), Fail> {
     assert!(rt; words_are_their_bytes(rt.alloc())?);
     assert!(rt; lists_keep_their_elements(rt.alloc())?);
     assert!(rt; keys_rise());
+    assert!(rt; files_are_loaded(rt.alloc())?);
     Ok(())
 }
 
