@@ -1,9 +1,11 @@
 pub mod AcceptLemmas
 pub mod NameLemmas
 pub mod ObjectLemmas
+pub mod ReadLemmas
 pub mod RelocationLemmas
 pub mod SectionLemmas
 pub mod StringLemmas
 pub mod SymbolLemmas
 pub mod TableLemmas
 pub mod WalkLemmas
+pub mod WholeLemmas

@@ -5,6 +5,7 @@ pub mod Features
 pub mod Header
 pub mod Names
 pub mod Object
+pub mod Read
 pub mod Relocations
 pub mod Sections
 pub mod Strings
