@@ -1,6 +1,12 @@
 pub mod AcceptLemmas
+pub mod FactsCommands
+pub mod FactsHeaders
+pub mod FactsLaws
+pub mod FactsLeast
+pub mod FactsRelocations
+pub mod FactsRules
+pub mod FactsSymbols
 pub mod NameLemmas
-pub mod ObjectLemmas
 pub mod ReadLemmas
 pub mod RelocationLemmas
 pub mod SectionLemmas

@@ -1,12 +1,15 @@
 pub mod Commands
 pub mod Each
+pub mod Facts
 pub mod Faults
 pub mod Features
 pub mod Header
 pub mod Names
 pub mod Object
+pub mod Parts
 pub mod Read
 pub mod Relocations
+pub mod Rules
 pub mod Sections
 pub mod Strings
 pub mod Symbols

@@ -1,11 +1,9 @@
 -- The object that a file is, or the first rule that it breaks or feature that the linker doesn't have.
-use Rattle.std.specs.Prelude.{ℕ, ◌^◌, ◌≡◌, ◌==◌, ◌⊎◌, Bool, not, nat_lt, bit_and, List, length, Option, Some, None, Result, Ok, Err}
+use Rattle.std.specs.Prelude.{ℕ, ◌^◌, ◌==◌, Bool, not, nat_lt, bit_and, List, length, Option, Some, None, Result, Ok, Err}
 use Rattle.mo_types.specs.Gives.{◌>>=◌, guarded}
-use Rattle.mo_types.specs.Kind.{kind_of}
 use Rattle.mo_types.specs.declared.cause.Feature.{Feature}
 use Rattle.mo_types.specs.declared.cause.Rule.TheVariants as rule
 use Rattle.mo_types.specs.declared.cause.Which.TheVariants.{Symbols}
-use Rattle.mo_types.specs.declared.kind.Kind.TheVariants.{MachO}
 use Rattle.mo_types.specs.declared.object_fault.ObjFault.{ObjFault}
 use Rattle.mo_types.specs.declared.object_fault.ObjFault.TheVariants.{Unsupported, Limit}
 use Rattle.mo_types.specs.declared.object.Object.{Object}
@@ -66,28 +64,3 @@ object_of bytes = do
   read ← described bytes
   done ← accepted read.object read.foreign
   Ok read.object
-
--- the bytes are those of an object
-pub record IsObject (bytes : List ℕ) (object : Object) : Type 0 where
-  pub kind : kind_of bytes ≡ MachO
-  pub is : object_of bytes ≡ Ok object
-
--- the bytes are a Mach-O file, and the fault is the first one that it has
-pub record IsFaulty (bytes : List ℕ) (fault : ObjFault) : Type 0 where
-  pub kind : kind_of bytes ≡ MachO
-  pub is : object_of bytes ≡ Err fault
-
--- one object and no fault
-pub record IsOne (bytes : List ℕ) (object : Object) : Type 0 where
-  pub is : IsObject bytes object
-  pub alone : (other : Object) → IsObject bytes other → other ≡ object
-  pub faultless : (fault : ObjFault) → IsFaulty bytes fault → ⊥
-
--- one fault and no object
-pub record IsFaultyAlone (bytes : List ℕ) (fault : ObjFault) : Type 0 where
-  pub is : IsFaulty bytes fault
-  pub alone : (other : ObjFault) → IsFaulty bytes other → other ≡ fault
-  pub objectless : (object : Object) → IsObject bytes object → ⊥
-
-abbrev pub IsOneOrFaulty : List ℕ → Type 0
-IsOneOrFaulty bytes = ((object : Object) × IsOne bytes object) ⊎ ((fault : ObjFault) × IsFaultyAlone bytes fault)

@@ -29,7 +29,10 @@ use accept::accept;
 use atom_cut::cut;
 use commands::{commands_of, frame_of};
 use header::header_of;
-pub use laws::{an_object_or_a_fault, one_object_at_most, what_is_read_is_whole};
+pub use laws::{
+    an_object_or_a_fault, faults_are_told, objects_are_read, one_object_at_most,
+    what_is_read_is_whole,
+};
 use mo_types::{AtomList, Bytes, FileId, ObjFault, Object, RefList};
 use reloc_read::refs_of_checked;
 use sections::{checked_sections, keep_literals};
