@@ -114,7 +114,7 @@ read_whole bytes object are e =
 
 -- a fault of two steps is one of the first or of the second
 
-then_faulty : {A B : Type 0} (r : Result A ObjFault) (next : A → Result B ObjFault) → IfErr r IsObjFault → ((x : A) → IfErr (next x) IsObjFault) → IfErr (r >>= next) IsObjFault
+pub then_faulty : {A B : Type 0} (r : Result A ObjFault) (next : A → Result B ObjFault) → IfErr r IsObjFault → ((x : A) → IfErr (next x) IsObjFault) → IfErr (r >>= next) IsObjFault
 then_faulty (Ok x) next first rest = rest x
 then_faulty (Err e) next first rest = first
 
@@ -227,7 +227,7 @@ accepted_faulty object foreign =
     by_test true = tt
     by_test false = tt
 
-object_faulty : (bytes : List ℕ) → IfErr (object_of bytes) IsObjFault
+pub object_faulty : (bytes : List ℕ) → IfErr (object_of bytes) IsObjFault
 unfolding object_of
 object_faulty bytes =
     then_faulty (described bytes) _ (described_faulty bytes) (λ read.
