@@ -1,4 +1,3 @@
 pub mod CommandLemmas
 pub mod FixupLemmas
 pub mod MeaningLemmas
-pub mod StringLemmas

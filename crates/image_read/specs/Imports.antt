@@ -1,7 +1,7 @@
 -- The imports of an image's chained fixups and their names (`mach-o/fixup-chains.h`).
-use Rattle.std.specs.Prelude.{ℕ, ◌+◌, ◌*◌, ◌/◌, ◌==◌, nat_le, nat_lt, List, length, take, drop, Option, Some, None, if◌then◌else◌}
+use Rattle.std.specs.Prelude.{ℕ, ◌+◌, ◌*◌, ◌/◌, ◌==◌, nat_le, nat_lt, List, length, Option, Some, None, if◌then◌else◌}
 use Rattle.std.specs.Option.{option_and_then, option_map}
-use Rattle.memchr.specs.Find.{is_byte, places, first_of}
+use Rattle.mo_strings.specs.Strings.{string_at}
 use Rattle.mo_bytes.specs.Number.{number, number_at}
 use Rattle.mo_types.specs.Rows.{when}
 use Rattle.mo_types.specs.Scan.{first_some}
@@ -62,14 +62,6 @@ name_place image import header =
     if nat_lt import header.imports_count
     then option_map (λ offset. header.at + header.symbols_offset + offset) (name_offset image header import)
     else None
-
--- the place of the first NUL
-unfoldable pub first_nul : List ℕ → Option ℕ
-first_nul bytes = first_of (places (is_byte 0) bytes)
-
--- the string that begins at a place and ends before a NUL
-unfoldable pub string_at : List ℕ → ℕ → Option (List ℕ)
-string_at image at = option_map (λ end. take end (drop at image)) (first_nul (drop at image))
 
 -- the name of an import, by its number
 unfoldable pub import_name : List ℕ → ℕ → Option (List ℕ)

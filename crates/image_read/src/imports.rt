@@ -6,8 +6,8 @@ ghost use Rattle.image_read.specs.Commands.{IsFitting};
 ghost use Rattle.image_read.specs.Imports as imports;
 
 use crate::commands::{cmd, cmdsize, fits, ncmds, number};
-use memchr::memchr;
 use mo_bytes::{read_u32, read_u64};
+use mo_strings::string_at;
 
 const LC_DYLD_CHAINED_FIXUPS: u32 = 0x8000_0034;
 
@@ -114,26 +114,6 @@ fn name_place(image: &[u8], import: u32, header: FixupsHeader) -> Option<usize>
     }
     let offset = name_offset(image, header, import)?;
     Some(header.at + header.symbols_offset as usize + offset as usize)
-}
-
-#[tactic(auto, using(crate::proofs::StringLemmas::nuls), unfolding(crate::specs::Imports::first_nul))]
-fn first_nul(bytes: &[u8]) -> Option<usize>
-    ensures value { result ≡ imports.first_nul bytes.now }
-    ensures within { IfSome result (λ at. at < length bytes.now) }
-{
-    memchr(0, bytes)
-}
-
-#[tactic(auto, using(crate::proofs::StringLemmas::strings), unfolding(crate::specs::Imports::string_at))]
-fn string_at(image: &[u8], at: usize) -> Option<&[u8]>
-    ensures { option_map (λ name. name.now) result ≡ imports.string_at image.now at }
-{
-    if image.len() < at {
-        return None;
-    }
-    let rest = &image[at..];
-    let end = first_nul(rest)?;
-    Some(&rest[..end])
 }
 
 /// The name of an import, by its number from 0: the bytes before the NUL. `None` where the image has no fixups or no such

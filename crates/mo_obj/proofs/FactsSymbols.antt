@@ -12,7 +12,7 @@ use Rattle.mo_format.specs.Symbol.{symtab_command_at}
 use Rattle.mo_format.specs.declared.symbol.Nlist.{Nlist}
 use Rattle.mo_format.specs.declared.symbol.SymtabCommand.{SymtabCommand}
 use Rattle.mo_obj.specs.Faults.{keeps}
-use Rattle.mo_obj.specs.Names.{string_at}
+use Rattle.mo_strings.specs.Strings.{string_at}
 use Rattle.mo_obj.specs.Object.{checked_sections}
 use Rattle.mo_obj.specs.Parts.{frame_in, headers_in, sections_in, symbol_named, symbols_in, symtab_in}
 use Rattle.mo_obj.specs.Rules.{IsBadSymbol, IsBrokenSymtab}

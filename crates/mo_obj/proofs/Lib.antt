@@ -6,11 +6,9 @@ pub mod FactsLeast
 pub mod FactsRelocations
 pub mod FactsRules
 pub mod FactsSymbols
-pub mod NameLemmas
 pub mod ReadLemmas
 pub mod RelocationLemmas
 pub mod SectionLemmas
-pub mod StringLemmas
 pub mod SymbolLemmas
 pub mod TableLemmas
 pub mod WalkLemmas

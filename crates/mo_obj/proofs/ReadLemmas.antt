@@ -29,7 +29,8 @@ use Rattle.mo_types.specs.declared.object_fault.ObjFault.TheVariants.{Malformed}
 use Rattle.mo_obj.specs.Commands.{bad_segment, count_at, frame_at, frame_of, frame_with, is_fit, is_whole_segment, lesser, segments}
 use Rattle.mo_obj.specs.Each.{Each}
 use Rattle.mo_obj.specs.Faults.{keeps}
-use Rattle.mo_obj.specs.Names.{part, string_at}
+use Rattle.mo_obj.specs.Names.{part}
+use Rattle.mo_strings.specs.Strings.{string_at}
 use Rattle.mo_obj.specs.Read.{AreBytes}
 use Rattle.mo_obj.specs.Sections.{IsNumbered, IsRoomy, each_keeps, has_relocs_outside, header_at, header_place, headers_of, is_outside, keeps_at, reloc_at, relocs_of, section_of, sections_of, type_of}
 use Rattle.mo_obj.specs.Symbols.{IsInPlace, common_or_undefined, entry_at, entry_place, is_defined_within, is_external, is_placed, is_stab, is_symtab, kind_of, no_symtab, strings_of, symbol_at, symbol_of, symbol_with, symbols_of, symtab_of}

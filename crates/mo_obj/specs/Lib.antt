@@ -11,5 +11,4 @@ pub mod Read
 pub mod Relocations
 pub mod Rules
 pub mod Sections
-pub mod Strings
 pub mod Symbols

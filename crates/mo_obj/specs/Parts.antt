@@ -12,7 +12,7 @@ use Rattle.mo_format.specs.declared.header.MachHeader.{MachHeader}
 use Rattle.mo_format.specs.declared.segment.SectionHeader.{SectionHeader}
 use Rattle.mo_format.specs.declared.symbol.SymtabCommand.{SymtabCommand}
 use Rattle.mo_obj.specs.Commands.{frame_at, segments, size_at, symtabs}
-use Rattle.mo_obj.specs.Names.{string_at}
+use Rattle.mo_strings.specs.Strings.{string_at}
 use Rattle.mo_obj.specs.Object.{may_be_cut}
 use Rattle.mo_obj.specs.Sections.{headers_of, sections_of}
 use Rattle.mo_obj.specs.Symbols.{any_foreign, entry_at, no_symtab, strings_of, symbol_with}

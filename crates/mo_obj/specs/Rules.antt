@@ -8,7 +8,7 @@ use Rattle.mo_types.specs.declared.cause.Rule.TheVariants as rule
 use Rattle.mo_types.specs.declared.object.Object.{Object}
 use Rattle.mo_types.specs.declared.object.Section.{Section}
 use Rattle.mo_obj.specs.Commands.{commands_end, is_broken, is_whole_segment}
-use Rattle.mo_obj.specs.Names.{string_at}
+use Rattle.mo_strings.specs.Strings.{string_at}
 use Rattle.mo_obj.specs.Parts.{commands_in, frame_in, header_in, headers_in, object_in, sections_in, segments_in, symtab_in, symtabs_in}
 use Rattle.mo_obj.specs.Sections.{has_broken_literals, has_relocs_outside, header_place, is_outside}
 use Rattle.mo_obj.specs.Symbols.{entry_at, entry_place, is_placed, is_symtab, strings_of}

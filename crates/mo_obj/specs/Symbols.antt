@@ -15,7 +15,8 @@ use Rattle.mo_types.specs.declared.object.SymbolKind.TheVariants.{Undefined, Com
 use Rattle.mo_format.specs.Symbol.{symtab_command_at, nlist_at}
 use Rattle.mo_format.specs.declared.symbol.SymtabCommand.{SymtabCommand}
 use Rattle.mo_format.specs.declared.symbol.Nlist.{Nlist}
-use Rattle.mo_obj.specs.Names.{string_at, part}
+use Rattle.mo_strings.specs.Strings.{string_at}
+use Rattle.mo_obj.specs.Names.{part}
 use Rattle.mo_obj.specs.declared.commands.Frame.{Frame}
 
 -- a symbol table of 24 bytes whose entries and strings lie within the file

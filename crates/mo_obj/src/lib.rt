@@ -20,7 +20,6 @@ mod laws;
 mod names;
 mod relocations;
 mod sections;
-mod strings;
 mod symbols;
 #[cfg(test)]
 mod tests;

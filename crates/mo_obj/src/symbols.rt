@@ -12,8 +12,8 @@ ghost use Rattle.mo_obj.specs.Symbols as symbols;
 ghost use Rattle.mo_obj.specs.Symbols.{IsInPlace, IsTable};
 
 use crate::commands::Frame;
-use crate::strings::Strings;
 use mo_format::{Nlist, SymtabCommand};
+use mo_strings::Strings;
 use mo_types::{Bytes, ObjFault, OutOfMemory, Rule, Section, Symbol, SymbolKind, SymbolList};
 use std::alloc::Global;
 

@@ -1,7 +1,7 @@
 use Rattle.std.proofs.Common.{ltb, rules}
 use Rattle.std.proofs.lemmas.List.Sorted.{IsPartitionPoint-from_clause, IsPartitionedBy-ltb}
-use Rattle.mo_obj.proofs.StringLemmas.{end_found, nuls_rise}
-use Rattle.mo_obj.proofs.strings.end_of.Goals as goal
+use Rattle.mo_strings.proofs.TableLemmas.{end_found, nuls_rise}
+use Rattle.mo_strings.proofs.table.end_of.Goals as goal
 
 pub returns : goal.returns
 returns c = λ bytes are.

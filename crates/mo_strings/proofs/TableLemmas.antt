@@ -1,13 +1,13 @@
 -- The NULs of a table of strings, and the one that ends the string at a place.
-use Rattle.std.proofs.Common.{◌≡◌, ℕ, zero, suc, ◌+◌, ◌-◌, ◌<◌, ◌≤◌, List, [], ◌∷◌, length, drop, get_or, map, Bool, true, false, cond, ltb, Option, Some, None, IfSome, slice_get, take, refl, sym, ap, subst, ◌∙◌, arith, inl, inr}
-use Rattle.std.proofs.lemmas.Bool.{cases_lt, false≢true, lt-ltb, le-ltb, ltb-true, ltb-false}
-use Rattle.std.proofs.lemmas.List.{get_or-drop, length-drop}
-use Rattle.std.proofs.lemmas.Option.{slice_get-get_or}
+use Rattle.std.proofs.Common.{◌≡◌, ℕ, zero, suc, ◌+◌, ◌-◌, ◌<◌, ◌≤◌, List, [], ◌∷◌, length, drop, get_or, map, Bool, true, false, cond, ltb, Option, Some, None, IfSome, slice_get, take, min, refl, sym, ap, subst, ◌∙◌, arith, inl, inr}
+use Rattle.std.proofs.lemmas.Bool.{cases_lt, lt-ltb, le-ltb, ltb-false}
+use Rattle.std.proofs.lemmas.List.{get_or-drop, get_or-take, length-drop, length-take}
 use Rattle.std.specs.List.Sorted.{IsNonDecreasingBy, IsPartitionPoint}
 use Rattle.std.specs.Option.{option_map}
-use Rattle.memchr.specs.Find.{is_byte, places, places_from, first_of}
-use Rattle.mo_obj.specs.Names.{first_nul, string_at}
-use Rattle.mo_obj.specs.Strings.{IsEnd}
+use Rattle.memchr.specs.Find.{IsFirstByte, is_byte, places, places_from, first_of}
+use Rattle.memchr.proofs.lemmas.ValueLemmas.{IsFirstByte-value}
+use Rattle.mo_strings.specs.Strings.{first_nul}
+use Rattle.mo_strings.specs.inner.End.{IsEnd, IsNear}
 
 -- each number is above the one before, and the first isn't below a bound
 abbrev pub Rises : ℕ → List ℕ → Type 0
@@ -153,17 +153,71 @@ end_found bytes nuls at p found are parted is =
       within = subst (λ (o : Option ℕ). IfSome o (λ nul. (at ≤ nul) × (nul < length bytes))) (sym value) (found_within at (length bytes) (places_from (is_byte 0) bytes 0 (length bytes - 0)) (places_below (is_byte 0) bytes 0 (length bytes - 0) (length bytes) (omega arith)));
     }
 
-string_with : (bytes : List ℕ) (at nul : ℕ) (end : Option ℕ) → IsEnd bytes at end → end ≡ Some nul → Some (nul - at) ≡ first_nul (drop at bytes)
-string_with bytes at nul end is some = sym (ap (option_map (λ n. n - at)) some) ∙ is.same
+pub sized : (bytes : List ℕ) (at nul : ℕ) (end : Option ℕ) → IsEnd bytes at end → end ≡ Some nul → Some (nul - at) ≡ first_nul (drop at bytes)
+sized bytes at nul end is some = sym (ap (option_map (λ n. n - at)) some) ∙ is.same
 
-pub named : (bytes name : List ℕ) (at nul : ℕ) (end : Option ℕ) → IsEnd bytes at end → end ≡ Some nul → name ≡ take (nul - at) (drop at bytes) → Some name ≡ string_at bytes at
-unfolding string_at
-named bytes name at nul end is some part =
-    ap Some part ∙ ap (option_map (λ n. take n (drop at bytes))) (string_with bytes at nul end is some)
+pub endless : (bytes : List ℕ) (at : ℕ) (end : Option ℕ) → IsEnd bytes at end → end ≡ None → None ≡ first_nul (drop at bytes)
+endless bytes at end is none = sym (ap (option_map (λ n. n - at)) none) ∙ is.same
 
-pub nameless : (bytes : List ℕ) (at : ℕ) (end : Option ℕ) → IsEnd bytes at end → end ≡ None → None ≡ string_at bytes at
-unfolding string_at
-nameless bytes at end is none =
-    ap (option_map (λ n. take n (drop at bytes))) (sym (ap (option_map (λ n. n - at)) none) ∙ is.same)
+pub ends_within : (bytes : List ℕ) (at nul : ℕ) (end : Option ℕ) → IsEnd bytes at end → end ≡ Some nul → (at ≤ nul) × (nul < length bytes)
+ends_within bytes at nul end is some = subst (λ (o : Option ℕ). IfSome o (λ nul. (at ≤ nul) × (nul < length bytes))) some is.within
 
-pub ruleset strings = (named, nameless)
+pub ruleset sizes = (sized, endless, ends_within)
+
+-- what the first few bytes of a string answer, all bytes answer too
+first_of_all : (hay : List ℕ) (n k : ℕ) → IsFirstByte (is_byte 0) (take n hay) (Some k) → IsFirstByte (is_byte 0) hay (Some k)
+first_of_all hay n k first =
+    let few : length (take n hay) ≡ min n (length hay) = length-take n hay in
+    let high : k < length (take n hay) = first.0.high in
+    let below : k < n = omega (arith, few, high) in
+    let inside : k < length hay = omega (arith, few, high) in
+    (record { low = omega arith; high = inside; before = λ j low less is. first.0.before j low less (ap (is_byte 0) (get_or-take n hay j 0 (omega arith)) ∙ is) }, sym (ap (is_byte 0) (get_or-take n hay k 0 below)) ∙ first.1)
+
+is_near : (bytes rest : List ℕ) (at n size : ℕ) → at ≤ length bytes → rest ≡ take n (drop at bytes) → IsFirstByte (is_byte 0) rest (Some size) → IsNear bytes at size
+unfolding first_nul
+is_near bytes rest at n size low is first =
+    let found : IsFirstByte (is_byte 0) (take n (drop at bytes)) (Some size) = subst (λ (xs : List ℕ). IsFirstByte (is_byte 0) xs (Some size)) is first in
+    let all : IsFirstByte (is_byte 0) (drop at bytes) (Some size) = first_of_all (drop at bytes) n size found in
+    let inside : size < length (drop at bytes) = all.0.high in
+    let rest_size : length (drop at bytes) ≡ length bytes - at = length-drop at bytes in
+    record { same = sym (IsFirstByte-value (is_byte 0) (drop at bytes) (Some size) all); within = omega (arith, inside, rest_size) }
+
+pub near_if_found : (bytes rest : List ℕ) (at n : ℕ) (answer : Option ℕ) → at ≤ length bytes → rest ≡ take n (drop at bytes) → IsFirstByte (is_byte 0) rest answer → IfSome answer (IsNear bytes at)
+near_if_found bytes rest at n None low is first = tt
+near_if_found bytes rest at n (Some size) low is first = is_near bytes rest at n size low is first
+
+pub ruleset near = (near_if_found)
+
+-- the first NUL of some bytes, by the first byte
+
+nul_among : (xs : List ℕ) (n : ℕ) → n ≡ length xs → first_nul xs ≡ first_of (places_from (is_byte 0) xs 0 n)
+unfolding first_nul
+nul_among xs n size = let all : length xs - 0 ≡ n = omega (arith, size) in ap (λ m. first_of (places_from (is_byte 0) xs 0 m)) all
+
+shifted : (xs : List ℕ) → first_of (map (λ k. 1 + k) xs) ≡ option_map (λ k. 1 + k) (first_of xs)
+unfolding first_of
+shifted [] = refl
+shifted (x ∷ xs) = refl
+
+first_chosen : (test : Bool) (xs : List ℕ) → first_of (cond test (0 ∷ xs) xs) ≡ cond test (Some 0) (first_of xs)
+unfolding first_of
+first_chosen true xs = refl
+first_chosen false xs = refl
+
+nul_by_first : (b : ℕ) (bs : List ℕ) (n : ℕ) → n ≡ length bs → first_of (places_from (is_byte 0) (b ∷ bs) 0 (suc n)) ≡ cond (is_byte 0 b) (Some 0) (option_map (λ k. 1 + k) (first_nul bs))
+unfolding places_from
+nul_by_first b bs n size =
+    let later : first_of (places_from (is_byte 0) (b ∷ bs) 1 n) ≡ option_map (λ k. 1 + k) (first_nul bs) =
+    ap first_of (sym (places_moved (is_byte 0) (b ∷ bs) 1 0 n)) ∙ shifted (places_from (is_byte 0) bs 0 n) ∙ ap (option_map (λ k. 1 + k)) (sym (nul_among bs n size)) in
+    first_chosen (is_byte 0 b) (places_from (is_byte 0) (b ∷ bs) 1 n) ∙ ap (cond (is_byte 0 b) (Some 0)) later
+
+nul_of_cons : (b : ℕ) (bs : List ℕ) → first_nul (b ∷ bs) ≡ cond (is_byte 0 b) (Some 0) (option_map (λ k. 1 + k) (first_nul bs))
+nul_of_cons b bs =
+    let size : suc (length bs) ≡ length (b ∷ bs) = omega arith in
+    nul_among (b ∷ bs) (suc (length bs)) size ∙ nul_by_first b bs (length bs) refl
+
+pub nul_first : (b : ℕ) (bs : List ℕ) → is_byte 0 b ≡ true → first_nul (b ∷ bs) ≡ Some 0
+nul_first b bs is = nul_of_cons b bs ∙ ap (λ test. cond test (Some 0) (option_map (λ k. 1 + k) (first_nul bs))) is
+
+pub nul_later : (b : ℕ) (bs : List ℕ) → is_byte 0 b ≡ false → first_nul (b ∷ bs) ≡ option_map (λ k. 1 + k) (first_nul bs)
+nul_later b bs is = nul_of_cons b bs ∙ ap (λ test. cond test (Some 0) (option_map (λ k. 1 + k) (first_nul bs))) is

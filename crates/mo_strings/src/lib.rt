@@ -1,0 +1,10 @@
+//! Strings that end in NUL, and tables of them.
+#![tactic(auto)]
+
+mod search;
+mod table;
+#[cfg(test)]
+mod tests;
+
+pub use search::{first_nul, string_at};
+pub use table::Strings;
