@@ -154,14 +154,22 @@ fn usage() -> Status {
 
 // Each answer with the exit status of the program.
 fn codes_are_the_programs() -> bool {
-    Status::Done.code() == 0
-        && refused().code() == 1
-        && usage().code() == 2
-        && read_fault().code() == 3
-        && Status::WriteFault.code() == 3
-        && Status::OutOfMemory.code() == 4
-        && Status::from(OutOfMemory).code() == 4
-        && Status::from(AllocError).code() == 4
+    let answers = [
+        (Status::Done, 0),
+        (refused(), 1),
+        (usage(), 2),
+        (read_fault(), 3),
+        (Status::WriteFault, 3),
+        (Status::OutOfMemory, 4),
+        (Status::from(OutOfMemory), 4),
+        (Status::from(AllocError), 4),
+    ];
+    for (answer, code) in &answers {
+        if answer.code() != *code {
+            return false;
+        }
+    }
+    true
 }
 
 // A message shows each cause by its variant's name in lower case, which `Debug` prints.
@@ -192,9 +200,18 @@ fn parts_are_shared(alloc: Global) -> Result<bool, OutOfMemory> {
 
 fn copies_are_alike(alloc: Global) -> Result<bool, OutOfMemory> {
     let name = Bytes::from_slice(alloc, b"_ab")?;
-    let end = name.part(1, 2)?;
     let copy = name.clone()?;
-    Ok(copy == name && end.as_slice() == b"ab".as_slice() && name.part(3, 0)?.is_empty())
+    Ok(copy == name)
+}
+
+fn parts_end_with_their_string(alloc: Global) -> Result<bool, OutOfMemory> {
+    let name = Bytes::from_slice(alloc, b"_ab")?;
+    for (at, size, expected) in [(1, 2, b"ab".as_slice()), (3, 0, b"")] {
+        if name.part(at, size)?.as_slice() != expected {
+            return Ok(false);
+        }
+    }
+    Ok(true)
 }
 
 fn strings_are_ordered_byte_by_byte() -> bool {
@@ -275,6 +292,7 @@ fn files_are_loaded(alloc: Global) -> Result<bool, OutOfMemory> {
 fn strings_and_lists_keep_their_order(rt: HostRuntime) -> Result<(), Fail> {
     assert!(rt; parts_are_shared(rt.alloc())?);
     assert!(rt; copies_are_alike(rt.alloc())?);
+    assert!(rt; parts_end_with_their_string(rt.alloc())?);
     assert!(rt; strings_are_ordered_byte_by_byte());
     assert!(rt; words_are_their_bytes(rt.alloc())?);
     assert!(rt; lists_keep_their_elements(rt.alloc())?);
