@@ -1,8 +1,8 @@
 -- No two branches stand in one place, since no fields of an object that was read overlap.
-use Rattle.std.proofs.Common.{◌≡◌, ℕ, zero, suc, ◌+◌, ◌-◌, ◌<◌, ◌≤◌, ◌≢◌, ◌==◌, ◌&&◌, ◌||◌, inl, inr, List, [], ◌∷◌, length, get_or, slice_get, nat_lt, Bool, true, false, not, Option, Some, None, Result, IfErr, refl, sym, subst, arith, ne_eqb}
+use Rattle.std.proofs.Common.{◌≡◌, ℕ, zero, suc, ◌+◌, ◌-◌, ◌<◌, ◌≤◌, ◌^◌, ◌≢◌, ◌==◌, ◌&&◌, ◌||◌, inl, inr, List, [], ◌∷◌, length, get_or, slice_get, nat_lt, Bool, true, false, not, Option, Some, None, Result, IfErr, refl, sym, subst, arith, ne_eqb}
 use Rattle.std.specs.List.{AllByRecursion, list_all, list_any, range_with_len}
 use Rattle.std.specs.Option.{option_and_then, option_map_or}
-use Rattle.std.proofs.lemmas.Bool.{cases_lt, eqb-true, ltb-false}
+use Rattle.std.proofs.lemmas.Bool.{cases_lt, eqb-true, false≢true, ltb-false}
 use Rattle.std.proofs.lemmas.Option.{get_or_from_slice_get, slice_get-get_or, slice_get_within}
 use Rattle.mo_types.specs.Refs.{or_fault, refs_of}
 use Rattle.mo_types.specs.RelocationRules.{field_at, first_fault, is_bad_field, overlap, overlaps_another, pair_fault, place_fault, row_start, shape_fault}
@@ -78,10 +78,6 @@ row_kind relocs at reloc is rows =
 abbrev word_field : RawReloc → Field
 word_field reloc = record { offset = reloc.address; size = 4 }
 
-row_field : (relocs : List RawReloc) (at : ℕ) (reloc : RawReloc) → slice_get relocs at ≡ Some reloc → ((k : ℕ) (other : RawReloc) → slice_get relocs k ≡ Some other → IsBranchRow other) → field_at relocs at ≡ Some (word_field reloc)
-unfolding field_at
-row_field relocs at reloc is rows = rw (row_kind relocs at reloc is rows, is) refl
-
 unless : {A : Type 0} (test : Bool) (x : A) → when test x ≡ None → test ≡ false
 unless true x e = cc
 unless false x e = refl
@@ -89,6 +85,23 @@ unless false x e = refl
 neither : (a b : Bool) → (a || b) ≡ false → (a ≡ false) × (b ≡ false)
 neither true b e = absurd cc
 neither false b e = (refl, e)
+
+-- a row without a field is at fault
+misplaced : (object : Object) (number : ℕ) (section : Section) (at : ℕ) → place_fault object number section at ≡ None → kind_at section.relocs at ≡ Some Branch → field_at section.relocs at ≡ None → true ≡ false
+unfolding place_fault
+misplaced object number section at good kind none = unless true (row_start section.relocs at) (rw (kind, none) at good)
+
+-- a row that keeps the rule of places has its field
+row_field : (object : Object) (number : ℕ) (section : Section) (at : ℕ) (reloc : RawReloc) → slice_get section.relocs at ≡ Some reloc → ((k : ℕ) (other : RawReloc) → slice_get section.relocs k ≡ Some other → IsBranchRow other) → place_fault object number section at ≡ None → field_at section.relocs at ≡ Some (word_field reloc)
+unfolding field_at
+row_field object number section at reloc is rows good = by_low (nat_lt reloc.address (2 ^ 31)) refl
+  where
+    field_is : (low : Bool) → nat_lt reloc.address (2 ^ 31) ≡ low → field_at section.relocs at ≡ when low (word_field reloc)
+    field_is low e = rw (row_kind section.relocs at reloc is rows, is, e) refl
+
+    by_low : (low : Bool) → nat_lt reloc.address (2 ^ 31) ≡ low → field_at section.relocs at ≡ Some (word_field reloc)
+    by_low true e = field_is true e
+    by_low false e = absurd (false≢true (sym (misplaced object number section at good (row_kind section.relocs at reloc is rows) (field_is false e))))
 
 -- where the rule of places holds, no other field overlaps
 alone : (object : Object) (number : ℕ) (section : Section) (at : ℕ) (field : Field) → place_fault object number section at ≡ None → kind_at section.relocs at ≡ Some Branch → field_at section.relocs at ≡ Some field → overlaps_another section.relocs at field ≡ false
@@ -145,6 +158,7 @@ relocs_apart object index text symbols refs within there kept branches =
     let first : slice_get text.relocs i ≡ Some (get_or text.relocs i d) = slice_get-get_or text.relocs i d (omega arith) in
     let second : slice_get text.relocs j ≡ Some (get_or text.relocs j d) = slice_get-get_or text.relocs j d below in
     let good : place_fault object (index + 1) text i ≡ None = no_row_fault place_fault object index text i places within there kept (omega arith) in
+    let next : place_fault object (index + 1) text j ≡ None = no_row_fault place_fault object index text j places within there kept below in
     let none : overlaps_another text.relocs i (word_field (get_or text.relocs i d)) ≡ false =
-    alone object (index + 1) text i (word_field (get_or text.relocs i d)) good (row_kind text.relocs i (get_or text.relocs i d) first rows) (row_field text.relocs i (get_or text.relocs i d) first rows) in
-    pair_apart text.relocs i (get_or text.relocs i d) j (get_or text.relocs j d) none below (λ same. absurd (omega arith)) (row_field text.relocs j (get_or text.relocs j d) second rows))
+    alone object (index + 1) text i (word_field (get_or text.relocs i d)) good (row_kind text.relocs i (get_or text.relocs i d) first rows) (row_field object (index + 1) text i (get_or text.relocs i d) first rows good) in
+    pair_apart text.relocs i (get_or text.relocs i d) j (get_or text.relocs j d) none below (λ same. absurd (omega arith)) (row_field object (index + 1) text j (get_or text.relocs j d) second rows next))

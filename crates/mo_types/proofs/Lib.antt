@@ -2,3 +2,4 @@ pub mod Each
 pub mod Fronts
 pub mod Scanning
 pub mod Goals
+pub mod RefRowLemmas

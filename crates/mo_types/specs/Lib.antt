@@ -15,3 +15,4 @@ pub mod Scan
 pub mod Whole
 pub mod Goals
 pub mod GoalOrder
+pub mod inner

@@ -38,10 +38,12 @@ shape_fault object number section at =
     (λ reloc. when (is_none (kind_at section.relocs at)) (if option_map_or is_subtractor (first_before section.relocs at) false then at - 1 else at))
     (last_at section.relocs at)
 
--- the field of the row that ends at a place
+-- the field of the row that ends at a place; r_address is signed, and there is no field below the section
 unfoldable pub field_at : List RawReloc → ℕ → Option Field
 field_at relocs at =
-    option_and_then (λ kind. option_map (λ reloc. record { offset = reloc.address; size = field_size kind }) (slice_get relocs at))
+    option_and_then
+    (λ kind. option_and_then (λ reloc. when (nat_lt reloc.address (2 ^ 31)) (record { offset = reloc.address; size = field_size kind }))
+    (slice_get relocs at))
     (kind_at relocs at)
 
 -- both have a byte
@@ -66,17 +68,19 @@ has_fields section = not (is_zerofill section.kind) && not (is_strings section.k
 
 abbrev pub is_bad_field : Object → ℕ → Section → ℕ → RefKind → Field → Bool
 is_bad_field object number section at kind field =
-    nat_le (2 ^ 31) field.offset || not (is_in_one_atom object number section field)
-    || (is_instruction kind && not (field.offset % 4 == 0)) || overlaps_another section.relocs at field
-    || not (has_fields section)
+    not (is_in_one_atom object number section field) || (is_instruction kind && not (field.offset % 4 == 0))
+    || overlaps_another section.relocs at field || not (has_fields section)
+
+-- a row has no field, or a bad one
+abbrev pub is_misplaced : Object → ℕ → Section → ℕ → RefKind → Bool
+is_misplaced object number section at kind =
+    option_map_or (is_bad_field object number section at kind) (field_at section.relocs at) true
 
 -- Place: a field below the section's start, across atoms or outside them, of an instruction that isn't
 -- aligned, over another field, or in a section that may have none
 unfoldable pub place_fault : RelocationRule
 place_fault object number section at =
-    option_and_then
-    (λ kind. option_and_then (λ field. when (is_bad_field object number section at kind field) (row_start section.relocs at)) (field_at section.relocs at))
-    (kind_at section.relocs at)
+    option_and_then (λ kind. when (is_misplaced object number section at kind) (row_start section.relocs at)) (kind_at section.relocs at)
 
 -- the section of a number from 1
 abbrev pub section_numbered : List Section → ℕ → Option Section

@@ -13,6 +13,8 @@ mod memory;
 mod object;
 mod object_fault;
 mod out_section;
+mod ref_list;
+mod ref_row;
 mod reference;
 mod reference_fault;
 mod section;
@@ -36,7 +38,8 @@ pub use object::{
 };
 pub use object_fault::ObjFault;
 pub use out_section::{KeyList, OutSection, OutSections};
-pub use reference::{Field, Ref, RefKind, RefList, Target};
+pub use ref_list::RefList;
+pub use reference::{Field, Ref, RefKind, Target};
 pub use reference_fault::RefFault;
 pub use string::{Arg, ArgList, Bytes, NameList};
 pub use unwind::{Unwind, UnwindList};

@@ -2,7 +2,7 @@ use crate::atom::AtomList;
 use crate::items::Items;
 use crate::key::FileId;
 use crate::object::Object;
-use crate::reference::RefList;
+use crate::ref_list::RefList;
 use crate::string::Bytes;
 use crate::unwind::UnwindList;
 

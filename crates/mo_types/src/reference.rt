@@ -1,4 +1,3 @@
-use crate::items::Items;
 use crate::key::AtomKey;
 
 /// Where a reference leads.
@@ -64,6 +63,3 @@ pub struct Ref {
     /// In bytes, added to the target.
     pub addend: i64,
 }
-
-/// The references of an object: section by section, and in a section in the order of its relocations.
-pub type RefList = Items<Ref>;

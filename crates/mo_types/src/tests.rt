@@ -1,5 +1,6 @@
 //! What no clause says: that calls succeed with ample memory, and that the words are the meant ones.
 use super::*;
+use crate::ref_row::Row;
 use std::alloc::{AllocError, Global};
 use std::fmt::Debug;
 use std::test::Fail;
@@ -271,15 +272,16 @@ fn is_shared<T: Send + Sync>(_read: &T) -> bool {
 fn files_are_loaded(alloc: Global) -> Result<bool, OutOfMemory> {
     let mut files = LoadedList::new(alloc);
     for member in 1..1001 {
+        let id = FileId {
+            position: 0,
+            member,
+        };
         files.push(LoadedFile {
-            id: FileId {
-                position: 0,
-                member,
-            },
+            id,
             label: Bytes::from_static(b"lib.a(a.o)"),
             object: object_of(alloc, 2, b"a\0", 1, 0x100)?,
             atoms: AtomList::new(alloc),
-            refs: RefList::new(alloc),
+            refs: RefList::new(alloc, id),
             unwinds: UnwindList::new(alloc),
         })?;
     }
@@ -302,6 +304,59 @@ fn strings_and_lists_keep_their_order(rt: HostRuntime) -> Result<(), Fail> {
 }
 
 // Each file's first bytes with what it is.
+// References of every sort: to a symbol, to a difference of two, and those that are kept whole.
+fn reference(sort: u32, number: u32) -> Ref {
+    let far = u64::from(number) << 32;
+    let atom = AtomKey {
+        file: FileId {
+            position: 3,
+            member: u32::from(sort == 2),
+        },
+        section: 1,
+        offset: if sort == 3 {
+            far
+        } else {
+            8 * u64::from(number)
+        },
+    };
+    Ref {
+        atom,
+        place: if sort == 4 { far } else { 4 },
+        file_place: if sort == 5 { far } else { 12 },
+        kind: RefKind::Pointer,
+        target: match sort {
+            6 => Target::Local(atom, 2),
+            _ => Target::Name(number),
+        },
+        minus: match sort {
+            1 => Some(Target::Name(number ^ 1)),
+            7 => Some(Target::Local(atom, 2)),
+            _ => None,
+        },
+        addend: if sort == 8 { i64::MIN } else { -1 },
+    }
+}
+
+#[test]
+fn lists_of_references_lose_nothing(rt: HostRuntime) -> Result<(), Fail> {
+    let file = FileId {
+        position: 3,
+        member: 0,
+    };
+    let mut refs = RefList::new(rt.alloc(), file);
+    assert!(rt; refs.is_empty());
+    refs.reserve(9000)?;
+    for number in 0..9000 {
+        refs.push(reference(number % 9, number))?;
+    }
+    assert!(rt; refs.len() == 9000 && refs.get(9000).is_none());
+    for number in 0..9000 {
+        assert!(rt; refs.get(number as usize) == Some(reference(number % 9, number)));
+    }
+    assert!(rt; size_of::<Row>() == 32);
+    Ok(())
+}
+
 #[test]
 fn first_bytes_tell_what_a_file_is(rt: HostRuntime) -> Result<(), Fail> {
     let files: [(&[u8], Kind); 26] = [

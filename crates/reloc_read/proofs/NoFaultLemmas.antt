@@ -84,8 +84,7 @@ field_fits object number section at kind field none is its =
     let first : is_bad_field object number section at kind field ≡ false = bad in
     let a = (neither _ _ bad).0 in
     let b = (neither _ _ a).0 in
-    let c = (neither _ _ b).0 in
-    let d = (neither _ _ c).1 in
+    let d = (neither _ _ b).0 in
     leb-true (field.offset + field.size) section.size ((both _ _ (not_false _ d)).0)
 
 pub target_is_good : (object : Object) (number : ℕ) (section : Section) (at : ℕ) (reloc : RawReloc) (field : Field) → target_fault object number section at ≡ None → last_at section.relocs at ≡ Some reloc → field_at section.relocs at ≡ Some field → is_bad_target object section.bytes field reloc ≡ false

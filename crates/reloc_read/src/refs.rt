@@ -133,8 +133,8 @@ pub fn reference_at(linked: &LinkedSection, at: usize) -> Option<Ref>
     reference(linked, first_before(relocs, at), &reloc, kind, field)
 }
 
-fn add(out: &mut Vec<Ref>, reference: Option<Ref>) -> Result<(), OutOfMemory>
-    ensures { OnOk result (out.new.items ≡ out.old.items ++ option_to_list reference) }
+fn add(out: &mut RefList, reference: Option<Ref>) -> Result<(), OutOfMemory>
+    ensures { OnOk result (out.new ≡ out.old ++ option_to_list reference) }
 {
     if let Some(reference) = reference {
         out.push(reference)?;
@@ -144,10 +144,10 @@ fn add(out: &mut Vec<Ref>, reference: Option<Ref>) -> Result<(), OutOfMemory>
 
 // Puts the references of a linked section at the end of the others.
 #[tactic(auto, using(crate::proofs::RefLemmas::rows))]
-fn add_rows(out: &mut Vec<Ref>, linked: &LinkedSection) -> Result<(), OutOfMemory>
+fn add_rows(out: &mut RefList, linked: &LinkedSection) -> Result<(), OutOfMemory>
     requires linked { IsLinked linked.now }
     requires clean { IsClean linked.now.cut.object.now }
-    ensures { OnOk result (out.new.items ≡ out.old.items ++ refs.section_refs linked.now.cut.object.now linked.now.cut.file (linked.now.index + 1) linked.now.section.now) }
+    ensures { OnOk result (out.new ≡ out.old ++ refs.section_refs linked.now.cut.object.now linked.now.cut.file (linked.now.index + 1) linked.now.section.now) }
 {
     out.reserve(linked.section.relocs.len())?;
     for at in 0..linked.section.relocs.len() {
@@ -157,11 +157,11 @@ fn add_rows(out: &mut Vec<Ref>, linked: &LinkedSection) -> Result<(), OutOfMemor
 }
 
 #[tactic(auto, using(crate::proofs::RefLemmas::sections))]
-fn add_section(out: &mut Vec<Ref>, cut: &CutObject, index: usize) -> Result<(), OutOfMemory>
+fn add_section(out: &mut RefList, cut: &CutObject, index: usize) -> Result<(), OutOfMemory>
     requires cut { IsCut cut.now }
     requires index { index < length cut.now.object.now.sections }
     requires clean { IsClean cut.now.object.now }
-    ensures { OnOk result ((d : Section) → out.new.items ≡ out.old.items ++ refs.section_refs cut.now.object.now cut.now.file (index + 1) (slice_index_or cut.now.object.now.sections index d)) }
+    ensures { OnOk result ((d : Section) → out.new ≡ out.old ++ refs.section_refs cut.now.object.now cut.now.file (index + 1) (slice_index_or cut.now.object.now.sections index d)) }
 {
     let section = &cut.object.sections.as_slice()[index];
     if section.is_dropped() {
@@ -182,9 +182,9 @@ pub fn all_refs(alloc: Global, cut: &CutObject) -> Result<RefList, OutOfMemory>
     requires clean { IsClean cut.now.object.now }
     ensures { IfOk result (λ found. found ≡ refs.refs_from cut.now.object.now cut.now.file 1 cut.now.object.now.sections) }
 {
-    let mut out = Vec::new(alloc);
+    let mut out = RefList::new(alloc, cut.file);
     for index in 0..cut.object.sections.len() {
         add_section(&mut out, cut, index)?;
     }
-    Ok(RefList::from_vec(out))
+    Ok(out)
 }

@@ -199,7 +199,7 @@ fn field_of(address: u32, kind: RefKind) -> Field
     }
 }
 
-/// The field of the row that ends at a place.
+/// The field of the row that ends at a place; `r_address` is signed, and there is no field below the section.
 #[tactic(auto, unfolding(mo_types::specs::RelocationRules::field_at))]
 pub fn field_at(relocs: &[RawReloc], at: usize) -> Option<Field>
     ensures value { result ≡ rules.field_at relocs.now at }
@@ -207,5 +207,8 @@ pub fn field_at(relocs: &[RawReloc], at: usize) -> Option<Field>
 {
     let kind = kind_at(relocs, at)?;
     let address = relocs.get(at)?.address;
+    if address >= 1 << 31 {
+        return None;
+    }
     Some(field_of(address, kind))
 }

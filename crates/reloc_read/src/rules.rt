@@ -90,8 +90,7 @@ fn is_bad_field(
     requires overlaps { Tells linked.now.section.now.relocs overlaps.now }
     ensures { result ≡ rules.is_bad_field linked.now.cut.object.now (linked.now.index + 1) linked.now.section.now at kind field.now }
 {
-    field.offset >= 1 << 31
-        || !is_in_one_atom(linked, field)
+    !is_in_one_atom(linked, field)
         || (is_instruction(kind) && field.offset % 4 != 0)
         || overlaps_another(overlaps, field)
         || !has_fields(linked.section)
@@ -109,9 +108,8 @@ pub fn place_fault(linked: &LinkedSection, at: usize, overlaps: &Overlaps) -> Op
 {
     let relocs = linked.section.relocs.as_slice();
     let kind = kind_at(relocs, at)?;
-    let field = field_at(relocs, at)?;
-    if is_bad_field(linked, at, kind, &field, overlaps) {
-        return Some(row_start(relocs, at));
+    match field_at(relocs, at) {
+        Some(field) if !is_bad_field(linked, at, kind, &field, overlaps) => None,
+        _ => Some(row_start(relocs, at)),
     }
-    None
 }

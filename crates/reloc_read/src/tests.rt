@@ -127,7 +127,12 @@ fn check(
     };
     assert_eq!(rt; super::check(alloc, &object, &atoms, FILE), unread);
     match (refs_of(alloc, &object, &atoms, FILE), wanted) {
-        (Ok(found), Ok(wanted)) => assert!(rt; found.as_slice() == wanted),
+        (Ok(found), Ok(wanted)) => {
+            assert!(rt; found.len() == wanted.len());
+            for (at, wanted) in wanted.iter().enumerate() {
+                assert!(rt; found.get(at) == Some(*wanted));
+            }
+        }
         (Err(found), Err(wanted)) => assert_eq!(rt; found, wanted),
         _ => assert!(rt; false),
     }
@@ -320,8 +325,11 @@ fn many_references(rt: HostRuntime) -> Result<(), Fail> {
             return Err(Fail::from("the references weren't read"));
         };
         assert!(rt; found.len() == MANY as usize);
-        for (index, found) in found.as_slice().iter().enumerate() {
-            let number = number_at(u32::try_from(index).unwrap_or(0), step);
+        for index in 0..MANY {
+            let number = number_at(index, step);
+            let Some(found) = found.get(index as usize) else {
+                return Err(Fail::from("a reference is missing"));
+            };
             assert!(rt; found.atom.offset == 8 * u64::from(number) && found.place == 0);
             assert!(rt; found.target == Target::Name(number));
         }

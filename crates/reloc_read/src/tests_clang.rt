@@ -94,7 +94,7 @@ fn check_atoms(rt: &impl Abort, found: &AtomList, wanted: &[(u16, u64, u64, u8)]
 
 fn check_refs(rt: &impl Abort, found: &RefList, object: &ClangObject) {
     assert_eq!(rt; found.len(), object.refs.len());
-    for (reference, wanted) in found.as_slice().iter().zip(object.refs) {
+    for (at, wanted) in object.refs.iter().enumerate() {
         let (section, offset, place, file_place, kind, target, minus, addend) = *wanted;
         let wanted = Ref {
             atom: AtomKey {
@@ -109,7 +109,7 @@ fn check_refs(rt: &impl Abort, found: &RefList, object: &ClangObject) {
             minus: minus.map(Target::Name),
             addend,
         };
-        assert_eq!(rt; *reference, wanted);
+        assert_eq!(rt; found.get(at), Some(wanted));
     }
 }
 

@@ -1,4 +1,3 @@
-use Rattle.std.proofs.Common.{◌<◌, arith}
 use Rattle.reloc_read.proofs.LookupLemmas.{finds_some, rising_atoms}
 use Rattle.reloc_read.proofs.PointLemmas.{start_is_cut_of, start_is_within}
 use Rattle.reloc_read.proofs.cut_object.cut_of.Goals as goal

@@ -10,4 +10,4 @@ pub returns : goal.returns
 returns c =
     let whole : c.loop-at.at ≡ length c.args.linked.now.section.now.relocs = omega arith in
     refs_end _ _ _ _ _ _ c.loop-at.at c.loop-at.invariant c.requires.linked.kept whole
-    ∙ ap (λ xs. xs ++ section_refs c.args.linked.now.cut.object.now c.args.linked.now.cut.file (c.args.linked.now.index + 1) c.args.linked.now.section.now) c.in_ok-reserve.ensures.items
+    ∙ ap (λ xs. xs ++ section_refs c.args.linked.now.cut.object.now c.args.linked.now.cut.file (c.args.linked.now.index + 1) c.args.linked.now.section.now) c.reserve.ensures

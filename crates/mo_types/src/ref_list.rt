@@ -1,0 +1,115 @@
+//! The references of an object.
+
+ghost use Rattle.std.specs.Prelude.{◌≡◌, ◌↔◌, [], ◌∷◌, ◌++◌, ◌<◌, length, slice_get, slice_index_or, IsTrue, OnOk, OnErr, OnSome};
+ghost use Rattle.mo_types.specs.declared.reference.Ref.{Ref};
+ghost use Rattle.mo_types.specs.declared.ref_row.Row.TheVariants as row;
+ghost use Rattle.mo_types.specs.inner.RefRows as rows;
+
+use crate::key::FileId;
+use crate::memory::OutOfMemory;
+use crate::ref_row::{Row, ref_of, row_of};
+use crate::reference::Ref;
+use std::alloc::Global;
+use std::marker::Model;
+
+/// The references of an object: section by section, and in a section in the order of its relocations. Contracts see
+/// it as the list of them.
+///
+/// A reference from the list's own file to a symbol, less another symbol or nothing, takes 32 bytes, where its numbers
+/// have 32 bits. Any other one is kept whole besides.
+#[derive(Debug, Drop)]
+pub struct RefList {
+    file: FileId,
+    rows: Vec<Row>,
+    others: Vec<Ref>,
+}
+
+impl Model for RefList {
+    ghost use Rattle.std.specs.Prelude.{List, length};
+    ghost use Rattle.mo_types.specs.declared.reference.Ref.{Ref};
+    ghost use Rattle.mo_types.specs.inner.RefRows.{AreRowsWithin, refs_of_rows};
+
+    ghost Value = { List Ref };
+
+    ghost view = { λ list. refs_of_rows list.file list.others.items list.rows.items };
+
+    ghost invariant = { λ list. AreRowsWithin (length list.others.items) list.rows.items };
+}
+
+// Puts a reference behind those that are kept whole, and its row behind the rows.
+fn add_other(rows: &mut Vec<Row>, others: &mut Vec<Ref>, reference: Ref) -> Result<(), OutOfMemory>
+    ensures row { OnOk result (rows.new.items ≡ rows.old.items ++ row.Other (length others.old.items) ∷ []) }
+    ensures other { OnOk result (others.new.items ≡ others.old.items ++ reference ∷ []) }
+    ensures err_rows { OnErr result (rows.new.items ≡ rows.old.items) }
+    ensures err_others { OnErr result (others.new.items ≡ others.old.items) }
+{
+    let Ok(index) = u32::try_from(others.len()) else {
+        return Err(OutOfMemory);
+    };
+    others.reserve(1)?;
+    rows.push(Row::Other(index))?;
+    if others.push(reference).is_err() {
+        rows.truncate(rows.len().saturating_sub(1));
+        return Err(OutOfMemory);
+    }
+    Ok(())
+}
+
+impl RefList {
+    /// No references, of a file's object, which takes no memory.
+    pub fn new(alloc: Global, file: FileId) -> RefList
+        ensures { result ≡ [] }
+    {
+        RefList {
+            file,
+            rows: Vec::new(alloc),
+            others: Vec::new(alloc),
+        }
+    }
+
+    /// Takes room for more references to symbols.
+    pub fn reserve(&mut self, more: usize) -> Result<(), OutOfMemory>
+        ensures { self.new ≡ self.old }
+    {
+        self.rows.reserve(more)?;
+        Ok(())
+    }
+
+    /// Puts a reference at the end; where memory runs out, the list stays as it was. 2^32 references that are kept
+    /// whole run out of it.
+    #[tactic(auto, using(crate::proofs::RefRowLemmas::pushes))]
+    pub fn push(&mut self, reference: Ref) -> Result<(), OutOfMemory>
+        ensures ok { OnOk result (self.new ≡ self.old ++ reference ∷ []) }
+        ensures err { OnErr result (self.new ≡ self.old) }
+    {
+        match row_of(self.file, &reference) {
+            Some(row) => self.rows.push(row)?,
+            None => add_other(&mut self.rows, &mut self.others, reference)?,
+        }
+        Ok(())
+    }
+
+    /// How many references it has.
+    pub fn len(&self) -> usize
+        ensures { result ≡ length self.now }
+    {
+        self.rows.len()
+    }
+
+    /// Whether it has no reference.
+    pub fn is_empty(&self) -> bool
+        ensures { IsTrue result ↔ (self.now ≡ []) }
+    {
+        self.rows.is_empty()
+    }
+
+    /// The reference at a place, or `None` exactly where the list ends before it.
+    #[tactic(auto, using(crate::proofs::RefRowLemmas::gets))]
+    pub fn get(&self, at: usize) -> Option<Ref>
+        ensures value { result ≡ slice_get self.now at }
+        ensures within { OnSome result (at < length self.now) }
+    {
+        let row = *self.rows.get(at)?;
+        Some(ref_of(self.file, self.others.as_slice(), row))
+    }
+}
