@@ -16,7 +16,8 @@ use Rattle.export_trie.specs.Strings.{begins, is_above, before_nul}
 use Rattle.export_trie.specs.Lookup.{data_at, child_at, step, walk, lookup}
 use Rattle.export_trie.specs.Trie.{names, export_at, answer, IsNode, AreNodes, is_child, children, data_of, child_bytes, node_bytes, starts, Agrees}
 use Rattle.export_trie.proofs.Walks.{begins_split, walk_more, walk_ends, child_found, child_more}
-use Rattle.export_trie.proofs.Strings.{In, in_from_Contains, Contains_from_in, all_in, all_from_in, in_map, from_map, in_filter, from_filter, find_some, find_none, any_true, begins_self, begins_append, begins_trans, begins_short, begins_edge, begins_parts, above_parts, above_from, common_self, common_left, Below, below_irrefl, below_asym, above_below, Rising, rising_from_sorted}
+use Rattle.list_lemmas.proofs.Members.{In, in_from_Contains, Contains_from_in, all_in, all_from_in, in_map, from_map, in_filter, from_filter, find_some, find_none, any_true}
+use Rattle.export_trie.proofs.Strings.{begins_self, begins_append, begins_trans, begins_short, begins_edge, begins_parts, above_parts, above_from, common_self, common_left, Below, below_irrefl, below_asym, above_below, Rising, rising_from_sorted}
 
 -- ---- edges hold no NUL
 

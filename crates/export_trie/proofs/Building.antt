@@ -9,7 +9,8 @@ use Rattle.export_trie.specs.declared.nodes.Node.{Node}
 use Rattle.export_trie.specs.Strings.{begins, common}
 use Rattle.export_trie.specs.Held.{text, texts, name_of, Fits, AreHeld, node_at, last_bytes, without_last, Closes, entered}
 use Rattle.export_trie.proofs.Walks.{begins_split}
-use Rattle.export_trie.proofs.Strings.{In, in_from_Contains, Contains_from_in, all_in, all_from_in, in_map, from_map, begins_self, begins_trans, begins_short, begins_shorter, common_self, common_left, common_right, Below, below_irrefl, below_asym, above_below, Rising, sorted_from_rising}
+use Rattle.list_lemmas.proofs.Members.{In, in_from_Contains, Contains_from_in, all_in, all_from_in, in_map, from_map}
+use Rattle.export_trie.proofs.Strings.{begins_self, begins_trans, begins_short, begins_shorter, common_self, common_left, common_right, Below, below_irrefl, below_asym, above_below, Rising, sorted_from_rising}
 use Rattle.export_trie.proofs.Entering.{begins_order, in_append_left, in_append_right, in_append_cases, rising_append, rising_left, rising_cross, IsNodeIn, NodesIn, first_of, Cut, Enters, entered as entered_nodes, entered_begin, entered_apart}
 
 -- ---- strings that begin one string

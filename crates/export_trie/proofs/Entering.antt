@@ -2,7 +2,8 @@
 use Rattle.std.proofs.Common.{◌≡◌, ℕ, suc, ◌<◌, ◌≤◌, ◌⊎◌, true, false, eqb, List, [], ◌∷◌, ◌++◌, length, refl, sym, ◌∙◌, ap, subst, inl, inr, arith}
 use Rattle.std.proofs.lemmas.Bool.{cases_Bool, cases_order, false_from_ne_true, eqb-true, eq-eqb, ne_eqb, false≢true, true≢false}
 use Rattle.export_trie.specs.Strings.{begins, common}
-use Rattle.export_trie.proofs.Strings.{In, all_in, all_from_in, begins_self, begins_trans, begins_short, begins_shorter, begins_parts, common_self, common_left, common_right, Below, below_irrefl, below_trans, below_asym, between_begins, Rising}
+use Rattle.list_lemmas.proofs.Members.{In, all_in, all_from_in}
+use Rattle.export_trie.proofs.Strings.{begins_self, begins_trans, begins_short, begins_shorter, begins_parts, common_self, common_left, common_right, Below, below_irrefl, below_trans, below_asym, between_begins, Rising}
 
 -- ---- byte order
 

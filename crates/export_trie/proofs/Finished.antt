@@ -19,7 +19,8 @@ use Rattle.export_trie.specs.Lookup.{lookup}
 use Rattle.export_trie.specs.Trie.{names, export_at, answer, IsNode, AreNodes, children, data_of, child_bytes, node_bytes, starts, Agrees, padded, IsTrie}
 use Rattle.export_trie.specs.Held.{AreBytes, held, held_names, rows_of, text, texts, name_of, Fits, AreHeld, at_places, HoldsChildren, node_at}
 use Rattle.export_trie.specs.Sizes.{IsBelow, AreBelow, AreLeast, export_held, IsSmall, child_len, children_len, node_len, node_lens, next_starts, held_child, row_bytes, held_node, held_bytes, sized}
-use Rattle.export_trie.proofs.Strings.{In, in_from_Contains, Contains_from_in, all_in, in_map, from_map, find_some, find_none, Below, below_irrefl, Rising, rising_from_sorted}
+use Rattle.list_lemmas.proofs.Members.{In, in_from_Contains, Contains_from_in, all_in, in_map, from_map, find_some, find_none}
+use Rattle.export_trie.proofs.Strings.{Below, below_irrefl, Rising, rising_from_sorted}
 use Rattle.export_trie.proofs.Reading.{text_read, length-texts}
 use Rattle.export_trie.proofs.Building.{length-text}
 use Rattle.export_trie.proofs.Parents.{in_get, get_in}

@@ -7,7 +7,8 @@ use Rattle.std.proofs.lemmas.List.Elements.{filter_more}
 use Rattle.export_trie.specs.Strings.{begins, is_above}
 use Rattle.export_trie.specs.Trie.{is_child, children}
 use Rattle.export_trie.specs.Held.{IsParent, at_places, HoldsChildren}
-use Rattle.export_trie.proofs.Strings.{In, all_in, any_true, any_from_in, begins_self, begins_shorter, above_parts, above_from, Below, below_irrefl, below_asym, above_below, between_begins, Rising}
+use Rattle.list_lemmas.proofs.Members.{In, all_in, any_true, any_from_in}
+use Rattle.export_trie.proofs.Strings.{begins_self, begins_shorter, above_parts, above_from, Below, below_irrefl, below_asym, above_below, between_begins, Rising}
 use Rattle.export_trie.proofs.Building.{shorter_front, all_append}
 
 -- ---- places

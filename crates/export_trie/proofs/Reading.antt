@@ -9,7 +9,8 @@ use Rattle.std.proofs.lemmas.List.{get_or-map, length-map, map-set}
 use Rattle.export_trie.specs.Strings.{begins}
 use Rattle.export_trie.specs.Held.{held, held_names, name_of, text, texts, AreHeld, rows_of}
 use Rattle.export_trie.proofs.Walks.{begins_is}
-use Rattle.export_trie.proofs.Strings.{In, in_from_Contains, Rising, rising_from_sorted}
+use Rattle.list_lemmas.proofs.Members.{In, in_from_Contains}
+use Rattle.export_trie.proofs.Strings.{Rising, rising_from_sorted}
 
 pub held_at : (references : List (Bor ExportAddress)) (i : ℕ) (r : Bor ExportAddress) → i < length references → HoldsAt (λ (other : Bor ExportAddress). r ≡ other) references i → slice_get (held references) i ≡ Some r.now
 held_at [] i r within is = absurd (omega arith)

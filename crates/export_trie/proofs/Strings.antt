@@ -1,6 +1,6 @@
--- Members of a list, and how strings begin one another.
-use Rattle.std.proofs.Common.{◌≡◌, ℕ, zero, suc, ◌<◌, ◌≤◌, ◌⊎◌, Bool, true, false, eqb, ltb, List, [], ◌∷◌, ◌++◌, length, drop, get_or, refl, sym, ◌∙◌, ap, subst, inl, inr, arith, Some, None, map, Contains}
-use Rattle.std.specs.List.{filter, find, list_any, AllByRecursion}
+-- How strings begin one another, and lists of strings that rise.
+use Rattle.std.proofs.Common.{◌≡◌, ℕ, ◌<◌, ◌≤◌, ◌⊎◌, true, eqb, ltb, List, [], ◌∷◌, ◌++◌, length, drop, refl, sym, ◌∙◌, ap, inl, inr, arith}
+use Rattle.std.specs.List.{AllByRecursion}
 use Rattle.std.specs.List.Sorted.{IsStrictlySortedBy}
 use Rattle.std.specs.Ordering.{nat_cmp, ordering_then}
 use Rattle.std.specs.Cmp.Lexicographic.{slice_cmp}
@@ -8,112 +8,6 @@ use Rattle.std.specs.declared.cmp.Ordering.{Ordering}
 use Rattle.std.specs.declared.cmp.Ordering.TheVariants.{Less, Equal, Greater}
 use Rattle.std.proofs.lemmas.Bool.{cases_order, ne_eqb, cases_Bool, and_parts, and_from, lt-ltb, ltb-true, le-ltb, eqb-true, eq-eqb, false≢true}
 use Rattle.export_trie.specs.Strings.{begins, is_above, common}
-
--- ---- members
-
--- x is one of the list
-abbrev pub In : {X : Type 0} → X → List X → Type 0
-In x [] = ⊥
-In x (y ∷ ys) = (y ≡ x) ⊎ In x ys
-
-in_at : {X : Type 0} (xs : List X) (x : X) (k : ℕ) → k < length xs → get_or xs k x ≡ x → In x xs
-in_at [] x k low e = absurd (omega arith)
-in_at (y ∷ ys) x zero low e = inl e
-in_at (y ∷ ys) x (suc k) low e = inr (in_at ys x k (omega arith) e)
-
-pub in_from_Contains : {X : Type 0} (xs : List X) (x : X) → Contains xs x → In x xs
-in_from_Contains xs x h = in_at xs x h.0 h.1 h.2
-
-pub Contains_from_in : {X : Type 0} (xs : List X) (x : X) → In x xs → Contains xs x
-Contains_from_in [] x h = absurd h
-Contains_from_in (y ∷ ys) x (inl e) = (0, omega arith, e)
-Contains_from_in (y ∷ ys) x (inr h) = let rest : Contains ys x = Contains_from_in ys x h in (suc rest.0, omega (arith, rest.1), rest.2)
-
-pub all_in : {X : Type 0} (P : X → Type 0) (xs : List X) (x : X) → AllByRecursion P xs → In x xs → P x
-all_in P [] x all h = absurd h
-all_in P (y ∷ ys) x all (inl e) = subst P e all.0
-all_in P (y ∷ ys) x all (inr h) = all_in P ys x all.1 h
-
-pub all_from_in : {X : Type 0} (P : X → Type 0) (xs : List X) → ((x : X) → In x xs → P x) → AllByRecursion P xs
-all_from_in P [] each = tt
-all_from_in P (y ∷ ys) each = (each y (inl refl), all_from_in P ys (λ x h. each x (inr h)))
-
-pub in_map : {X Y : Type 0} (f : X → Y) (xs : List X) (x : X) → In x xs → In (f x) (map f xs)
-in_map f [] x h = absurd h
-in_map f (y ∷ ys) x (inl e) = inl (ap f e)
-in_map f (y ∷ ys) x (inr h) = inr (in_map f ys x h)
-
-pub from_map : {X Y : Type 0} (f : X → Y) (xs : List X) (y : Y) → In y (map f xs) → (x : X) × In x xs × (f x ≡ y)
-from_map f [] y h = absurd h
-from_map f (x ∷ xs) y (inl e) = (x, inl refl, e)
-from_map f (x ∷ xs) y (inr h) = let rest = from_map f xs y h in (rest.0, inr rest.1, rest.2)
-
-pub in_filter : {X : Type 0} (t : X → Bool) (xs : List X) (x : X) → In x xs → t x ≡ true → In x (filter t xs)
-in_filter t [] x h passes = absurd h
-in_filter t (y ∷ ys) x (inl e) passes = let here : t y ≡ true = rw e passes in rw here (inl e)
-in_filter t (y ∷ ys) x (inr h) passes =
-    elim (cases_Bool (t y)) [
-      | inl here ↦ rw here (inr (in_filter t ys x h passes))
-      | inr away ↦ rw away (in_filter t ys x h passes)
-    ]
-
-kept : {X : Type 0} (t : X → Bool) (y : X) (ys : List X) (x : X) → (In x (filter t ys) → In x ys × (t x ≡ true)) → t y ≡ true → In x (y ∷ filter t ys) → In x (y ∷ ys) × (t x ≡ true)
-kept t y ys x rest here (inl e) = (inl e, rw (← e) here)
-kept t y ys x rest here (inr h) = (inr (rest h).0, (rest h).1)
-
-pub from_filter : {X : Type 0} (t : X → Bool) (xs : List X) (x : X) → In x (filter t xs) → In x xs × (t x ≡ true)
-from_filter t [] x h = absurd h
-from_filter t (y ∷ ys) x h =
-    elim (cases_Bool (t y)) [
-      | inl here ↦ kept t y ys x (from_filter t ys x) here (rw here at h)
-      | inr away ↦ let rest = from_filter t ys x (rw away at h) in (inr rest.0, rest.1)
-    ]
-
-pub find_some : {X : Type 0} (t : X → Bool) (xs : List X) (x : X) → find t xs ≡ Some x → In x xs × (t x ≡ true)
-find_some t [] x e = absurd (no_none x e)
-  where
-    no_none : {X : Type 0} (x : X) → None ≡ Some x → ⊥
-    no_none x e = cc
-find_some t (y ∷ ys) x e =
-    elim (cases_Bool (t y)) [
-      | inl here ↦ let same : y ≡ x = some_same y x (rw here at e) in (inl same, rw (← same) here)
-      | inr away ↦ let rest = find_some t ys x (rw away at e) in (inr rest.0, rest.1)
-    ]
-  where
-    some_same : {X : Type 0} (y x : X) → Some y ≡ Some x → y ≡ x
-    some_same y x e = cc
-
-no_some : {X : Type 0} (x : X) → Some x ≡ None → ⊥
-no_some x e = cc
-
-pub find_none : {X : Type 0} (t : X → Bool) (xs : List X) (x : X) → find t xs ≡ None → In x xs → t x ≡ false
-find_none t [] x e h = absurd h
-find_none t (y ∷ ys) x e h =
-    elim (cases_Bool (t y)) [
-      | inl here ↦ absurd (no_some y (rw here at e))
-      | inr away ↦ missed t y ys x away (find_none t ys x (rw away at e)) h
-    ]
-  where
-    missed : {X : Type 0} (t : X → Bool) (y : X) (ys : List X) (x : X) → t y ≡ false → (In x ys → t x ≡ false) → In x (y ∷ ys) → t x ≡ false
-    missed t y ys x away rest (inl e) = rw (← e) away
-    missed t y ys x away rest (inr h) = rest h
-
-pub any_true : {X : Type 0} (t : X → Bool) (xs : List X) → list_any t xs ≡ true → (x : X) × In x xs × (t x ≡ true)
-any_true t [] e = absurd (false≢true e)
-any_true t (y ∷ ys) e =
-    elim (cases_Bool (t y)) [
-      | inl here ↦ (y, inl refl, here)
-      | inr away ↦ let rest = any_true t ys (rw away at e) in (rest.0, inr rest.1, rest.2)
-    ]
-
-pub any_from_in : {X : Type 0} (t : X → Bool) (xs : List X) (x : X) → In x xs → t x ≡ true → list_any t xs ≡ true
-any_from_in t [] x h passes = absurd h
-any_from_in t (y ∷ ys) x (inl e) passes = let here : t y ≡ true = rw e passes in rw here refl
-any_from_in t (y ∷ ys) x (inr h) passes =
-    elim (cases_Bool (t y)) [
-      | inl here ↦ rw here refl
-      | inr away ↦ rw away (any_from_in t ys x h passes)
-    ]
 
 -- ---- strings
 

@@ -4,7 +4,8 @@ use Rattle.std.specs.List.{flat_map}
 use Rattle.std.proofs.Math.Nat.{le_antisymm}
 use Rattle.export_trie.specs.declared.export.ExportAddress.{ExportAddress}
 use Rattle.export_trie.specs.Trie.{is_child, children, child_bytes, node_bytes, Agrees, padded, IsTrie}
-use Rattle.export_trie.proofs.Strings.{In, in_from_Contains, Contains_from_in, all_in, from_filter, Below, below_irrefl, below_asym, Rising, rising_from_sorted}
+use Rattle.list_lemmas.proofs.Members.{In, in_from_Contains, Contains_from_in, all_in, from_filter}
+use Rattle.export_trie.proofs.Strings.{Below, below_irrefl, below_asym, Rising, rising_from_sorted}
 
 -- lists in order with the same members are one list
 rising_same : (xs ys : List (List ℕ)) → Rising xs → Rising ys → ((t : List ℕ) → In t xs → In t ys) → ((t : List ℕ) → In t ys → In t xs) → xs ≡ ys

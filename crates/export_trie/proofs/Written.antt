@@ -15,7 +15,8 @@ use Rattle.export_trie.specs.Strings.{begins, is_above, common}
 use Rattle.export_trie.specs.Trie.{names, IsNode, AreNodes, is_child, children}
 use Rattle.export_trie.specs.Sizes.{IsBelow, AreBelow}
 use Rattle.export_trie.specs.Held.{AreBytes, texts, AreHeld, at_places, HoldsChildren, node_at}
-use Rattle.export_trie.proofs.Strings.{In, in_from_Contains, Contains_from_in, all_in, all_from_in, in_map, from_filter, Below, below_trans, above_parts, above_from, any_from_in, begins_parts, begins_self, begins_short, begins_shorter, common_left, common_right, cmp_from_below, Rising, rising_from_sorted, sorted_from_rising}
+use Rattle.list_lemmas.proofs.Members.{In, in_from_Contains, Contains_from_in, all_in, all_from_in, in_map, from_filter, any_from_in}
+use Rattle.export_trie.proofs.Strings.{Below, below_trans, above_parts, above_from, begins_parts, begins_self, begins_short, begins_shorter, common_left, common_right, cmp_from_below, Rising, rising_from_sorted, sorted_from_rising}
 use Rattle.export_trie.proofs.Entering.{order_cases, not_begun}
 use Rattle.export_trie.proofs.Reading.{text_read, length-texts}
 use Rattle.export_trie.proofs.Building.{same_front, shorter_front, length-text, front_take}

@@ -1,0 +1,2 @@
+//! Lemmas of more than one crate, in `proofs/`: on the members of a list, on lists that rise in an order, and on ties of orders.
+#![tactic(auto)]
