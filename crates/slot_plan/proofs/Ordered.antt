@@ -21,7 +21,8 @@ use Rattle.slot_plan.specs.Slots.{AreSlots, needed, in_got, in_stubs}
 use Rattle.std.proofs.lemmas.List.Elements.{filter-append}
 use Rattle.std.proofs.lemmas.List.{map-append, take_more, take_all}
 use Rattle.slot_plan.specs.inner.Held.{held, held_needs, HasTheSame}
-use Rattle.slot_plan.proofs.Rising.{In, in_from_Contains, Contains_from_in, in_map, from_map, in_filter, from_filter, rising_map, rising_apart, rising_same, sorted_from_rising}
+use Rattle.list_lemmas.proofs.Members.{In, in_from_Contains, Contains_from_in, in_map, from_map, in_filter, from_filter}
+use Rattle.list_lemmas.proofs.Rising.{rising_map, rising_apart, rising_same, sorted_from_rising}
 
 abbrev pointed : Bor Goal → Goal
 pointed reference = reference.now
