@@ -1,14 +1,17 @@
 -- The order of atoms is a total one that ties just the same atoms, and what searches by it find.
 use Rattle.std.proofs.Common.{◌≡◌, ℕ, zero, suc, ◌+◌, ◌<◌, ◌≤◌, ◌⊎◌, Bool, true, false, List, [], ◌∷◌, length, get_or, refl, sym, ap, subst, ◌∙◌, inl, inr, arith, Some, None}
-use Rattle.std.specs.List.{AllAdjacentBelow, AllByRecursion, HoldsAt, find}
+use Rattle.std.specs.List.{AllAdjacentBelow, HoldsAt, find}
 use Rattle.std.specs.List.Sorted.{IsStrictlySortedBy, IsSorted, IsNonDecreasingBy, IsPartitionPoint}
 use Rattle.std.specs.declared.cmp.Ordering.{Ordering}
 use Rattle.std.specs.declared.cmp.Ordering.TheVariants.{Less, Equal, Greater}
-use Rattle.std.specs.Ordering.{nat_cmp, on, is_lt, is_eq, ordering_reverse, ordering_then, ordering_index, MatchOrdering}
+use Rattle.std.specs.Ordering.{nat_cmp, on, is_lt, is_eq, ordering_reverse, ordering_then, ordering_index}
 use Rattle.std.specs.Cmp.{IsTotalOrder}
 use Rattle.std.proofs.lemmas.Bool.{cases_lt}
-use Rattle.std.proofs.lemmas.Cmp.{nat_cmp_total, on_total, then_total, tied_itself, ranked}
+use Rattle.std.proofs.lemmas.Cmp.{nat_cmp_total, on_total, then_total, tied_itself}
 use Rattle.std.proofs.lemmas.List.Sorted.{searchable_from_sorted}
+use Rattle.list_lemmas.proofs.Members.{all_at, all_weaker}
+use Rattle.list_lemmas.proofs.Rising.{rising_at}
+use Rattle.list_lemmas.proofs.Ties.{tied_first, tied_second, same_number}
 use Rattle.mo_types.specs.declared.key.AtomKey.{AtomKey}
 use Rattle.mo_types.specs.declared.key.FileId.{FileId}
 use Rattle.mo_types.specs.Keys.{compare_files, compare_keys}
@@ -17,24 +20,6 @@ pub compare_keys_total : IsTotalOrder compare_keys
 compare_keys_total = then_total
     (on_total (λ (k : AtomKey). k.file) (then_total (on_total (λ (f : FileId). f.position) nat_cmp_total) (on_total (λ (f : FileId). f.member) nat_cmp_total)))
     (then_total (on_total (λ (k : AtomKey). k.section) nat_cmp_total) (on_total (λ (k : AtomKey). k.offset) nat_cmp_total))
-
-tied_first : (a b : Ordering) → ordering_then a b ≡ Equal → a ≡ Equal
-tied_first Less b e = e
-tied_first Equal b e = refl
-tied_first Greater b e = e
-
-tied_second : (a b : Ordering) → ordering_then a b ≡ Equal → b ≡ Equal
-tied_second Less b e = cc
-tied_second Equal b e = e
-tied_second Greater b e = cc
-
-same_number : (x y : ℕ) → nat_cmp x y ≡ Equal → x ≡ y
-same_number x y e = same (nat_cmp x y) e (ranked x y (nat_cmp x y) refl)
-  where
-    same : (r : Ordering) → r ≡ Equal → MatchOrdering r (x < y) (x ≡ y) (y < x) → x ≡ y
-    same Less e m = cc
-    same Equal e m = m
-    same Greater e m = cc
 
 abbrev key_of : ℕ → ℕ → ℕ → ℕ → AtomKey
 key_of p m s o = record { file = record { position = p; member = m }; section = s; offset = o }
@@ -54,20 +39,6 @@ same_key a b e =
     joined p m s o p' m' s' o' e f g h = rw (e, f, g, h) refl
 
 -- ---- searches
-
-all_at : {X : Type 0} (P : X → Type 0) (xs : List X) (k : ℕ) (d : X) → AllByRecursion P xs → k < length xs → P (get_or xs k d)
-all_at P [] k d all h = absurd (omega arith)
-all_at P (y ∷ ys) zero d all h = all.0
-all_at P (y ∷ ys) (suc k) d all h = all_at P ys k d all.1 (omega arith)
-
--- an element is below each later one
-rising_at : {K : Type 0} (R : K → K → Ordering) (xs : List K) (i j : ℕ) (d : K) → IsStrictlySortedBy R xs → i < j → j < length xs → R (get_or xs i d) (get_or xs j d) ≡ Less
-unfolding IsStrictlySortedBy
-rising_at R [] i j d h low high = absurd (omega arith)
-rising_at R (x ∷ xs) zero zero d h low high = absurd (omega arith)
-rising_at R (x ∷ xs) zero (suc j) d h low high = all_at (λ y. R x y ≡ Less) xs j d h.0 (omega arith)
-rising_at R (x ∷ xs) (suc i) zero d h low high = absurd (omega arith)
-rising_at R (x ∷ xs) (suc i) (suc j) d h low high = rising_at R xs i j d h.1 (omega arith) (omega arith)
 
 pub sorted_from_rising : {K : Type 0} {R : K → K → Ordering} (o : IsTotalOrder R) (xs : List K) → IsStrictlySortedBy R xs → IsSorted R xs
 sorted_from_rising {R = R} o xs h = λ k d low high.
@@ -137,10 +108,6 @@ find_has {X = X} key P (y ∷ ys) k x e all =
     by rest false is = rest (rw is at e)
 
 -- ---- a list that was tested element by element
-
-all_weaker : {X : Type 0} (P Q : X → Type 0) → ((x : X) → P x → Q x) → (xs : List X) → AllByRecursion P xs → AllByRecursion Q xs
-all_weaker P Q f [] all = tt
-all_weaker P Q f (x ∷ xs) all = (f x all.0, all_weaker P Q f xs all.1)
 
 pub rises : {K : Type 0} {R : K → K → Ordering} (o : IsTotalOrder R) (xs : List K) → AllAdjacentBelow (λ x y. R x y ≡ Less) xs (length xs) → IsStrictlySortedBy R xs
 unfolding IsStrictlySortedBy

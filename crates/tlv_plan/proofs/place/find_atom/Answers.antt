@@ -1,4 +1,4 @@
-use Rattle.std.proofs.Common.{rules, Some, sym, ap, ◌∙◌}
+use Rattle.std.proofs.Common.{rules, sym}
 use Rattle.std.proofs.lemmas.Fn.{always_returns_same}
 use Rattle.mo_types.specs.declared.atom.Atom.{Atom}
 use Rattle.mo_types.specs.Keys.{compare_keys}
