@@ -1,6 +1,7 @@
 use crate::{Command, InputForm, UsageFault, paths_for, read_all_words, read_list, read_words};
-use mo_types::{Arg, ArgList, Bytes, Feature, Items, NameList, ObjFault, OutOfMemory};
+use mo_types::{Arg, ArgList, Bytes, Feature, Items, NameList, ObjFault, OutOfMemory, UsageRule};
 use std::alloc::Global;
+use std::process::Abort;
 use std::test::Fail;
 
 // Each row ends in the words of a command line, with a space between any two.
@@ -215,28 +216,6 @@ fn arg_list(alloc: Global, text: &str) -> Result<ArgList, OutOfMemory> {
     Ok(words)
 }
 
-// The number and the rule of the word at fault, or nothing.
-fn fault_text(alloc: Global, read: Result<Command, UsageFault>) -> Result<String, Fail> {
-    match read {
-        Err(UsageFault::At { word, rule }) => {
-            let rule = rule.as_str();
-            Ok(format!(in alloc; "{word} {rule}")?)
-        }
-        Err(UsageFault::OutOfMemory) => Err(Fail::from("out of memory")),
-        Ok(_) => Ok(String::new(alloc)),
-    }
-}
-
-fn has_fault(alloc: Global, expected: &str, text: &str) -> Result<bool, Fail> {
-    let words = arg_list(alloc, text)?;
-    Ok(fault_text(alloc, read_all_words(alloc, &words))?.as_str() == expected)
-}
-
-fn has_linked_fault(alloc: Global, expected: &str, text: &str) -> Result<bool, Fail> {
-    let words = arg_list(alloc, text)?;
-    Ok(fault_text(alloc, read_words(alloc, &words))?.as_str() == expected)
-}
-
 fn add_list(text: &mut Vec<u8>, label: &[u8], list: &NameList) -> Result<(), OutOfMemory> {
     for name in list.as_slice() {
         text.extend_from_slice(label)?;
@@ -315,28 +294,15 @@ fn shown(alloc: Global, command: &Command) -> Result<Vec<u8>, OutOfMemory> {
     Ok(text)
 }
 
-fn is_shown(alloc: Global, expected: &str, text: &str) -> Result<bool, OutOfMemory> {
-    let words = arg_list(alloc, text)?;
-    match read_all_words(alloc, &words) {
-        Ok(command) => Ok(shown(alloc, &command)?.as_slice() == expected.as_bytes()),
-        Err(_) => Ok(false),
-    }
-}
-
-fn numbers(alloc: Global, command: &Command) -> Result<String, Fail> {
+fn numbers(alloc: Global, command: &Command) -> Result<Vec<u8>, OutOfMemory> {
     let (min, sdk) = (command.min, command.sdk);
     let (current, compatible) = (command.current, command.compatible);
     let (pad, threads) = (command.headerpad, command.threads);
     let (reach, made) = (command.reach, command.generate);
-    Ok(format!(in alloc; "{min} {sdk} {current} {compatible} {pad} {threads} {reach} {made}")?)
-}
-
-fn has_numbers(alloc: Global, expected: &str, text: &str) -> Result<bool, Fail> {
-    let words = arg_list(alloc, text)?;
-    match read_all_words(alloc, &words) {
-        Ok(command) => Ok(numbers(alloc, &command)?.as_str() == expected),
-        Err(_) => Ok(false),
-    }
+    let text = format!(in alloc;
+        "{min} {sdk} {current} {compatible} {pad} {threads} {reach} {made}"
+    )?;
+    Ok(text.into_bytes())
 }
 
 // The paths of all inputs: a comma between those of one, and a space between inputs.
@@ -364,12 +330,63 @@ fn add_joined(text: &mut Vec<u8>, list: &NameList) -> Result<(), OutOfMemory> {
     Ok(())
 }
 
-fn has_paths(alloc: Global, expected: &str, text: &str) -> Result<bool, OutOfMemory> {
-    let words = arg_list(alloc, text)?;
-    match read_all_words(alloc, &words) {
-        Ok(command) => Ok(all_paths(alloc, &command)?.as_slice() == expected.as_bytes()),
-        Err(_) => Ok(false),
+// What of a command a row tells.
+#[derive(Clone, Copy)]
+enum Told {
+    Texts,
+    Numbers,
+    Paths,
+    Counts,
+}
+
+fn command_text(alloc: Global, told: Told, command: &Command) -> Result<Vec<u8>, OutOfMemory> {
+    match told {
+        Told::Texts => shown(alloc, command),
+        Told::Numbers => numbers(alloc, command),
+        Told::Paths => all_paths(alloc, command),
+        Told::Counts => counts(alloc, command),
     }
+}
+
+fn counts(alloc: Global, command: &Command) -> Result<Vec<u8>, OutOfMemory> {
+    let (inputs, folders) = (command.inputs.len(), command.library_dirs.len());
+    Ok(format!(in alloc; "{inputs} {folders}")?.into_bytes())
+}
+
+// The number and the rule of the word at fault.
+fn fault_text(alloc: Global, word: u64, rule: UsageRule) -> Result<Vec<u8>, OutOfMemory> {
+    let rule = rule.as_str();
+    Ok(format!(in alloc; "{word} {rule}")?.into_bytes())
+}
+
+// What is told of a command, or its fault.
+fn text_of(
+    alloc: Global,
+    told: Told,
+    read: &Result<Command, UsageFault>,
+) -> Result<Vec<u8>, OutOfMemory> {
+    match read {
+        Ok(command) => command_text(alloc, told, command),
+        Err(UsageFault::At { word, rule }) => fault_text(alloc, *word, *rule),
+        Err(UsageFault::OutOfMemory) => Err(OutOfMemory),
+    }
+}
+
+fn tells(alloc: Global, told: Told, read: &Result<Command, UsageFault>, expected: &str) -> bool {
+    match text_of(alloc, told, read) {
+        Ok(text) => text.as_slice() == expected.as_bytes(),
+        Err(_) => false,
+    }
+}
+
+fn all_tell(alloc: Global, told: Told, words: &ArgList, expected: &str) -> bool {
+    let read = read_all_words(alloc, words);
+    tells(alloc, told, &read, expected)
+}
+
+fn link_tells(alloc: Global, told: Told, words: &ArgList, expected: &str) -> bool {
+    let read = read_words(alloc, words);
+    tells(alloc, told, &read, expected)
 }
 
 // The names of a list with a comma between any two, or what the list isn't read for.
@@ -387,39 +404,37 @@ fn has_names(alloc: Global, bytes: &[u8], expected: &[u8]) -> Result<bool, OutOf
     Ok(list_text(alloc, bytes)?.as_slice() == expected)
 }
 
+fn check_rows(rt: &(impl Abort + AllocGlobal), told: Told, rows: &str) -> Result<(), Fail> {
+    for row in rows.lines() {
+        let (expected, text) = row.split_once('\t').unwrap_or((row, ""));
+        let words = arg_list(rt.alloc(), text)?;
+        assert!(rt; all_tell(rt.alloc(), told, &words, expected), "{text}");
+    }
+    Ok(())
+}
+
 #[test]
 fn usage_words(rt: HostRuntime) -> Result<(), Fail> {
     for row in LINKED.lines() {
-        let (expected, words) = row.split_once('\t').unwrap_or((row, ""));
-        assert!(rt; has_linked_fault(rt.alloc(), expected, words)?);
+        let (expected, text) = row.split_once('\t').unwrap_or((row, ""));
+        let words = arg_list(rt.alloc(), text)?;
+        assert!(rt;
+            link_tells(rt.alloc(), Told::Texts, &words, expected),
+            "{text}"
+        );
     }
-    for row in FAULTS.lines() {
-        let (expected, words) = row.split_once('\t').unwrap_or((row, ""));
-        assert!(rt; has_fault(rt.alloc(), expected, words)?);
-    }
-    Ok(())
+    check_rows(&rt, Told::Texts, FAULTS)
 }
 
 #[test]
 fn options(rt: HostRuntime) -> Result<(), Fail> {
-    for row in COMMANDS.lines() {
-        let (expected, words) = row.split_once('\t').unwrap_or((row, ""));
-        assert!(rt; is_shown(rt.alloc(), expected, words)?);
-    }
-    for row in NUMBERS.lines() {
-        let (expected, words) = row.split_once('\t').unwrap_or((row, ""));
-        assert!(rt; has_numbers(rt.alloc(), expected, words)?);
-    }
-    Ok(())
+    check_rows(&rt, Told::Texts, COMMANDS)?;
+    check_rows(&rt, Told::Numbers, NUMBERS)
 }
 
 #[test]
 fn sdk_hello(rt: HostRuntime) -> Result<(), Fail> {
-    for row in PATHS.lines() {
-        let (expected, words) = row.split_once('\t').unwrap_or((row, ""));
-        assert!(rt; has_paths(rt.alloc(), expected, words)?);
-    }
-    Ok(())
+    check_rows(&rt, Told::Paths, PATHS)
 }
 
 // Lists, and thousands of words and of lines.
@@ -439,21 +454,19 @@ fn lists(rt: HostRuntime) -> Result<(), Fail> {
     ] {
         assert!(rt; has_names(rt.alloc(), bytes, expected)?);
     }
-    assert!(rt; many_words(rt.alloc(), 5000)?);
+    let words = many_words(rt.alloc(), 5000)?;
+    assert!(rt; all_tell(rt.alloc(), Told::Counts, &words, "5000 5000"));
     assert!(rt; many_lines(rt.alloc(), 5000)?);
     Ok(())
 }
 
-fn many_words(alloc: Global, count: usize) -> Result<bool, OutOfMemory> {
+fn many_words(alloc: Global, count: usize) -> Result<ArgList, OutOfMemory> {
     let mut words = Items::new(alloc);
     for _ in 0..count {
         words.push(Arg::new(String::from_str(alloc, "a.o")?))?;
         words.push(Arg::new(String::from_str(alloc, "-L/d")?))?;
     }
-    match read_all_words(alloc, &words) {
-        Ok(command) => Ok(command.inputs.len() == count && command.library_dirs.len() == count),
-        Err(_) => Ok(false),
-    }
+    Ok(words)
 }
 
 fn many_lines(alloc: Global, count: usize) -> Result<bool, OutOfMemory> {
