@@ -1,12 +1,12 @@
 -- The chains of the index.
-use Rattle.std.proofs.Common.{◌≡◌, ℕ, ◌+◌, ◌<◌, ◌≤◌, List, ◌∷◌, length, map, drop, get_or, slice_get, true, false, Bool, inl, inr, subst, Option, Some, None, refl, sym, ap, ◌∙◌, arith, add-one, drop-cons}
+use Rattle.std.proofs.Common.{◌≡◌, ℕ, ◌+◌, ◌<◌, ◌≤◌, List, ◌∷◌, length, map, drop, get_or, slice_get, true, false, Bool, inl, inr, subst, Option, Some, None, IfSome, refl, sym, ap, ◌∙◌, arith, add-one, drop-cons}
 use Rattle.std.proofs.lemmas.List.{drop_all, drop-map, length-map, get_or-map, get_or-set_same, get_or-set_other}
 use Rattle.std.proofs.Math.ListN.{set, length-set}
 use Rattle.std.proofs.lemmas.Bool.{cases_eq}
 use Rattle.std.proofs.lemmas.Option.{slice_get_cases, slice_get-get_or}
 use Rattle.std.proofs.lemmas.Slice.Eq.{bytes_eq-Decides}
 use Rattle.std.specs.Str.{bytes_eq}
-use Rattle.mo_ar.specs.inner.Index.{BeginsAt, IsChained, IsHead, IsIndex, IsLinked, bucket, name_at, offers_of}
+use Rattle.mo_ar.specs.inner.Index.{BeginsAt, IsChained, IsHead, IsIndex, IsEntry, IsLinked, StandsAt, bucket, name_at, offers_of}
 use Rattle.mo_ar.specs.Offers.{first_offer, lesser}
 use Rattle.mo_ar.specs.inner.Index.{offer_of}
 use Rattle.mo_ar.specs.Text.{part}
@@ -83,6 +83,19 @@ name_of_entry strings entries i d within =
 pub ruleset finds = (find_starts, find_goes_on, find_ends, find_finds, as_many)
 
 pub ruleset names = (name_of_entry)
+
+some_size : (a b : ℕ) → Some a ≡ Some b → a ≡ b
+some_size a b e = cc
+
+-- what stands at one place is one name
+pub name_there : (strings name : List ℕ) (entry : Entry) (place : Option ℕ) → IsEntry strings entry → IfSome place (StandsAt strings name) → place ≡ Some entry.at → true ≡ bytes_eq (part strings entry.at entry.size) name
+name_there strings name entry place is stands same =
+    let at : StandsAt strings name entry.at = subst (λ (p : Option ℕ). IfSome p (StandsAt strings name)) same stands in
+    let size : length name ≡ entry.size = some_size (length name) entry.size (sym at.0 ∙ is.ends) in
+    let equal : part strings entry.at entry.size ≡ name = ap (part strings entry.at) (sym size) ∙ sym at.1 in
+    sym ((bytes_eq-Decides (part strings entry.at entry.size) name).1 equal)
+
+pub ruleset places = (name_there)
 
 entry_there : (entries : List Entry) (i : ℕ) (d : Entry) → i < length entries → drop i entries ≡ get_or entries i d ∷ drop (i + 1) entries
 entry_there entries i d within = rw (drop-cons entries i d, add-one) refl

@@ -6,5 +6,4 @@ pub mod LawLemmas
 pub mod LeastLemmas
 pub mod PlaceLemmas
 pub mod SliceLemmas
-pub mod StringLemmas
 pub mod TextLemmas

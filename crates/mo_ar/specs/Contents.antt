@@ -3,7 +3,7 @@
 -- member's header in the file.
 use Rattle.std.specs.Prelude.{ℕ, ◌+◌, ◌*◌, ◌/◌, ◌%◌, ◌==◌, ◌&&◌, ◌||◌, Bool, nat_le, List, length, drop, codes, Option, Some, None, Result, Ok, Err, if◌then◌else◌}
 use Rattle.std.specs.Str.{bytes_eq}
-use Rattle.memchr.specs.Find.{is_byte, places, first_of}
+use Rattle.mo_strings.specs.Strings.{first_nul}
 use Rattle.mo_bytes.specs.Number.{number}
 use Rattle.mo_types.specs.Gives.{each_from}
 use Rattle.mo_types.specs.declared.cause.Rule.TheVariants.{Contents}
@@ -22,10 +22,6 @@ SYMDEF_SORTED = codes "__.SYMDEF SORTED"
 
 abbrev pub is_contents : List ℕ → Bool
 is_contents name = bytes_eq name SYMDEF || bytes_eq name SYMDEF_SORTED
-
--- the place of the first NUL
-unfoldable pub first_nul : List ℕ → Option ℕ
-first_nul bytes = first_of (places (is_byte 0) bytes)
 
 -- the bytes of the pairs, of 8 bytes each
 abbrev pub pairs_size : List ℕ → ℕ

@@ -15,6 +15,7 @@ use crate::contents::{FAULT, entries_of, is_contents, is_whole, strings_part};
 use crate::member::{Member, MemberList, member_at, next_of};
 use crate::offer_list::OfferList;
 use crate::places::numbered;
+use mo_strings::Strings;
 use mo_types::{Bytes, Feature, ObjFault, Rule, Which};
 use std::alloc::Global;
 
@@ -107,9 +108,10 @@ fn offers_in(
         return Err(FAULT);
     }
     let cells = numbered(alloc, places, size)?;
-    let entries = entries_of(alloc, table.as_slice(), cells.as_slice(), places)?;
-    let strings = strings_part(table)?;
-    Ok(OfferList::from_entries(alloc, strings, entries)?)
+    let names = strings_part(table)?;
+    let strings = Strings::new(alloc, strings_part(table)?)?;
+    let entries = entries_of(alloc, table.as_slice(), &strings, cells.as_slice(), places)?;
+    Ok(OfferList::from_entries(alloc, names, entries)?)
 }
 
 fn offered(

@@ -13,7 +13,7 @@ ghost use Rattle.mo_ar.specs.inner.Tables.{IsNumbered};
 use crate::offers::Entry;
 use crate::places::number_of;
 use byteorder::{ByteOrder, LittleEndian};
-use memchr::memchr;
+use mo_strings::Strings;
 use mo_types::{Bytes, ObjFault, OutOfMemory, Rule};
 use std::alloc::Global;
 
@@ -62,49 +62,18 @@ pub fn is_whole(table: &[u8]) -> bool
 #[tactic(auto, unfolding(crate::specs::Contents::strings_of))]
 pub fn strings_part(table: &Bytes) -> Result<Bytes, OutOfMemory>
     requires { IsTable table.now }
-    ensures { IfOk result (λ strings. strings ≡ contents.strings_of table.now) }
+    ensures value { IfOk result (λ strings. strings ≡ contents.strings_of table.now) }
+    ensures few { IfOk result (λ strings. length strings < 2 ^ 32) }
 {
     let pairs = number(table.as_slice(), 0) as usize;
     let size = number(table.as_slice(), 4 + pairs) as usize;
     table.part(8 + pairs, size)
 }
 
-// The strings of a table.
-#[tactic(auto, unfolding(crate::specs::Contents::strings_of))]
-fn strings_of(table: &[u8]) -> &[u8]
-    requires { IsTable table.now }
-    ensures value { result.now ≡ contents.strings_of table.now }
-    ensures few { length result.now < 2 ^ 32 }
-{
-    let pairs = number(table, 0) as usize;
-    let size = number(table, 4 + pairs) as usize;
-    &table[8 + pairs..8 + pairs + size]
-}
-
-#[tactic(auto, using(crate::proofs::StringLemmas::nuls), unfolding(crate::specs::Contents::first_nul))]
-fn first_nul(bytes: &[u8]) -> Option<usize>
-    ensures value { result ≡ contents.first_nul bytes.now }
-    ensures within { IfSome result (λ at. at < length bytes.now) }
-{
-    memchr(0, bytes)
-}
-
-// How long the string is that begins at a place and ends before a NUL.
-#[tactic(auto, using(crate::proofs::StringLemmas::strings))]
-fn string_len(strings: &[u8], at: usize) -> Option<usize>
-    ensures value { result ≡ contents.first_nul (drop at strings.now) }
-    ensures within { IfSome result (λ size. at + size < length strings.now) }
-{
-    if strings.len() < at {
-        return None;
-    }
-    first_nul(&strings[at..])
-}
-
 #[tactic(auto, unfolding(crate::specs::Contents::offer_at, crate::specs::Contents::ran_strx, crate::specs::Contents::ran_off))]
 fn entry_at(
     table: &[u8],
-    strings: &[u8],
+    strings: &Strings,
     cells: &[u32],
     places: &[usize],
     i: usize,
@@ -118,7 +87,7 @@ fn entry_at(
     ensures within { IfSome result (IsEntry strings.now) }
 {
     let at = number(table, 4 + 8 * i);
-    let size = string_len(strings, at as usize)?;
+    let size = strings.size_at(at as usize)?;
     let member = number_of(cells, places, number(table, 8 + 8 * i) as usize)?;
     Some(Entry {
         at,
@@ -132,17 +101,19 @@ fn entry_at(
 pub fn entries_of(
     alloc: Global,
     table: &[u8],
+    strings: &Strings,
     cells: &[u32],
     places: &[usize],
 ) -> Result<Vec<Entry>, ObjFault>
     requires table { IsTable table.now }
+    requires strings { strings.now ≡ contents.strings_of table.now }
+    requires few { length strings.now < 2 ^ 32 }
     requires whole { contents.is_whole table.now ≡ true }
     requires numbered { IsNumbered cells.now places.now }
     ensures exact { GivesEntries (λ entries. entries.items) (contents.strings_of table.now) result (contents.offers_in table.now places.now) }
     ensures within { IfOk result (λ entries. All (IsEntry (contents.strings_of table.now)) entries.items) }
     ensures few { IfOk result (λ entries. length entries.items < 2 ^ 32) }
 {
-    let strings = strings_of(table);
     let count = number(table, 0) as usize / 8;
     let mut entries = Vec::with_capacity(alloc, count)?;
     for i in 0..count {

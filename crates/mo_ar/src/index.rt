@@ -1,39 +1,45 @@
 //! The index of offers by name.
 
-ghost use Rattle.std.specs.Prelude.{◌≡◌, ◌+◌, ◌*◌, ◌%◌, ◌^◌, ◌<◌, ◌≤◌, length, map, drop, slice_index, All, IfOk, Some};
+ghost use Rattle.std.specs.Prelude.{◌≡◌, ◌+◌, ◌*◌, ◌%◌, ◌^◌, ◌<◌, ◌≤◌, length, All, IfOk, IfSome, drop};
 ghost use Rattle.std.specs.Str.{bytes_eq};
 ghost use Rattle.mo_ar.specs.inner.Index as index;
-ghost use Rattle.mo_ar.specs.inner.Index.{BeginsAt, IsChained, IsIndex, IsIndexOf, offers_of};
+ghost use Rattle.mo_ar.specs.inner.Hash.{AreMarks};
+ghost use Rattle.mo_ar.specs.inner.Index.{BeginsAt, IsChained, IsIndex, IsIndexOf, StandsAt, offers_of};
 ghost use Rattle.mo_ar.specs.Offers as offers;
 ghost use Rattle.mo_ar.specs.Offers.{first_offer};
 ghost use Rattle.mo_ar.specs.inner.Index.{IsEntry};
 ghost use Rattle.mo_ar.specs.inner.Index.{offer_of};
 ghost use Rattle.mo_ar.specs.Text.{part};
 
+use crate::hash::{hash, hash_at, marks_of};
 use crate::offers::Entry;
 use mo_types::OutOfMemory;
 use std::alloc::Global;
 
-#[tactic(auto, using(crate::proofs::HashLemmas::hashes), unfolding(crate::specs::inner::Index::hash_from))]
-fn hash(name: &[u8]) -> u64
-    ensures { result ≡ index.hash_from 0 name.now }
-{
-    let mut hash = 0;
-    for byte in name {
-        hash = (hash * 33 + u64::from(*byte)) % 0x1_0000_0000;
-    }
-    hash
-}
-
-/// The bucket of a name, of some buckets.
+// The bucket of a name, of some buckets.
 #[tactic(auto, unfolding(crate::specs::inner::Index::bucket))]
-pub fn bucket(name: &[u8], count: usize) -> usize
+fn bucket(name: &[u8], count: usize) -> usize
     requires { 0 < count }
     ensures exact { result ≡ index.bucket count name.now }
     ensures within { result < count }
 {
     hash(name) as usize % count
 }
+
+// The bucket of an entry's name, of some buckets.
+#[tactic(auto, unfolding(crate::specs::inner::Index::bucket))]
+fn bucket_at(strings: &[u8], marks: &[u64], entry: Entry, count: usize) -> usize
+    requires some { 0 < count }
+    requires entry { IsEntry strings.now entry }
+    requires marks { AreMarks strings.now marks.now }
+    ensures exact { result ≡ index.bucket count (part strings.now entry.at entry.size) }
+    ensures within { result < count }
+{
+    hash_at(strings, marks, entry.at as usize, entry.size as usize) as usize % count
+}
+
+// Names of at most so many bytes are hashed without marks.
+const LONG: u32 = 128;
 
 /// The name of an entry.
 pub fn name_of(strings: &[u8], entry: Entry) -> &[u8]
@@ -43,14 +49,28 @@ pub fn name_of(strings: &[u8], entry: Entry) -> &[u8]
     &strings[entry.at as usize..][..entry.size as usize]
 }
 
+// Whether an entry has a name, which is known to stand at a place or isn't. At its own place nothing is compared.
+#[tactic(auto, using(crate::proofs::IndexLemmas::places))]
+fn is_named(strings: &[u8], entry: Entry, name: &[u8], place: Option<u32>) -> bool
+    requires entry { IsEntry strings.now entry }
+    requires place { IfSome place (StandsAt strings.now name.now) }
+    ensures { result ≡ bytes_eq (part strings.now entry.at entry.size) name.now }
+{
+    if place == Some(entry.at) {
+        return true;
+    }
+    name_of(strings, entry) == name
+}
+
 // Whether the offer at an index has a name.
 #[tactic(auto, using(crate::proofs::IndexLemmas::names))]
-fn is_name(strings: &[u8], entries: &[Entry], at: usize, name: &[u8]) -> bool
+fn is_name(strings: &[u8], entries: &[Entry], at: usize, name: &[u8], place: Option<u32>) -> bool
     requires entries { All (IsEntry strings.now) entries.now }
     requires index { at < length entries.now }
+    requires place { IfSome place (StandsAt strings.now name.now) }
     ensures { result ≡ bytes_eq (index.name_at (offers_of strings.now entries.now) at) name.now }
 {
-    name_of(strings, entries[at]) == name
+    is_named(strings, entries[at], name, place)
 }
 
 // The least number of a member that the offers from an index on give a name, where the bucket of the name goes
@@ -62,17 +82,19 @@ fn find(
     nexts: &[u32],
     bests: &[u32],
     name: &[u8],
+    place: Option<u32>,
     count: usize,
     from: usize,
 ) -> Option<u32>
     requires entries { All (IsEntry strings.now) entries.now }
     requires chained { IsChained count (offers_of strings.now entries.now) from nexts.now bests.now }
+    requires place { IfSome place (StandsAt strings.now name.now) }
     requires begins { BeginsAt count (offers_of strings.now entries.now) name.now from }
     ensures { result ≡ first_offer name.now (drop from (offers_of strings.now entries.now)) }
 {
     let mut at = from;
     while at < entries.len() {
-        if is_name(strings, entries, at, name) {
+        if is_name(strings, entries, at, name, place) {
             return Some(bests[at]);
         }
         at = nexts[at] as usize;
@@ -93,6 +115,7 @@ fn lesser(member: u32, other: Option<u32>) -> u32
 #[tactic(auto, using(crate::proofs::IndexLemmas::puts))]
 fn put(
     strings: &[u8],
+    marks: &[u64],
     entries: &[Entry],
     heads: &mut [u32],
     nexts: &mut [u32],
@@ -100,6 +123,7 @@ fn put(
     at: usize,
 )
     requires entries { All (IsEntry strings.now) entries.now }
+    requires marks { AreMarks strings.now marks.now }
     requires place { at < length entries.now }
     requires few { length entries.now < 2 ^ 32 }
     requires index { IsIndex (length heads.old) (offers_of strings.now entries.now) (at + 1) heads.old nexts.old bests.old }
@@ -108,9 +132,19 @@ fn put(
     let entry = entries[at];
     let name = name_of(strings, entry);
     let count = heads.len();
-    let b = bucket(name, count);
+    let b = bucket_at(strings, marks, entry, count);
     let head = heads[b];
-    let rest = find(strings, entries, nexts, bests, name, count, head as usize);
+    let place = Some(entry.at);
+    let rest = find(
+        strings,
+        entries,
+        nexts,
+        bests,
+        name,
+        place,
+        count,
+        head as usize,
+    );
     bests[at] = lesser(entry.member, rest);
     nexts[at] = head;
     heads[b] = at as u32;
@@ -124,6 +158,17 @@ pub struct Index {
     bests: Vec<u32>,
 }
 
+// Marks for the hashes of names, if some name is long.
+fn marks_for(alloc: Global, strings: &[u8], entries: &[Entry]) -> Result<Vec<u64>, OutOfMemory>
+    ensures { IfOk result (λ marks. AreMarks strings.now marks.items) }
+{
+    if entries.iter().any(|entry| entry.size > LONG) {
+        marks_of(alloc, strings)
+    } else {
+        Ok(Vec::new(alloc))
+    }
+}
+
 /// The index of some offers.
 #[tactic(auto, using(crate::proofs::IndexLemmas::builds))]
 pub fn index_of(alloc: Global, strings: &[u8], entries: &[Entry]) -> Result<Index, OutOfMemory>
@@ -131,6 +176,7 @@ pub fn index_of(alloc: Global, strings: &[u8], entries: &[Entry]) -> Result<Inde
     requires few { length entries.now < 2 ^ 32 }
     ensures { IfOk result (IsIndexOf (offers_of strings.now entries.now)) }
 {
+    let marks = marks_for(alloc, strings, entries)?;
     let count = entries.len();
     let mut heads = vec![in alloc; count as u32; count + 1]?;
     let mut nexts = vec![in alloc; 0; count]?;
@@ -140,6 +186,7 @@ pub fn index_of(alloc: Global, strings: &[u8], entries: &[Entry]) -> Result<Inde
         at -= 1;
         put(
             strings,
+            marks.as_slice(),
             entries,
             heads.as_mut_slice(),
             nexts.as_mut_slice(),
@@ -169,6 +216,7 @@ pub fn look_up(strings: &[u8], entries: &[Entry], index: &Index, name: &[u8]) ->
         index.nexts.as_slice(),
         index.bests.as_slice(),
         name,
+        None,
         heads.len(),
         heads[b] as usize,
     )

@@ -4,6 +4,7 @@
 mod archive;
 mod chain;
 mod contents;
+mod hash;
 mod index;
 mod laws;
 mod member;

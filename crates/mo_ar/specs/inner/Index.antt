@@ -1,8 +1,10 @@
 -- The index of offers by name: names of one bucket are chained, in the order of the offers.
-use Rattle.std.specs.Prelude.{ℕ, ◌+◌, ◌*◌, ◌%◌, ◌^◌, ◌≡◌, ◌≤◌, ◌<◌, List, [], ◌∷◌, length, map, drop, slice_index, slice_get, All, Some}
+use Rattle.std.specs.Prelude.{ℕ, ◌+◌, ◌%◌, ◌≡◌, ◌≤◌, ◌<◌, List, [], length, map, drop, slice_index, slice_get, All, Some}
 use Rattle.std.specs.Option.{option_map_or}
 use Rattle.mo_ar.specs.Offers.{first_offer}
 use Rattle.mo_ar.specs.Text.{part}
+use Rattle.mo_ar.specs.inner.Hash.{hash}
+use Rattle.mo_strings.specs.Strings.{first_nul}
 use Rattle.mo_ar.specs.declared.index.Index.{Index}
 use Rattle.mo_ar.specs.declared.offers.Entry.{Entry}
 use Rattle.mo_ar.specs.declared.offers.Offer.{Offer}
@@ -11,20 +13,21 @@ use Rattle.mo_ar.specs.declared.offers.Offer.{Offer}
 abbrev pub offer_of : List ℕ → Entry → Offer
 offer_of strings entry = record { name = part strings entry.at entry.size; member = entry.member }
 
-abbrev pub IsEntry : List ℕ → Entry → Type 0
-IsEntry strings entry = entry.at + entry.size ≤ length strings
+-- an entry whose name begins at its place and ends before the next NUL
+pub record IsEntry (strings : List ℕ) (entry : Entry) : Type 0 where
+  pub within : entry.at + entry.size < length strings
+  pub ends : first_nul (drop entry.at strings) ≡ Some entry.size
 
 abbrev pub offers_of : List ℕ → List Entry → List Offer
 offers_of strings entries = map (offer_of strings) entries
 
--- a hash of the bytes of a name
-unfoldable pub hash_from : ℕ → List ℕ → ℕ
-hash_from hash [] = hash
-hash_from hash (byte ∷ rest) = hash_from ((hash * 33 + byte) % 2 ^ 32) rest
-
 -- the bucket of a name, of m buckets
 unfoldable pub bucket : ℕ → List ℕ → ℕ
-bucket m name = hash_from 0 name % m
+bucket m name = hash name % m
+
+-- a name that stands at a place, if it is known to stand somewhere
+abbrev pub StandsAt : List ℕ → List ℕ → ℕ → Type 0
+StandsAt strings name at = (first_nul (drop at strings) ≡ Some (length name)) × (name ≡ part strings at (length name))
 
 -- the name of the offer at an index
 unfoldable pub name_at : List Offer → ℕ → List ℕ
