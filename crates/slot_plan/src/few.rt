@@ -13,7 +13,7 @@ pub(crate) fn few(alloc: Global, needs: &[Need]) -> Result<Vec<&Need>, OutOfMemo
     ensures { IfOk result (λ few. HasTheSame needs.now (held_needs few.items)) }
 {
     let mut few = Vec::new(alloc);
-    let mut places = vec![in alloc; usize::MAX; (needs.len() / 4).clamp(64, 1 << 18)]?;
+    let mut places = vec![in alloc; usize::MAX; needs.len().clamp(64, 1 << 21)]?;
     for need in needs {
         match free_place(few.as_slice(), places.as_slice(), need) {
             Some(free) => {

@@ -6,6 +6,7 @@ mod few;
 mod laws;
 mod list;
 mod need;
+mod order;
 mod plan;
 #[cfg(test)]
 mod tests;

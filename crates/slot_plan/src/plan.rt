@@ -8,6 +8,7 @@ ghost use Rattle.slot_plan.specs.inner.Held.{held, held_needs, serves};
 use crate::few::few;
 use crate::list::{SlotList, Slots};
 use crate::need::{Need, NeedList, Way};
+use crate::order::compare;
 use mo_types::{Goal, OutOfMemory};
 use std::alloc::Global;
 
@@ -74,7 +75,7 @@ fn served<'a>(alloc: Global, needs: &[&'a Need], table: Table) -> Result<Vec<&'a
 fn put_in_order(goals: &mut Vec<&Goal>)
     ensures { AreSlots (held goals.old.items) (held goals.new.items) }
 {
-    goals.sort_unstable();
+    goals.sort_unstable_by(|a, b| compare(*a, *b));
     goals.dedup();
 }
 
