@@ -1,14 +1,18 @@
 #!/usr/bin/env python3
-"""Times the gate from nothing, as a table for docs/ARCHITECTURE.md: `bench/gate_times.py [CRATE..]`.
+"""Times the gate from nothing, as a table for docs/ARCHITECTURE.md: `bench/gate_times.py [--here] [CRATE..]`.
 
 Runs `rt ci --anew` over a fresh clone of what is committed, with names only for these crates and those below them, and
-looks at its processes twice a second. Prints the seconds of processor time that each crate takes for its own check,
-for the check with its tests (which proves the crate again), and for its must-fail edits (of which the first part proves
-it once more), then the sums. The seconds are right to one for each process; on a busy machine they are up to a third more.
+looks at its processes twice a second. With `--here` it runs `rt ci` in this checkout, prints what that says, and ends
+with its status: what earlier runs kept then counts nothing.
+
+Prints the seconds of processor time that each crate takes for its own check, for the check with its tests (which proves
+the crate again), and for its must-fail edits (of which the first part proves it once more), then the sums. The seconds
+are right to one for each process; on a busy machine they are up to a third more.
 """
 import collections
 import os
 import pathlib
+import re
 import resource
 import subprocess
 import sys
@@ -67,9 +71,8 @@ def watch(run, seconds):
         time.sleep(0.5)
 
 
-def timed(names):
-    """The seconds of each crate's tasks in a run from nothing, in the order in which the crates are listed, and of the whole run."""
-    seconds = {}
+def run_anew(names, seconds):
+    """Runs the gate from nothing over a clone; ends where it fails."""
     with tempfile.TemporaryDirectory() as folder, open(f"{folder}/log", "w+") as log:
         subprocess.run(["git", "clone", "-q", TOP, f"{folder}/repository"], check=True)
         run = subprocess.Popen(["rt", "ci", "--anew", *names], cwd=f"{folder}/repository", stdout=log, stderr=log)
@@ -77,21 +80,40 @@ def timed(names):
         if run.returncode:
             log.seek(0)
             sys.exit(log.read())
+
+
+def run_here(names, seconds):
+    """Runs the gate in this checkout, and answers its status."""
+    run = subprocess.Popen(["rt", "ci", *names], cwd=TOP)
+    watch(run, seconds)
+    return run.returncode
+
+
+def print_table(seconds):
+    """Prints the seconds of each crate's tasks, in the order in which the crates are listed."""
     sums = collections.defaultdict(lambda: dict.fromkeys(KINDS, 0.0))
     for (_, _, (crate, kind)), used in seconds.items():
         sums[crate][kind] += used
+    lines = (TOP / "crates.txt").read_text().splitlines()
+    print("| crate | check | tests | edits |\n|---|---|---|---|")
+    for crate in (re.match(r"\w*", line)[0] for line in lines):
+        if crate in sums:
+            print(f"| `{crate}` | " + " | ".join(f"{sums[crate][kind]:.0f}" for kind in KINDS) + " |")
+    print("| all | " + " | ".join(f"{sum(it[kind] for it in sums.values()):.0f}" for kind in KINDS) + " |")
     usage = resource.getrusage(resource.RUSAGE_CHILDREN)
-    return sums, usage.ru_utime + usage.ru_stime
+    whole = (usage.ru_utime + usage.ru_stime) / 60
+    print(f"\n{whole:.0f} minutes of processor time, with what builds and runs the programs.")
 
 
 def main():
-    sums, whole = timed(sys.argv[1:])
-    listed = [line.split(":")[0].split()[0] for line in (TOP / "crates.txt").read_text().splitlines() if ":" in line and line[0] != "#"]
-    print("| crate | check | tests | edits |\n|---|---|---|---|")
-    for crate in filter(sums.__contains__, listed):
-        print(f"| `{crate}` | " + " | ".join(f"{sums[crate][kind]:.0f}" for kind in KINDS) + " |")
-    print("| all | " + " | ".join(f"{sum(it[kind] for it in sums.values()):.0f}" for kind in KINDS) + " |")
-    print(f"\n{whole / 60:.0f} minutes of processor time, with what builds and runs the programs.")
+    names, seconds, status = sys.argv[1:], {}, 0
+    if "--here" in names:
+        names.remove("--here")
+        status = run_here(names, seconds)
+    else:
+        run_anew(names, seconds)
+    print_table(seconds)
+    sys.exit(status)
 
 
 if __name__ == "__main__":
