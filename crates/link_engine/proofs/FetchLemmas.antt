@@ -1,18 +1,18 @@
 -- What a fetch answered agrees with the files that are told, or with some files.
-use Rattle.std.proofs.Common.{◌≡◌, ℕ, ◌≤◌, ◌^◌, ◌∷◌, [], List, length, take, Bool, true, false, Option, Some, None, Result, Ok, Err, IsErrAnd, refl, sym, ap, ◌∙◌, subst, arith, option_map}
+use Rattle.std.proofs.Common.{◌≡◌, ℕ, ◌≤◌, ◌^◌, ◌∷◌, [], List, length, take, Bool, true, false, Option, Some, None, Result, Ok, Err, IsErrAnd, sym, ap, ◌∙◌, subst, arith, option_map}
 use Rattle.std.proofs.lemmas.List.{take_all}
-use Rattle.std.proofs.lemmas.Result.{err_from_is_err_and}
 use Rattle.mo_outside.proofs.Found.{files_of_pairs}
 use Rattle.mo_outside.specs.Files.{FileMap, Fetches, fetch_limit, fetched, file_at}
 use Rattle.mo_outside.specs.Memory.{files_of}
 use Rattle.mo_types.specs.Answer.{IsDetermined}
-use Rattle.mo_types.specs.Gives.{Gives}
 use Rattle.mo_types.specs.declared.answer.Refusal.TheVariants.{Missing}
 use Rattle.mo_types.specs.declared.answer.Status.{Status}
-use Rattle.mo_types.specs.declared.answer.Status.TheVariants.{OutOfMemory, Refused}
+use Rattle.mo_types.specs.declared.answer.Status.TheVariants as answer
 use Rattle.link_engine.specs.declared.words.Command.{Command}
 use Rattle.link_engine.specs.Input.{input_of, or_missing}
+use Rattle.link_engine.specs.Stop.{Answers, Refused}
 use Rattle.link_engine.specs.Verdict.{ForFiles}
+use Rattle.link_engine.proofs.StopLemmas.{left_to_code, passed_on}
 
 abbrev no_files : FileMap
 no_files = files_of []
@@ -51,21 +51,19 @@ not_there None command bytes tells = (no_files, ap (or_missing command.input) (n
 not_there (Some held) command bytes tells = ap (or_missing command.input) tells
 
 pub fetched_not : (told : Option FileMap) (command : Command) (path bytes copy : List ℕ) (there : Bool) → Fetches told path there bytes → path ≡ command.input → there ≡ false → copy ≡ command.input
-    → ForFiles told (λ held. Gives IsDetermined (Err (Refused (Missing copy))) (input_of held command))
+    → ForFiles told (λ held. Answers {A = List ℕ} (Err (answer.Refused (Missing copy))) (input_of held command))
 fetched_not told command path bytes copy there tells is absent copied =
     let absent_there : Fetches told command.input false bytes =
     subst (λ (p : List ℕ). Fetches told p false bytes) is (subst (λ (b : Bool). Fetches told path b bytes) absent tells) in
     for_each told (λ held. input_of held command ≡ Err (Refused (Missing command.input))) _ (not_there told command bytes absent_there)
-    (λ held missing determined. missing ∙ ap (λ (p : List ℕ). Err (Refused (Missing p))) (sym copied))
+    (λ held missing. missing ∙ ap (λ (p : List ℕ). Err (Refused (Missing p))) (sym copied))
 
 -- want of memory and a fault of the files are no answer that files determine
-pub no_answer : (told : Option FileMap) (command : Command) (status : Status) → (IsDetermined status → ⊥) → ForFiles told (λ held. Gives IsDetermined (Err status) (input_of held command))
-no_answer told command status other = for_all told _ (λ held determined. absurd (other determined))
+pub no_answer : (told : Option FileMap) (command : Command) (status : Status) → (IsDetermined status → ⊥) → ForFiles told (λ held. Answers {A = List ℕ} (Err status) (input_of held command))
+no_answer told command status other = for_all told _ (λ held. left_to_code status (input_of held command) other)
 
-pub no_memory : (told : Option FileMap) (command : Command) (returned : Result (List ℕ) Status) → IsErrAnd returned (λ status. status ≡ OutOfMemory) → ForFiles told (λ held. Gives IsDetermined returned (input_of held command))
+pub no_memory : (told : Option FileMap) (command : Command) (returned : Result (List ℕ) Status) → IsErrAnd returned (λ status. status ≡ answer.OutOfMemory) → ForFiles told (λ held. Answers returned (input_of held command))
 no_memory told command returned is =
-    let passed = err_from_is_err_and returned is in
-    subst (λ (r : Result (List ℕ) Status). ForFiles told (λ held. Gives IsDetermined r (input_of held command))) (sym (passed.1 ∙ ap Err passed.2))
-    (no_answer told command OutOfMemory (λ determined. determined))
+    for_all told _ (λ held. passed_on answer.OutOfMemory returned (input_of held command) is (left_to_code answer.OutOfMemory (input_of held command) (λ determined. determined)))
 
 pub ruleset fetches = (fetched_there, fetched_not, no_memory)

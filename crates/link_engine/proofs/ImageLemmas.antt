@@ -6,7 +6,8 @@ use Rattle.mo_types.specs.declared.object.Section.{Section}
 use Rattle.link_engine.specs.declared.image.Placement.{Placement}
 use Rattle.link_engine.specs.declared.form.TextObject.{TextObject}
 use Rattle.link_engine.specs.Patching.{contents_of}
-use Rattle.link_engine.specs.Image.{commands_size, front, image_of, placement_of, zeros_to}
+use Rattle.link_engine.specs.Image.{commands_size, front, placement_of}
+use Rattle.link_engine.specs.inner.Zeros.{zeros_to}
 use Rattle.std.proofs.Math.Nat.{pow-le-pow_right}
 
 pub unit_le : (exponent : ℕ) → exponent ≤ 14 → 2 ^ exponent ≤ 2 ^ 14
@@ -42,13 +43,15 @@ zeros_size size bytes new room e = ap length (zeros_put size bytes new room e) �
 pub ruleset zeros = (zeros_put, zeros_size)
 
 -- the pieces of an image, put one after the other
-pub whole_image : (object : TextObject) (entry : ℕ) (placement : Placement) (i0 i1 i2 i3 i4 : List ℕ) → placement ≡ placement_of object.text → i0 ≡ [] → i1 ≡ i0 ++ front object.text placement entry → i2 ≡ zeros_to placement.text_offset i1 → i3 ≡ i2 ++ contents_of object.text object.symbols → i4 ≡ zeros_to placement.segment_size i3 → i4 ≡ image_of object entry
-unfolding image_of
+abbrev pub put_together : Placement → TextObject → ℕ → List ℕ
+put_together placement object entry =
+    zeros_to placement.segment_size (zeros_to placement.text_offset (front object.text placement entry) ++ contents_of object.text object.symbols)
+
+pub whole_image : (object : TextObject) (entry : ℕ) (placement : Placement) (i0 i1 i2 i3 i4 : List ℕ) → placement ≡ placement_of object.text → i0 ≡ [] → i1 ≡ i0 ++ front object.text placement entry → i2 ≡ zeros_to placement.text_offset i1 → i3 ≡ i2 ++ contents_of object.text object.symbols → i4 ≡ zeros_to placement.segment_size i3 → i4 ≡ put_together (placement_of object.text) object entry
 whole_image object entry placement i0 i1 i2 i3 i4 at e0 e1 e2 e3 e4 =
     let contents : List ℕ = contents_of object.text object.symbols in
     let front_is : i1 ≡ front object.text placement entry = e1 ∙ ap (λ xs. xs ++ front object.text placement entry) e0 in
     let filled : i3 ≡ zeros_to placement.text_offset (front object.text placement entry) ++ contents =
     e3 ∙ ap (λ xs. xs ++ contents) (e2 ∙ ap (zeros_to placement.text_offset) front_is) in
-    let built : i4 ≡ zeros_to placement.segment_size (zeros_to placement.text_offset (front object.text placement entry) ++ contents) =
-    e4 ∙ ap (zeros_to placement.segment_size) filled in
-    built ∙ ap (λ (p : Placement). zeros_to p.segment_size (zeros_to p.text_offset (front object.text p entry) ++ contents)) at
+    let built : i4 ≡ put_together placement object entry = e4 ∙ ap (zeros_to placement.segment_size) filled in
+    built ∙ ap (λ (p : Placement). put_together p object entry) at

@@ -6,7 +6,9 @@ pub mod FetchLemmas
 pub mod FilesLemmas
 pub mod FormLemmas
 pub mod ImageLemmas
+pub mod JoinedLemmas
 pub mod LinkLemmas
+pub mod LinkedLemmas
 pub mod NameLemmas
 pub mod PartsLemmas
 pub mod PatchLemmas
@@ -14,4 +16,5 @@ pub mod PatchedLemmas
 pub mod PlacedLemmas
 pub mod PlanLemmas
 pub mod SaysLemmas
+pub mod StopLemmas
 pub mod WritingLemmas

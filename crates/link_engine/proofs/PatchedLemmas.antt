@@ -14,7 +14,8 @@ use Rattle.mo_types.specs.declared.object.Symbol.{Symbol}
 use Rattle.link_engine.specs.declared.form.TextObject.{TextObject}
 use Rattle.link_engine.specs.Branches.{is_branch}
 use Rattle.link_engine.specs.Object.{IsLinkable}
-use Rattle.link_engine.specs.Patching.{AreApart, AreBytes, ArePatched, IsApart, branch_at, contents_of, distance_of, patched, patched_by, with_word}
+use Rattle.mo_obj.specs.Read.{AreBytes}
+use Rattle.link_engine.specs.Patching.{AreApart, ArePatched, IsApart, branch_at, contents_of, distance_of, patched, patched_by, with_word}
 use Rattle.link_engine.proofs.BranchLemmas.{both, branch_is}
 
 -- a number whose bytes lie in the front

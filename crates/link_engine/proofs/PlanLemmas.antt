@@ -1,12 +1,10 @@
 -- The steps before writing, over files that are told or not.
-use Rattle.std.proofs.Common.{◌≡◌, ◌≢◌, ℕ, ◌++◌, ◌∷◌, [], List, Option, Some, None, Result, Ok, Err, IsErrAnd, refl, sym, ap, ◌∙◌, subst, arith}
+use Rattle.std.proofs.Common.{◌≡◌, ◌≢◌, ℕ, ◌++◌, List, Option, Some, None, Result, Ok, Err, IsErrAnd, refl, sym, ap, ◌∙◌, subst, arith}
 use Rattle.std.proofs.lemmas.List.{append-nil}
-use Rattle.std.proofs.lemmas.Result.{err_from_is_err_and}
 use Rattle.mo_outside.specs.Files.{FileMap}
 use Rattle.mo_outside.specs.Log.{Logs}
 use Rattle.mo_outside.specs.Tells.{Tells}
-use Rattle.mo_types.specs.Answer.{IsDetermined}
-use Rattle.mo_types.specs.Gives.{Gives, ◌>>=◌}
+use Rattle.mo_types.specs.Gives.{◌>>=◌}
 use Rattle.mo_types.specs.declared.answer.Status.{Status}
 use Rattle.mo_types.specs.declared.answer.Status.TheVariants.{Done, Usage, ReadFault, Refused, WriteFault, OutOfMemory}
 use Rattle.link_engine.specs.declared.plan.Plan.{Plan}
@@ -15,54 +13,51 @@ use Rattle.link_engine.specs.Asks.{Asks, AsksSome, inputs_of, tried}
 use Rattle.link_engine.specs.Command.{command_of}
 use Rattle.link_engine.specs.Input.{input_of}
 use Rattle.link_engine.specs.Steps.{IsWordsStop}
+use Rattle.link_engine.specs.Stop as stop
+use Rattle.link_engine.specs.Stop.{Answers, Stop}
 use Rattle.link_engine.specs.Verdict.{ForFiles, plan_for, verdict}
 use Rattle.link_engine.proofs.FetchLemmas.{for_all, for_each}
+use Rattle.link_engine.proofs.StopLemmas.{first_ends, passed_on}
 use Rattle.link_engine.proofs.WritingLemmas.{tells_more}
 
 -- the verdict where the words, or the file, or what stands in it give a fault
 
-decides : (told : Option FileMap) (given : FileMap → Result Plan Status) (status : Status) (returned : Result Plan Status) → IsErrAnd returned (λ passed. passed ≡ status) → ForFiles told (λ held. Gives IsDetermined (Err status) (given held)) → ForFiles told (λ held. Gives IsDetermined returned (given held))
-decides told given status returned is holds =
-    let passed = err_from_is_err_and returned is in
-    subst (λ (r : Result Plan Status). ForFiles told (λ held. Gives IsDetermined r (given held))) (sym (passed.1 ∙ ap Err passed.2)) holds
-
-pub words_decide : (words : List (List ℕ)) (told : Option FileMap) (status : Status) (returned : Result Plan Status) → IsErrAnd returned (λ passed. passed ≡ status) → (IsDetermined status → command_of words ≡ Err status) → ForFiles told (λ held. Gives IsDetermined returned (verdict words held))
+pub words_decide : (words : List (List ℕ)) (told : Option FileMap) (status : Status) (returned : Result Plan Status) → IsErrAnd returned (λ passed. passed ≡ status) → Answers {A = Command} (Err status) (command_of words) → ForFiles told (λ held. Answers returned (verdict words held))
 unfolding verdict
-words_decide words told status returned is gives =
-    decides told (verdict words) status returned is
-    (for_all told (λ held. Gives IsDetermined (Err status) (verdict words held)) (λ held determined. ap (λ given. given >>= λ command. input_of held command >>= λ bytes. plan_for command bytes) (gives determined)))
+words_decide words told status returned is answers =
+    for_all told (λ held. Answers returned (verdict words held)) (λ held.
+    passed_on status returned (verdict words held) is (first_ends status (command_of words) (λ command. input_of held command >>= λ bytes. plan_for command bytes) answers))
 
 pub file_decides : (words : List (List ℕ)) (command : Command) (told : Option FileMap) (status : Status) (returned : Result Plan Status) → IsErrAnd returned (λ passed. passed ≡ status) → command_of words ≡ Ok command
-    → ForFiles told (λ held. Gives IsDetermined (Err status) (input_of held command)) → ForFiles told (λ held. Gives IsDetermined returned (verdict words held))
+    → ForFiles told (λ held. Answers {A = List ℕ} (Err status) (input_of held command)) → ForFiles told (λ held. Answers returned (verdict words held))
 unfolding verdict
 file_decides words command told status returned is reads finds =
-    decides told (verdict words) status returned is
-    (for_each told (λ held. Gives IsDetermined (Err status) (input_of held command)) (λ held. Gives IsDetermined (Err status) (verdict words held)) finds
-    (λ held gives determined. rw reads (ap (λ given. given >>= λ bytes. plan_for command bytes) (gives determined))))
+    for_each told (λ held. Answers {A = List ℕ} (Err status) (input_of held command)) (λ held. Answers returned (verdict words held)) finds
+    (λ held answers. passed_on status returned (verdict words held) is (rw reads (first_ends status (input_of held command) (λ bytes. plan_for command bytes) answers)))
 
 pub bytes_decide : (words : List (List ℕ)) (command : Command) (bytes : List ℕ) (told : Option FileMap) (result : Result Plan Status) → command_of words ≡ Ok command
-    → ForFiles told (λ held. input_of held command ≡ Ok bytes) → Gives IsDetermined result (plan_for command bytes) → ForFiles told (λ held. Gives IsDetermined result (verdict words held))
+    → ForFiles told (λ held. input_of held command ≡ Ok bytes) → Answers result (plan_for command bytes) → ForFiles told (λ held. Answers result (verdict words held))
 unfolding verdict
-bytes_decide words command bytes told result reads finds gives =
+bytes_decide words command bytes told result reads finds answers =
     for_each told (λ held. input_of held command ≡ Ok bytes) _ finds
-    (λ held is. subst (Gives IsDetermined result) (sym (rw (reads, is) refl)) gives)
+    (λ held is. subst (Answers result) (sym (rw (reads, is) refl)) answers)
 
 -- what was asked for
 
-pub none_asked : (words : List (List ℕ)) (status : Status) (x : Option (List (List ℕ))) → (IsDetermined status → command_of words ≡ Err status) → IsWordsStop status → status ≢ OutOfMemory → Tells (Asks (tried words)) x x
-none_asked words status x gives kind other = by_status status gives kind other
+pub none_asked : (words : List (List ℕ)) (status : Status) (x : Option (List (List ℕ))) → Answers {A = Command} (Err status) (command_of words) → IsWordsStop status → status ≢ OutOfMemory → Tells (Asks (tried words)) x x
+none_asked words status x answers kind other = by_status status answers kind other
   where
-    nothing : (given : Result Command Status) (word : Status) → given ≡ Err word → (y : Option (List (List ℕ))) → Tells (Asks (inputs_of given)) y y
-    nothing given word is None = tt
-    nothing given word is (Some old) = record { asked = sym (ap (λ paths. old ++ inputs_of paths) is ∙ append-nil old) }
+    nothing : (given : Result Command Stop) (why : Stop) → given ≡ Err why → (y : Option (List (List ℕ))) → Tells (Asks (inputs_of given)) y y
+    nothing given why is None = tt
+    nothing given why is (Some old) = record { asked = sym (ap (λ paths. old ++ inputs_of paths) is ∙ append-nil old) }
 
-    by_status : (stop : Status) → (IsDetermined stop → command_of words ≡ Err stop) → IsWordsStop stop → stop ≢ OutOfMemory → Tells (Asks (tried words)) x x
-    by_status Done gives kind other = absurd kind
-    by_status (Usage word rule) gives kind other = nothing (command_of words) (Usage word rule) (gives tt) x
-    by_status (ReadFault path) gives kind other = absurd kind
-    by_status (Refused refusal) gives kind other = absurd kind
-    by_status WriteFault gives kind other = absurd kind
-    by_status OutOfMemory gives kind other = absurd (other refl)
+    by_status : (status : Status) → Answers {A = Command} (Err status) (command_of words) → IsWordsStop status → status ≢ OutOfMemory → Tells (Asks (tried words)) x x
+    by_status Done answers kind other = absurd kind
+    by_status (Usage word rule) answers kind other = nothing (command_of words) (stop.Usage word rule) answers x
+    by_status (ReadFault path) answers kind other = absurd kind
+    by_status (Refused refusal) answers kind other = absurd kind
+    by_status WriteFault answers kind other = absurd kind
+    by_status OutOfMemory answers kind other = absurd (other refl)
 
 pub none_asked_yet : (words : List (List ℕ)) (x : Option (List (List ℕ))) → Tells (AsksSome (tried words)) x x
 none_asked_yet words None = tt

@@ -1,10 +1,10 @@
 -- Which files a link asks for.
 use Rattle.std.specs.Prelude.{ℕ, ◌≡◌, ◌≤◌, ◌++◌, List, [], ◌∷◌, length, take, Result, Ok, Err}
-use Rattle.mo_types.specs.declared.answer.Status.{Status}
 use Rattle.link_engine.specs.declared.words.Command.{Command}
 use Rattle.link_engine.specs.Command.{command_of}
+use Rattle.link_engine.specs.Stop.{Stop}
 
-abbrev pub inputs_of : Result Command Status → List (List ℕ)
+abbrev pub inputs_of : Result Command Stop → List (List ℕ)
 inputs_of (Ok command) = command.input ∷ []
 inputs_of (Err _) = []
 

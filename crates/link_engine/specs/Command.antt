@@ -1,13 +1,13 @@
 -- What the link takes of the command that its words are.
 use Rattle.std.specs.Prelude.{ℕ, List, [], ◌∷◌, Result, Ok, Err}
-use Rattle.mo_types.specs.declared.answer.Status.{Status}
-use Rattle.mo_types.specs.declared.answer.Status.TheVariants.{Usage, OutOfMemory}
+use Rattle.mo_types.specs.declared.cause.UsageRule.TheVariants.{NoInput}
 use Rattle.mo_cmd.specs.Command as whole
 use Rattle.mo_cmd.specs.declared.command.Command.{Command as WholeCommand}
 use Rattle.mo_cmd.specs.declared.command.CommandInput.{CommandInput}
 use Rattle.mo_cmd.specs.declared.command.UsageFault.{UsageFault}
 use Rattle.mo_cmd.specs.declared.command.UsageFault.TheVariants as fault
 use Rattle.link_engine.specs.declared.words.Command.{Command}
+use Rattle.link_engine.specs.Stop.{Stop, Usage}
 
 -- the path of the one input
 abbrev pub first_path : List CommandInput → List ℕ
@@ -17,11 +17,11 @@ first_path (input ∷ _) = input.value
 abbrev pub taken : WholeCommand → Command
 taken command = record { input = first_path command.inputs; output = command.output }
 
--- a fault of the words as the link answers it
-abbrev pub told : Result WholeCommand UsageFault → Result Command Status
+-- A fault of the words as the link answers it. No words lack memory: that row only makes the table whole.
+abbrev pub told : Result WholeCommand UsageFault → Result Command Stop
 told (Ok command) = Ok (taken command)
 told (Err (fault.At word rule)) = Err (Usage word rule)
-told (Err fault.OutOfMemory) = Err OutOfMemory
+told (Err fault.OutOfMemory) = Err (Usage 0 NoInput)
 
-unfoldable pub command_of : List (List ℕ) → Result Command Status
+unfoldable pub command_of : List (List ℕ) → Result Command Stop
 command_of words = told (whole.command_of words)

@@ -3,12 +3,11 @@ use Rattle.std.specs.Prelude.{ℕ, ◌≡◌, ◌&&◌, true, List, [], codes, O
 use Rattle.std.specs.List.{AllByRecursion}
 use Rattle.std.specs.Str.{bytes_eq}
 use Rattle.mo_types.specs.Scan.{first_some}
-use Rattle.mo_types.specs.declared.answer.Status.{Status}
-use Rattle.mo_types.specs.declared.answer.Status.TheVariants.{Refused}
 use Rattle.mo_types.specs.declared.answer.Refusal.TheVariants.{Undefined}
 use Rattle.mo_types.specs.declared.object.Symbol.{Symbol}
 use Rattle.mo_types.specs.declared.object.SymbolKind.{SymbolKind}
 use Rattle.mo_types.specs.declared.object.SymbolKind.TheVariants.{Defined}
+use Rattle.link_engine.specs.Stop.{Stop, Refused}
 
 -- the name of the entry
 abbrev pub entry_name : List ℕ
@@ -22,12 +21,12 @@ address_of _ = None
 abbrev pub entry_value : Symbol → Option ℕ
 entry_value symbol = if symbol.external && bytes_eq symbol.name entry_name then address_of symbol.kind else None
 
-abbrev pub or_undefined : Option ℕ → Result ℕ Status
+abbrev pub or_undefined : Option ℕ → Result ℕ Stop
 or_undefined (Some value) = Ok value
 or_undefined None = Err (Refused (Undefined entry_name []))
 
 -- the entry's address in the object
-unfoldable pub entry_of : List Symbol → Result ℕ Status
+unfoldable pub entry_of : List Symbol → Result ℕ Stop
 entry_of symbols = or_undefined (first_some entry_value symbols)
 
 -- a symbol that is defined in a section

@@ -1,5 +1,5 @@
 -- The image of an object: a header and load commands, the section of code, and zeros (`loader.h`).
-use Rattle.std.specs.Prelude.{ℕ, ◌+◌, ◌-◌, ◌^◌, ◌++◌, bit_and, replicate, List, length, codes}
+use Rattle.std.specs.Prelude.{ℕ, ◌+◌, ◌-◌, ◌^◌, ◌++◌, bit_and, replicate, List, [], ◌∷◌, length, codes}
 use Rattle.mo_bytes.specs.Rounding.{least_multiple}
 use Rattle.mo_format.specs.Command.{dylinker_command_bytes, build_version_command_bytes, entry_point_command_bytes}
 use Rattle.mo_format.specs.Header.{mach_header_bytes}
@@ -13,6 +13,7 @@ use Rattle.mo_format.specs.declared.segment.SegmentCommand.{SegmentCommand}
 use Rattle.mo_types.specs.declared.object.Section.{Section}
 use Rattle.link_engine.specs.declared.image.Placement.{Placement}
 use Rattle.link_engine.specs.declared.form.TextObject.{TextObject}
+use Rattle.link_engine.specs.Joined.{Parts, joined}
 use Rattle.link_engine.specs.Patching.{contents_of}
 
 -- the address of `__TEXT`
@@ -141,13 +142,18 @@ front text placement entry =
     ++ dylinker_command_bytes dylinker ++ dylinker_path ++ build_version_command_bytes build_version
     ++ entry_point_command_bytes (entry_point text placement entry)
 
--- the bytes with zeros after them, up to a size
-abbrev pub zeros_to : ℕ → List ℕ → List ℕ
-zeros_to size bytes = bytes ++ replicate (size - length bytes) 0
+-- the header with the load commands at the image's start, and the section's contents at their place
+abbrev pub parts_at : Placement → TextObject → ℕ → Parts
+parts_at placement object entry = record {
+  size = placement.segment_size;
+  parts =
+      record { from = 0; bytes = front object.text placement entry }
+      ∷ record { from = placement.text_offset; bytes = contents_of object.text object.symbols } ∷ [];
+}
+
+unfoldable pub parts_of : TextObject → ℕ → Parts
+parts_of object entry = parts_at (placement_of object.text) object entry
 
 -- the image of an object whose entry has an address in it
 unfoldable pub image_of : TextObject → ℕ → List ℕ
-image_of object entry =
-    let placement = placement_of object.text in
-    zeros_to placement.segment_size
-    (zeros_to placement.text_offset (front object.text placement entry) ++ contents_of object.text object.symbols)
+image_of object entry = joined (parts_of object entry)

@@ -5,13 +5,15 @@ pub mod Command
 pub mod Entry
 pub mod Form
 pub mod Image
+pub mod inner
 pub mod Input
+pub mod Joined
 pub mod Names
 pub mod Object
-pub mod Parts
 pub mod Patching
 pub mod Reading
 pub mod Settles
 pub mod Steps
+pub mod Stop
 pub mod Verdict
 pub mod Writing

@@ -5,6 +5,7 @@ use Rattle.mo_types.specs.declared.object.Section.{Section}
 use Rattle.mo_types.specs.declared.object.Symbol.{Symbol}
 use Rattle.mo_types.specs.declared.object.SymbolKind.{SymbolKind}
 use Rattle.mo_types.specs.declared.object.SymbolKind.TheVariants.{Defined}
+use Rattle.mo_obj.specs.Read.{AreBytes}
 use Rattle.link_engine.specs.declared.form.TextObject.{TextObject}
 use Rattle.link_engine.specs.Branches.{is_branch}
 use Rattle.link_engine.specs.Patching.{AreApart}
@@ -36,3 +37,8 @@ pub record IsLinkable (object : TextObject) : Type 0 where
   pub placed : ArePlaced object.text.address object.text.size object.symbols
   pub branches : list_all (is_branch object.text object.symbols) object.text.relocs ≡ true
   pub apart : AreApart object.text.relocs
+
+-- an object that is linkable, whose code is bytes
+pub record IsLinked (object : TextObject) : Type 0 where
+  pub linkable : IsLinkable object
+  pub bytes : AreBytes object.text.bytes

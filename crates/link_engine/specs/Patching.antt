@@ -1,5 +1,5 @@
 -- The section's bytes with the distances of its branches (Arm Architecture Reference Manual, "BL").
-use Rattle.std.specs.Prelude.{ℕ, ◌+◌, ◌≡◌, ◌≤◌, ◌<◌, ◌⊎◌, ◌++◌, ℤ, pos, ◌-ℤ◌, List, [], ◌∷◌, take, drop, slice_index, unwrap_or}
+use Rattle.std.specs.Prelude.{ℕ, ◌+◌, ◌≡◌, ◌≤◌, ◌⊎◌, ◌++◌, ℤ, pos, ◌-ℤ◌, List, [], ◌∷◌, take, drop, unwrap_or}
 use Rattle.std.specs.List.{AllByRecursion}
 use Rattle.arm64_insn.specs.Branch.{branch_word}
 use Rattle.mo_bytes.specs.Number.{number, number_bytes}
@@ -45,7 +45,3 @@ AreApart (reloc ∷ relocs) = AllByRecursion (IsApart 4 reloc.address) relocs ×
 abbrev pub ArePatched : Section → List Symbol → List ℕ → List ℕ → List RawReloc → Type 0
 ArePatched text symbols new old relocs =
     AllByRecursion (λ reloc. number 4 new reloc.address ≡ branch_word (number 4 old reloc.address) (distance_of text symbols reloc)) relocs
-
--- each element is a byte
-abbrev pub AreBytes : List ℕ → Type 0
-AreBytes bytes = (i : ℕ) → slice_index bytes i < 256

@@ -3,8 +3,6 @@ use Rattle.std.specs.Prelude.{ℕ, ◌^◌, nat_le, List, length, Result, Ok, Er
 use Rattle.mo_types.specs.Gives.{◌>>=◌}
 use Rattle.mo_types.specs.Kind.{kind_of}
 use Rattle.mo_types.specs.declared.answer.Refusal.TheVariants as refusal
-use Rattle.mo_types.specs.declared.answer.Status.{Status}
-use Rattle.mo_types.specs.declared.answer.Status.TheVariants as answer
 use Rattle.mo_types.specs.declared.cause.Rule.TheVariants as rule
 use Rattle.mo_types.specs.declared.cause.Which.TheVariants.{FileBytes}
 use Rattle.mo_types.specs.declared.kind.Kind.{Kind}
@@ -16,6 +14,8 @@ use Rattle.mo_obj.specs.Object.{object_of}
 use Rattle.link_engine.specs.declared.form.TextObject.{TextObject}
 use Rattle.link_engine.specs.declared.words.Command.{Command}
 use Rattle.link_engine.specs.Form.{later, linked_of}
+use Rattle.link_engine.specs.Stop as stop
+use Rattle.link_engine.specs.Stop.{Stop}
 
 -- libraries come with a later version
 abbrev pub by_kind : List ℕ → Kind → Result Object ObjFault
@@ -34,16 +34,16 @@ file_object bytes = if nat_le (2 ^ 30) (length bytes) then Err (Limit FileBytes)
 unfoldable pub text_object : List ℕ → Result TextObject ObjFault
 text_object bytes = file_object bytes >>= linked_of
 
--- the answer to a fault of a file
-abbrev pub refused : List ℕ → ObjFault → Status
-refused path (Malformed place rule) = answer.Refused (refusal.Malformed path place rule)
-refused path (Unsupported feature) = answer.Refused (refusal.Unsupported path feature)
-refused path (Limit which) = answer.Refused (refusal.Limit which)
-refused path OutOfMemory = answer.OutOfMemory
+-- The refusal of a file with a fault. No file's fault is want of memory: that row only makes the table whole.
+abbrev pub refused : List ℕ → ObjFault → Stop
+refused path (Malformed place rule) = stop.Refused (refusal.Malformed path place rule)
+refused path (Unsupported feature) = stop.Refused (refusal.Unsupported path feature)
+refused path (Limit which) = stop.Refused (refusal.Limit which)
+refused path OutOfMemory = stop.Refused (refusal.Malformed path 0 rule.NotAnInput)
 
-abbrev pub or_refused : List ℕ → Result TextObject ObjFault → Result TextObject Status
+abbrev pub or_refused : List ℕ → Result TextObject ObjFault → Result TextObject Stop
 or_refused path (Ok object) = Ok object
 or_refused path (Err fault) = Err (refused path fault)
 
-unfoldable pub read : Command → List ℕ → Result TextObject Status
+unfoldable pub read : Command → List ℕ → Result TextObject Stop
 read command bytes = or_refused command.input (text_object bytes)

@@ -1,13 +1,13 @@
 -- How a link ends, against its verdict.
-use Rattle.std.specs.Prelude.{ℕ, ◌≡◌, ◌⊎◌, List, [], slice_get, Option, Some, None, option_map, Result, Ok, Err}
+use Rattle.std.specs.Prelude.{ℕ, ◌≡◌, ◌⊎◌, List, [], slice_get, Option, Some, Result, Ok, Err}
 use Rattle.mo_outside.specs.Log.{OutCall}
 use Rattle.mo_outside.specs.Tells.{Appends, AppendsSome, Stays, Tells}
 use Rattle.mo_outside.specs.Written.{Written}
-use Rattle.mo_types.specs.Answer.{IsDetermined}
 use Rattle.mo_types.specs.Message.{line_of}
 use Rattle.mo_types.specs.declared.answer.Status.{Status}
 use Rattle.mo_types.specs.declared.answer.Status.TheVariants.{Done, WriteFault, OutOfMemory}
 use Rattle.link_engine.specs.declared.plan.Plan.{Plan}
+use Rattle.link_engine.specs.Stop.{Stop, status_of}
 use Rattle.link_engine.specs.Writing.{AreCallsUpTo, AreFilesCalls, Hands, WritesAll, WritesUpTo}
 
 -- The answer is given only where the cause stands. Where it stands the answer is given, unless memory ran
@@ -50,8 +50,8 @@ pub record CarriesPart (plan : Plan) (quiet : Type 0) (old new : Seen) : Type 0 
 
 -- An answer, and what was written, against a verdict: it is a refusal exactly where the verdict is, and all of
 -- the plan was written exactly where there is one, but for want of memory and faults that were counted.
-pub record Settles (given : Result Plan Status) (status : Status) (files_fault out_fault quiet : Type 0) (old new : Seen) : Type 0 where
-  pub stops : (stop : Status) → IsDetermined stop → ExactlyWhere (given ≡ Err stop) stop status files_fault
+pub record Settles (given : Result Plan Stop) (status : Status) (files_fault out_fault quiet : Type 0) (old new : Seen) : Type 0 where
+  pub stops : (stop : Stop) → ExactlyWhere (given ≡ Err stop) (status_of stop) status files_fault
   pub plans : (plan : Plan) → given ≡ Ok plan → (status ≡ Done) ⊎ ((status ≡ OutOfMemory) ⊎ (files_fault ⊎ out_fault))
   pub done : status ≡ Done → (plan : Plan) × (given ≡ Ok plan) × Carries plan quiet old new
   pub part : status ≡ WriteFault → (plan : Plan) × (given ≡ Ok plan) × CarriesPart plan quiet old new

@@ -2,7 +2,6 @@
 use Rattle.std.specs.Prelude.{ℕ, List, [], ◌∷◌, Option, Some, None, Result, Ok}
 use Rattle.mo_outside.specs.Files.{FileMap}
 use Rattle.mo_types.specs.Gives.{◌>>=◌}
-use Rattle.mo_types.specs.declared.answer.Status.{Status}
 use Rattle.link_engine.specs.declared.form.TextObject.{TextObject}
 use Rattle.link_engine.specs.declared.plan.Plan.{Plan}
 use Rattle.link_engine.specs.declared.words.Command.{Command}
@@ -11,20 +10,21 @@ use Rattle.link_engine.specs.Entry.{entry_of}
 use Rattle.link_engine.specs.Image.{image_of}
 use Rattle.link_engine.specs.Input.{input_of}
 use Rattle.link_engine.specs.Reading.{read}
+use Rattle.link_engine.specs.Stop.{Stop}
 
 -- what is to be written for a command and its object, whose entry has an address: the image, and no line
 abbrev pub plan_of : Command → TextObject → ℕ → Plan
 plan_of command object entry = record { files = (command.output, image_of object entry) ∷ []; line = [] }
 
 -- what is to be written for a command and the bytes of its input, or the first refusal in the order of the steps
-unfoldable pub plan_for : Command → List ℕ → Result Plan Status
+unfoldable pub plan_for : Command → List ℕ → Result Plan Stop
 plan_for command bytes = do
   object ← read command bytes
   entry ← entry_of object.symbols
   Ok (plan_of command object entry)
 
 -- what is to be written for the words and the files, or the first refusal in the order of the steps
-unfoldable pub verdict : List (List ℕ) → FileMap → Result Plan Status
+unfoldable pub verdict : List (List ℕ) → FileMap → Result Plan Stop
 verdict words files = do
   command ← command_of words
   bytes ← input_of files command

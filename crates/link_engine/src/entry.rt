@@ -1,12 +1,11 @@
 //! Where the program begins.
 
 ghost use Rattle.std.specs.Prelude.{◌≡◌, IfErr, IfOk};
-ghost use Rattle.mo_types.specs.Gives.{Gives};
-ghost use Rattle.mo_types.specs.Answer.{IsDetermined};
 ghost use Rattle.mo_types.specs.Scan.{first_some};
 ghost use Rattle.link_engine.specs.Entry as entry;
 ghost use Rattle.link_engine.specs.Object.{IsLinkable};
 ghost use Rattle.link_engine.specs.Steps.{IsRefusal};
+ghost use Rattle.link_engine.specs.Stop.{Answers};
 ghost use Rattle.link_engine.specs.Object.{IsWithin};
 
 use crate::form::TextObject;
@@ -43,7 +42,7 @@ fn find_entry(symbols: &[Symbol]) -> Option<u64>
 #[tactic(auto, using(crate::proofs::PlacedLemmas::entries), unfolding(crate::specs::Entry::entry_of))]
 pub fn entry_of(alloc: Global, object: &TextObject) -> Result<u64, Status>
     requires { IsLinkable object.now }
-    ensures exact { Gives IsDetermined result (entry.entry_of object.now.symbols) }
+    ensures exact { Answers result (entry.entry_of object.now.symbols) }
     ensures kind { IfErr result IsRefusal }
     ensures within { IfOk result (IsWithin object.now.text.address object.now.text.size) }
 {

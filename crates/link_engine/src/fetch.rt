@@ -4,11 +4,10 @@ ghost use Rattle.std.specs.Prelude.{◌≡◌, ◌≤◌, List, ℕ, IfErr, OnOk
 ghost use Rattle.mo_outside.specs.Faults.{Rises};
 ghost use Rattle.mo_outside.specs.Log.{Logs};
 ghost use Rattle.mo_outside.specs.Tells.{Tells};
-ghost use Rattle.mo_types.specs.Answer.{IsDetermined};
-ghost use Rattle.mo_types.specs.Gives.{Gives};
 ghost use Rattle.mo_types.specs.declared.answer.Status.TheVariants.{ReadFault};
 ghost use Rattle.link_engine.specs.Input.{input_of};
 ghost use Rattle.link_engine.specs.Steps.{IsFileStop, IsReadWell};
+ghost use Rattle.link_engine.specs.Stop.{Answers};
 ghost use Rattle.link_engine.specs.Verdict.{ForFiles};
 
 use crate::words::Command;
@@ -24,7 +23,7 @@ pub fn fetch<F: Files>(alloc: Global, files: &mut F, command: &Command) -> Resul
     ensures still { OnOk result (F.faults files.new ≡ F.faults files.old) }
     ensures still_err { IfErr result (λ status. IsReadWell status → F.faults files.new ≡ F.faults files.old) }
     ensures asked { Tells (Logs command.now.input) (F.asked files.old) (F.asked files.new) }
-    ensures exact { ForFiles (F.holds files.old) (λ held. Gives IsDetermined result (input_of held command.now)) }
+    ensures exact { ForFiles (F.holds files.old) (λ held. Answers result (input_of held command.now)) }
     ensures kind { IfErr result IsFileStop }
     ensures read_fault { (path : List ℕ) → result ≡ Err (ReadFault path) → (path ≡ command.now.input) × Rises (F.faults files.old) (F.faults files.new) }
 {

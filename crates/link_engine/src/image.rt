@@ -3,7 +3,8 @@
 ghost use Rattle.std.specs.Prelude.{◌≡◌, ◌++◌, ◌+◌, ◌-◌, ◌≤◌, ◌<◌, ◌^◌, length, replicate, OnOk, IfOk};
 ghost use Rattle.mo_bytes.specs.Rounding.{least_multiple};
 ghost use Rattle.link_engine.specs.Image as image;
-ghost use Rattle.link_engine.specs.Image.{front, image_of, placement_of, zeros_to};
+ghost use Rattle.link_engine.specs.Image.{front, image_of, placement_of};
+ghost use Rattle.link_engine.specs.inner.Zeros.{zeros_to};
 ghost use Rattle.link_engine.specs.Object.{IsLinkable, IsText};
 ghost use Rattle.link_engine.specs.Patching.{contents_of};
 ghost use Rattle.link_engine.specs.Object.{IsWithin};

@@ -1,17 +1,21 @@
-//! What the definitions mean: the cause of each refusal, and the code of an image, place by place.
+//! What the definitions mean: the cause of each refusal, and an image and its code, place by place.
 
-ghost use Rattle.std.specs.Prelude.{◌≡◌, ◌↔◌, List, ℕ, Err};
+ghost use Rattle.std.specs.Prelude.{◌≡◌, ◌↔◌, List, ℕ, length, Err, Ok};
 ghost use Rattle.std.specs.List.{AllByRecursion};
 ghost use Rattle.mo_bytes.specs.Number.{number};
+ghost use Rattle.mo_obj.specs.Faults.{IsObjFault};
+ghost use Rattle.mo_obj.specs.Read.{AreBytes};
 ghost use Rattle.mo_outside.specs.Files.{FileMap};
 ghost use Rattle.mo_types.specs.declared.answer.Refusal.{Refusal};
-ghost use Rattle.mo_types.specs.declared.answer.Status.TheVariants.{Refused};
+ghost use Rattle.mo_types.specs.declared.object_fault.ObjFault.{ObjFault};
 ghost use Rattle.link_engine.specs.declared.form.TextObject.{TextObject};
 ghost use Rattle.link_engine.specs.Causes.{Cause};
-ghost use Rattle.link_engine.specs.Image.{image_of, placement_of};
-ghost use Rattle.link_engine.specs.Object.{IsLinkable};
-ghost use Rattle.link_engine.specs.Parts.{IsImage};
-ghost use Rattle.link_engine.specs.Patching.{AreBytes, ArePatched, IsApart, contents_of};
+ghost use Rattle.link_engine.specs.Image.{image_of, parts_of};
+ghost use Rattle.link_engine.specs.Joined.{IsJoined, LieApart, Parts, joined};
+ghost use Rattle.link_engine.specs.Object.{IsLinkable, IsLinked};
+ghost use Rattle.link_engine.specs.Patching.{ArePatched, IsApart, contents_of};
+ghost use Rattle.link_engine.specs.Reading.{text_object};
+ghost use Rattle.link_engine.specs.Stop.{Refused};
 ghost use Rattle.link_engine.specs.Verdict.{verdict};
 
 /// In the code of the image of an object that was read, each relocation's instruction is that of the object with
@@ -28,8 +32,24 @@ pub fn every_refusal_has_its_cause()
     ensures { (words : List (List ℕ)) (files : FileMap) (refusal : Refusal) → (verdict words files ≡ Err (Refused refusal)) ↔ Cause words files refusal }
 {}
 
+/// What the definition gives of a file's bytes to be linked is linkable, and its code is bytes. A fault that it gives is
+/// one that the bytes have, and never want of memory.
+pub fn what_is_linked_is_linkable()
+    ensures linked { (bytes : List ℕ) (object : TextObject) → AreBytes bytes → text_object bytes ≡ Ok object → IsLinked object }
+    ensures faults { (bytes : List ℕ) (fault : ObjFault) → text_object bytes ≡ Err fault → IsObjFault fault }
+{}
+
+/// Parts that rise without overlapping, and lie in a size, make up one image of this size: each part stands at its place,
+/// and zeros where no part is.
+pub fn parts_are_one_image()
+    ensures joined { (parts : Parts) → LieApart parts → IsJoined parts (joined parts) }
+    ensures only { (parts : Parts) (image : List ℕ) → IsJoined parts image → image ≡ joined parts }
+{}
+
 /// An image is its header with the load commands at its start, the section's contents at its place, and zeros
 /// elsewhere.
 pub fn parts_stand_at_their_places()
-    ensures { (object : TextObject) (entry : ℕ) → IsLinkable object → IsImage object entry (placement_of object.text) (image_of object entry) }
+    ensures apart { (object : TextObject) (entry : ℕ) → IsLinkable object → LieApart (parts_of object entry) }
+    ensures joined { (object : TextObject) (entry : ℕ) → IsLinkable object → IsJoined (parts_of object entry) (image_of object entry) }
+    ensures contents { (object : TextObject) → IsLinkable object → length (contents_of object.text object.symbols) ≡ object.text.size }
 {}

@@ -13,6 +13,7 @@ ghost use Rattle.link_engine.specs.Asks.{Asks, AsksSome, tried};
 ghost use Rattle.link_engine.specs.Command.{command_of};
 ghost use Rattle.link_engine.specs.Settles.{ExactlyWhere, Settles, Stopped};
 ghost use Rattle.link_engine.specs.Steps.{IsInput, IsReadWell, IsStop};
+ghost use Rattle.link_engine.specs.Stop as stop;
 ghost use Rattle.link_engine.specs.Verdict.{ForFiles, verdict};
 
 mod branches;
@@ -30,7 +31,8 @@ mod words;
 mod write;
 
 pub use crate::laws::{
-    branches_have_their_distances, every_refusal_has_its_cause, parts_stand_at_their_places,
+    branches_have_their_distances, every_refusal_has_its_cause, parts_are_one_image,
+    parts_stand_at_their_places, what_is_linked_is_linkable,
 };
 use crate::plan::make_plan;
 use crate::run::{carry_out, ended};
@@ -58,7 +60,7 @@ pub fn link<F: Files, O: Out, D: Diag, G: Gate + Sync>(
         (record { files = O.files out.old; calls = O.calls out.old; lines = D.lines diag.old })
         (record { files = O.files out.new; calls = O.calls out.new; lines = D.lines diag.new })) }
     ensures usage { (word : ℕ) (rule : UsageRule)
-        → ExactlyWhere (command_of words.now ≡ Err (Usage word rule)) (Usage word rule) result ⊥ }
+        → ExactlyWhere (command_of words.now ≡ Err (stop.Usage word rule)) (Usage word rule) result ⊥ }
     ensures stopped { IsStop result → Stopped result (¬ Rises (D.faults diag.old) (D.faults diag.new))
         (record { files = O.files out.old; calls = O.calls out.old; lines = D.lines diag.old })
         (record { files = O.files out.new; calls = O.calls out.new; lines = D.lines diag.new }) }

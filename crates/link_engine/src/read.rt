@@ -1,15 +1,17 @@
 //! Reading the input.
 
-ghost use Rattle.std.specs.Prelude.{◌≡◌, IfErr, IfOk};
+ghost use Rattle.std.specs.Prelude.{◌≡◌, Err, IfErr, IfOk, Result};
 ghost use Rattle.mo_obj.specs.Faults.{IsObjFault};
-ghost use Rattle.mo_types.specs.Answer.{IsDetermined};
 ghost use Rattle.mo_types.specs.Gives.{Gives};
 ghost use Rattle.mo_types.specs.Refs.{refs_of};
 ghost use Rattle.mo_types.specs.Whole.{IsWhole};
 ghost use Rattle.mo_types.specs.declared.key.FileId.{FileId};
+ghost use Rattle.mo_types.specs.declared.object_fault.ObjFault.{ObjFault};
+ghost use Rattle.link_engine.specs.declared.form.TextObject.{TextObject};
 ghost use Rattle.link_engine.specs.Object.{IsLinkable};
 ghost use Rattle.link_engine.specs.Reading as reading;
 ghost use Rattle.link_engine.specs.Steps.{IsRefusal};
+ghost use Rattle.link_engine.specs.Stop.{Answers};
 
 use crate::form::{LATER, TextObject, linked_of};
 use crate::words::Command;
@@ -49,7 +51,7 @@ fn text_object(alloc: Global, file: &Bytes) -> Result<TextObject, ObjFault>
 
 // The answer to a fault of the input.
 fn refused(command: &Command, fault: ObjFault) -> Result<TextObject, Status>
-    ensures exact { Gives IsDetermined result (Err (reading.refused command.now.input fault)) }
+    ensures exact { (given : Result TextObject ObjFault) → Gives IsObjFault (Err fault) given → Answers result (reading.or_refused command.now.input given) }
     ensures kind { IfErr result IsRefusal }
     ensures none { IfOk result (λ object. ⊥) }
 {
@@ -72,7 +74,7 @@ fn refused(command: &Command, fault: ObjFault) -> Result<TextObject, Status>
 /// bytes, another kind of file, a rule that it breaks, a feature or form that the linker doesn't have.
 #[tactic(auto, unfolding(crate::specs::Reading::read))]
 pub fn read(alloc: Global, command: &Command, file: &Bytes) -> Result<TextObject, Status>
-    ensures exact { Gives IsDetermined result (reading.read command.now file.now) }
+    ensures exact { Answers result (reading.read command.now file.now) }
     ensures kind { IfErr result IsRefusal }
     ensures linkable { IfOk result IsLinkable }
 {

@@ -1,8 +1,7 @@
 ghost use Rattle.std.specs.Prelude.{◌≡◌, IfErr};
-ghost use Rattle.mo_types.specs.Answer.{IsDetermined};
-ghost use Rattle.mo_types.specs.Gives.{Gives};
 ghost use Rattle.link_engine.specs.Command.{command_of, first_path, taken};
 ghost use Rattle.link_engine.specs.Steps.{IsWordsStop};
+ghost use Rattle.link_engine.specs.Stop.{Answers};
 
 use mo_cmd::{CommandInputList, UsageFault};
 use mo_types::{ArgList, Bytes, Status};
@@ -40,7 +39,7 @@ fn take(command: mo_cmd::Command) -> Command
 /// Reads the words of a command line after the program's name.
 #[tactic(auto, unfolding(crate::specs::Command::command_of))]
 pub fn read_words(alloc: Global, words: &ArgList) -> Result<Command, Status>
-    ensures exact { Gives IsDetermined result (command_of words.now) }
+    ensures exact { Answers result (command_of words.now) }
     ensures kind { IfErr result IsWordsStop }
 {
     match mo_cmd::read_words(alloc, words) {
