@@ -176,6 +176,3 @@ fn is_128_bits(word: u32) -> bool
 {
     SIZE.read(word) == 0 && VECTOR.read(word) == 1 && OPC_HIGH.read(word) == 1
 }
-
-#[cfg(test)]
-mod tests;

@@ -4,8 +4,6 @@
 
 mod fields;
 mod rounding;
-#[cfg(test)]
-mod tests;
 mod uleb;
 
 pub use fields::{read_u16, read_u32, read_u64};

@@ -13,8 +13,6 @@ mod parts;
 mod paths;
 mod read;
 mod sorted;
-#[cfg(test)]
-mod tests;
 mod values;
 
 pub use command::{Command, CommandInput, CommandInputList, InputForm, UsageFault};

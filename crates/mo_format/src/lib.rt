@@ -8,8 +8,6 @@ mod header;
 mod relocation;
 mod segment;
 mod symbol;
-#[cfg(test)]
-mod tests;
 
 pub use command::{BuildVersionCommand, DylinkerCommand, EntryPointCommand};
 pub use header::MachHeader;

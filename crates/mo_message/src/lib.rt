@@ -3,7 +3,5 @@
 
 mod message;
 mod pieces;
-#[cfg(test)]
-mod tests;
 
 pub use message::tell;

@@ -6,8 +6,6 @@ ghost use Rattle.std.specs.Prelude.{◌≡◌, ◌<◌, length, All};
 ghost use Rattle.race_core.specs.Run.{bids_of, run};
 
 mod laws;
-#[cfg(test)]
-mod tests;
 
 pub use laws::{
     each_word_is_the_least, no_word_rises, offers_alone_decide, order_is_free, runs_follow,

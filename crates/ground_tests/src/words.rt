@@ -1,4 +1,4 @@
-use crate::{Command, InputForm, UsageFault, paths_for, read_all_words, read_list, read_words};
+use mo_cmd::{Command, InputForm, UsageFault, paths_for, read_all_words, read_list, read_words};
 use mo_types::{Arg, ArgList, Bytes, Feature, Items, NameList, ObjFault, OutOfMemory, UsageRule};
 use std::alloc::Global;
 use std::process::Abort;

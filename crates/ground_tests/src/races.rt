@@ -1,7 +1,7 @@
 //! The words of small races, counted by hand.
 ghost use Rattle.std.specs.Prelude.{◌<◌};
 
-use crate::{Offer, replay};
+use race_core::{Offer, replay};
 
 const NONE: u64 = u64::MAX;
 

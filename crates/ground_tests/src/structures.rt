@@ -1,5 +1,8 @@
 //! The structures against what LLVM 14 writes and prints.
-use super::*;
+use mo_format::{
+    BuildVersionCommand, DylinkerCommand, EntryPointCommand, MachHeader, Nlist, RelocationInfo,
+    SectionHeader, SegmentCommand, SymtabCommand,
+};
 use std::test::Fail;
 
 // What `clang -target arm64-apple-macos11 -c` makes of

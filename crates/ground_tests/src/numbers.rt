@@ -1,4 +1,4 @@
-use super::*;
+use mo_bytes::{read_u16, read_u32, read_u64, round_up, uleb_len, uleb_put, uleb_read};
 use std::test::Fail;
 
 // The first eight bytes of an arm64 Mach-O file: MH_MAGIC_64 and CPU_TYPE_ARM64 (`loader.h`).

@@ -1,6 +1,6 @@
 ghost use Rattle.std.specs.Prelude.{Some};
 
-use crate::tell;
+use mo_message::tell;
 use mo_outside::{Diag, Failed};
 use mo_types::{Bytes, Feature, RangeKind, Refusal, Rule, Status, UsageRule, Which};
 use std::process::Abort;
@@ -31,8 +31,8 @@ impl Diag for Kept {
     }
 }
 
-fn bytes(rt: &(impl Abort + AllocGlobal), text: &str) -> Bytes {
-    Bytes::from_slice(rt.alloc(), text.as_bytes()).expect(rt, "memory for a few bytes")
+fn bytes(text: &'static str) -> Bytes {
+    Bytes::from_static(text.as_bytes())
 }
 
 fn told(rt: &impl AllocGlobal, failing: u64, status: &Status) -> Kept {
@@ -66,7 +66,7 @@ fn lines(rt: HostRuntime) {
     assert_line(
         &rt,
         Status::ReadFault {
-            path: bytes(&rt, "main.o"),
+            path: bytes("main.o"),
         },
         "atomld: cannot read main.o\n",
     );
@@ -79,13 +79,13 @@ fn lines_of_refusals(rt: HostRuntime) {
     for (refusal, line) in [
         (
             Refusal::Missing {
-                path: bytes(&rt, "main.o"),
+                path: bytes("main.o"),
             },
             "atomld: not found: main.o\n",
         ),
         (
             Refusal::Malformed {
-                file: bytes(&rt, "main.o"),
+                file: bytes("main.o"),
                 place: 104,
                 rule: Rule::Relocations,
             },
@@ -93,7 +93,7 @@ fn lines_of_refusals(rt: HostRuntime) {
         ),
         (
             Refusal::Unsupported {
-                file: bytes(&rt, "main.o"),
+                file: bytes("main.o"),
                 feature: Feature::Later,
             },
             "atomld: main.o: unsupported: later\n",
@@ -106,36 +106,36 @@ fn lines_of_refusals(rt: HostRuntime) {
         ),
         (
             Refusal::Duplicate {
-                name: bytes(&rt, "_f"),
-                first: bytes(&rt, "main.o"),
-                second: bytes(&rt, "libx.a(h.o)"),
+                name: bytes("_f"),
+                first: bytes("main.o"),
+                second: bytes("libx.a(h.o)"),
             },
             "atomld: duplicate _f: main.o, libx.a(h.o)\n",
         ),
         (
             Refusal::Undefined {
-                name: bytes(&rt, "_main"),
-                file: bytes(&rt, ""),
+                name: bytes("_main"),
+                file: bytes(""),
             },
             "atomld: undefined _main\n",
         ),
         (
             Refusal::Undefined {
-                name: bytes(&rt, "_nobody"),
-                file: bytes(&rt, "main.o"),
+                name: bytes("_nobody"),
+                file: bytes("main.o"),
             },
             "atomld: undefined _nobody: main.o\n",
         ),
         (
             Refusal::NeedsImage {
-                file: bytes(&rt, "main.o"),
+                file: bytes("main.o"),
                 place: 416,
             },
             "atomld: main.o: import without slot at 416\n",
         ),
         (
             Refusal::Range {
-                file: bytes(&rt, "main.o"),
+                file: bytes("main.o"),
                 place: 704,
                 kind: RangeKind::FixupPlace,
                 value: 16393,
@@ -144,7 +144,7 @@ fn lines_of_refusals(rt: HostRuntime) {
         ),
         (
             Refusal::Range {
-                file: bytes(&rt, "main.o"),
+                file: bytes("main.o"),
                 place: u64::MAX,
                 kind: RangeKind::Branch,
                 value: i128::MIN,
@@ -159,7 +159,7 @@ fn lines_of_refusals(rt: HostRuntime) {
 #[test]
 fn nothing_is_put_after_a_fault(rt: HostRuntime) {
     let status = Status::ReadFault {
-        path: bytes(&rt, "main.o"),
+        path: bytes("main.o"),
     };
     for (failing, line) in [
         (1, "atomld: ca"),

@@ -1,6 +1,6 @@
 //! The words are those of LLVM's assembler for arm64 (`llvm-mc -triple=arm64-apple-macos`).
 
-use crate::{branch_of, low12_of, page_of, put_branch, put_low12, put_page};
+use arm64_insn::{branch_of, low12_of, page_of, put_branch, put_low12, put_page};
 
 #[test]
 fn writes_branches_as_the_assembler(rt: HostRuntime) {

@@ -1,0 +1,15 @@
+//! Tests of the public calls of several crates: the check of a crate's tests proves the crate once more, and here it needn't.
+#![tactic(auto)]
+
+#[cfg(test)]
+mod instructions;
+#[cfg(test)]
+mod messages;
+#[cfg(test)]
+mod numbers;
+#[cfg(test)]
+mod races;
+#[cfg(test)]
+mod structures;
+#[cfg(test)]
+mod words;
