@@ -1,0 +1,67 @@
+#!/usr/bin/env python3
+"""Times calls over long tables: `table_speed.py [RUNS]`.
+
+Reads archives of 50,000 members and 500,000 offers, of 500,000 pairs that name one string of 1 MB or its ends, and of
+50,000 names of 1,042 bytes that differ in their last 10; and lists the slots of a million needs of 1,000 to 1,000,000
+goals. Prints for each the least and the median milliseconds of the call. The program is built before by `rt run` in
+`crates/table_speed`.
+"""
+import statistics
+import struct
+import subprocess
+import sys
+import tempfile
+from pathlib import Path
+
+PROGRAM = Path(__file__).resolve().parent.parent / "crates/table_speed/out/table_speed"
+
+
+def header(name, size):
+    return b"%-16s%-12s%-6s%-6s%-8s%-10d`\n" % (name, b"0", b"0", b"0", b"644", size)
+
+
+def archive(names, strings, members):
+    """An archive whose table gives the names at these places of the strings to its members in turn."""
+    strings += bytes(len(strings) % 2)
+    size = 8 + 8 * len(names) + len(strings)
+    first = 8 + 60 + size
+    pairs = b"".join(struct.pack("<2I", name, first + 64 * (i % members)) for i, name in enumerate(names))
+    table = struct.pack("<I", len(pairs)) + pairs + struct.pack("<I", len(strings)) + strings
+    return b"!<arch>\n" + header(b"__.SYMDEF", size) + table + (header(b"member.o", 4) + b"data") * members
+
+
+def archives():
+    count = 500_000
+    yield "50,000 members, 500,000 offers", archive(
+        [12 * i for i in range(count)], b"".join(b"_%010d\0" % i for i in range(count)), 50_000)
+    long = b"a" * 1_000_000 + b"\0"
+    yield "500,000 pairs name one string of 1 MB", archive([0] * count, long, 1)
+    yield "500,000 pairs name its ends", archive(list(range(count)), long, 1)
+    yield "50,000 names of 1,042 bytes", archive(
+        [1043 * i for i in range(50_000)], b"".join(b"in front" * 129 + b"%010d\0" % i for i in range(50_000)), 1)
+
+
+def run(*words):
+    done = subprocess.run([PROGRAM, *map(str, words)], capture_output=True, text=True, check=True)
+    return int(done.stderr)
+
+
+def tell(name, runs, *words):
+    times = [run(*words) for _ in range(runs)]
+    print(f"{name}: {min(times)} ms, median {statistics.median(times):.0f} ms")
+
+
+def main(runs):
+    if not PROGRAM.exists():
+        sys.exit("build the program first: (cd crates/table_speed && rt run)")
+    with tempfile.TemporaryDirectory() as folder:
+        for name, contents in archives():
+            path = Path(folder) / "archive.a"
+            path.write_bytes(contents)
+            tell(name, runs, "archive", path)
+    for goals in (1_000, 30_000, 200_000, 1_000_000):
+        tell(f"a million needs of {goals:,} goals", runs, "slots", 1_000_000, goals)
+
+
+if __name__ == "__main__":
+    main(int(sys.argv[1]) if len(sys.argv) > 1 else 5)
