@@ -1,3 +1,4 @@
+pub mod Greatest
 pub mod Keys
 pub mod Walk
 pub mod Meaning

@@ -1,10 +1,10 @@
 //! What the definitions mean, each on a call that does nothing.
-ghost use Rattle.std.specs.Prelude.{◌≡◌, ℕ, ◌+◌, ◌*◌, ◌^◌, ◌≤◌, List, All};
+ghost use Rattle.std.specs.Prelude.{◌≡◌, ℕ, ◌+◌, ◌*◌, ◌^◌, ◌≤◌, List, ◌∷◌, All, slice_get, Some};
 ghost use Rattle.std.specs.List.{AllPairs};
 ghost use Rattle.mo_bytes.specs.Rounding.{IsLeastMultiple};
 ghost use Rattle.mo_types.specs.declared.atom.Atom.{Atom};
 ghost use Rattle.mo_types.specs.declared.out_section.OutSection.{OutSection};
-ghost use Rattle.tlv_plan.specs.Template.{aligned, template_stand, template_size};
+ghost use Rattle.tlv_plan.specs.Template.{aligned, greatest_align, template_stand, template_size};
 
 /// Each atom's offset is a multiple of its alignment.
 #[tactic(auto, using(crate::proofs::Meaning::are_aligned))]
@@ -23,4 +23,12 @@ pub fn atoms_stand_apart()
 #[tactic(auto, using(crate::proofs::Walk::aligned_least))]
 pub fn places_are_least()
     ensures { (align at : ℕ) → IsLeastMultiple (2 ^ align) at (aligned align at) }
+{}
+
+/// The template's alignment is the greatest among its sections: none has a greater one, and one has it, if there are
+/// sections.
+#[tactic(auto, using(crate::proofs::Greatest::greatest))]
+pub fn the_greatest_alignment_counts()
+    ensures bound { (sections : List OutSection) → All (λ (section : OutSection). section.align ≤ greatest_align sections) sections }
+    ensures one { (first : OutSection) (rest : List OutSection) → (k : ℕ) × (section : OutSection) × (slice_get (first ∷ rest) k ≡ Some section) × (section.align ≡ greatest_align (first ∷ rest)) }
 {}

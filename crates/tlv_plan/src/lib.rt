@@ -10,7 +10,9 @@ mod room;
 #[cfg(test)]
 mod tests;
 
-pub use laws::{atoms_stand_apart, offsets_are_aligned, places_are_least};
+pub use laws::{
+    atoms_stand_apart, offsets_are_aligned, places_are_least, the_greatest_alignment_counts,
+};
 pub use lookup::offset_of;
 pub use parts::{Offset, OffsetList, Template};
 pub use plan::template;
