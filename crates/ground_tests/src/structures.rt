@@ -3,6 +3,7 @@ use mo_format::{
     BuildVersionCommand, DylinkerCommand, EntryPointCommand, MachHeader, Nlist, RelocationInfo,
     SectionHeader, SegmentCommand, SymtabCommand,
 };
+use std::alloc::AllocError;
 use std::test::Fail;
 
 // What `clang -target arm64-apple-macos11 -c` makes of
@@ -218,117 +219,133 @@ fn relocations_and_symbols_of_clang_are_read(rt: HostRuntime) {
     }
 }
 
+// The fields that the bytes were made of.
+const HEADER: MachHeader = MachHeader {
+    magic: 0xfeedfacf,
+    cputype: 0x0100000c,
+    cpusubtype: 0x80000002,
+    filetype: 6,
+    ncmds: 5,
+    sizeofcmds: 248,
+    flags: 0x00112085,
+    reserved: 0xa1b2c3d4,
+};
+
+const SEGMENT: SegmentCommand = SegmentCommand {
+    cmd: 0x19,
+    cmdsize: 152,
+    segname: *b"__SEGMENT_OF_16_",
+    vmaddr: 0x0102030405060708,
+    vmsize: 0x1112131415161718,
+    fileoff: 0x188,
+    filesize: 0x20,
+    maxprot: 7,
+    initprot: 5,
+    nsects: 1,
+    flags: 0x10,
+};
+
+const SECTION: SectionHeader = SectionHeader {
+    sectname: *b"__section_of_16_",
+    segname: *b"__DATA\0\0\0\0\0\0\0\0\0\0",
+    addr: 0x2122232425262728,
+    size: 0x10,
+    offset: 0x188,
+    align: 3,
+    reloff: 0x1a0,
+    nreloc: 2,
+    flags: 0x80000408,
+    reserved1: 0x31323334,
+    reserved2: 0x41424344,
+    reserved3: 0x51525354,
+};
+
+const SYMTAB: SymtabCommand = SymtabCommand {
+    cmd: 2,
+    cmdsize: 24,
+    symoff: 0x1b0,
+    nsyms: 1,
+    stroff: 0x1c0,
+    strsize: 8,
+};
+
+const DYLINKER: DylinkerCommand = DylinkerCommand {
+    cmd: 0xe,
+    cmdsize: 32,
+    name: 12,
+};
+
+const VERSION: BuildVersionCommand = BuildVersionCommand {
+    cmd: 0x32,
+    cmdsize: 24,
+    platform: 1,
+    minos: 0xb0000,
+    sdk: 0xc0300,
+    ntools: 0,
+};
+
+const ENTRY: EntryPointCommand = EntryPointCommand {
+    cmd: 0x80000028,
+    cmdsize: 24,
+    entryoff: 0x7172737475767778,
+    stacksize: 0x8182838485868788,
+};
+
+const PAGE: RelocationInfo = RelocationInfo {
+    r_address: 0x61626364,
+    r_symbolnum: 0xabcdef,
+    r_pcrel: true,
+    r_length: 2,
+    r_extern: false,
+    r_type: 9,
+};
+
+const POINTER: RelocationInfo = RelocationInfo {
+    r_address: 0xfffffff8,
+    r_symbolnum: 0x123456,
+    r_pcrel: false,
+    r_length: 3,
+    r_extern: true,
+    r_type: 6,
+};
+
+const SYMBOL: Nlist = Nlist {
+    n_strx: 1,
+    n_type: 0x0f,
+    n_sect: 0x1e,
+    n_desc: 0x280,
+    n_value: 0x9192939495969798,
+};
+
+fn write_structures(out: &mut Vec<u8>) -> Result<(), AllocError> {
+    HEADER.write(out)?;
+    SEGMENT.write(out)?;
+    SECTION.write(out)?;
+    SYMTAB.write(out)?;
+    DYLINKER.write(out)?;
+    out.extend_from_slice(b"/usr/lib/dyld\0\0\0\0\0\0\0")?;
+    VERSION.write(out)?;
+    ENTRY.write(out)?;
+    PAGE.write(out)?;
+    POINTER.write(out)?;
+    SYMBOL.write(out)?;
+    Ok(())
+}
+
 #[test]
 fn structures_are_those_of_yaml2obj(rt: HostRuntime) -> Result<(), Fail> {
+    assert_eq!(rt; MachHeader::read(&STRUCTURES, 0), HEADER);
+    assert_eq!(rt; SegmentCommand::read(&STRUCTURES, 32), SEGMENT);
+    assert_eq!(rt; SectionHeader::read(&STRUCTURES, 104), SECTION);
+    assert_eq!(rt; SymtabCommand::read(&STRUCTURES, 184), SYMTAB);
+    assert_eq!(rt; DylinkerCommand::read(&STRUCTURES, 208), DYLINKER);
+    assert_eq!(rt; BuildVersionCommand::read(&STRUCTURES, 240), VERSION);
+    assert_eq!(rt; EntryPointCommand::read(&STRUCTURES, 264), ENTRY);
+    assert_eq!(rt; RelocationInfo::read(&STRUCTURES, 288), PAGE);
+    assert_eq!(rt; RelocationInfo::read(&STRUCTURES, 296), POINTER);
+    assert_eq!(rt; Nlist::read(&STRUCTURES, 304), SYMBOL);
     let mut out = Vec::new(rt.alloc());
-    let header = MachHeader {
-        magic: 0xfeedfacf,
-        cputype: 0x0100000c,
-        cpusubtype: 0x80000002,
-        filetype: 6,
-        ncmds: 5,
-        sizeofcmds: 248,
-        flags: 0x00112085,
-        reserved: 0xa1b2c3d4,
-    };
-    header.write(&mut out)?;
-    assert_eq!(rt; MachHeader::read(&STRUCTURES, 0), header);
-    let segment = SegmentCommand {
-        cmd: 0x19,
-        cmdsize: 152,
-        segname: *b"__SEGMENT_OF_16_",
-        vmaddr: 0x0102030405060708,
-        vmsize: 0x1112131415161718,
-        fileoff: 0x188,
-        filesize: 0x20,
-        maxprot: 7,
-        initprot: 5,
-        nsects: 1,
-        flags: 0x10,
-    };
-    segment.write(&mut out)?;
-    assert_eq!(rt; SegmentCommand::read(&STRUCTURES, 32), segment);
-    let section = SectionHeader {
-        sectname: *b"__section_of_16_",
-        segname: *b"__DATA\0\0\0\0\0\0\0\0\0\0",
-        addr: 0x2122232425262728,
-        size: 0x10,
-        offset: 0x188,
-        align: 3,
-        reloff: 0x1a0,
-        nreloc: 2,
-        flags: 0x80000408,
-        reserved1: 0x31323334,
-        reserved2: 0x41424344,
-        reserved3: 0x51525354,
-    };
-    section.write(&mut out)?;
-    assert_eq!(rt; SectionHeader::read(&STRUCTURES, 104), section);
-    let symtab = SymtabCommand {
-        cmd: 2,
-        cmdsize: 24,
-        symoff: 0x1b0,
-        nsyms: 1,
-        stroff: 0x1c0,
-        strsize: 8,
-    };
-    symtab.write(&mut out)?;
-    assert_eq!(rt; SymtabCommand::read(&STRUCTURES, 184), symtab);
-    let dylinker = DylinkerCommand {
-        cmd: 0xe,
-        cmdsize: 32,
-        name: 12,
-    };
-    dylinker.write(&mut out)?;
-    assert_eq!(rt; DylinkerCommand::read(&STRUCTURES, 208), dylinker);
-    out.extend_from_slice(b"/usr/lib/dyld\0\0\0\0\0\0\0")?;
-    let version = BuildVersionCommand {
-        cmd: 0x32,
-        cmdsize: 24,
-        platform: 1,
-        minos: 0xb0000,
-        sdk: 0xc0300,
-        ntools: 0,
-    };
-    version.write(&mut out)?;
-    assert_eq!(rt; BuildVersionCommand::read(&STRUCTURES, 240), version);
-    let entry = EntryPointCommand {
-        cmd: 0x80000028,
-        cmdsize: 24,
-        entryoff: 0x7172737475767778,
-        stacksize: 0x8182838485868788,
-    };
-    entry.write(&mut out)?;
-    assert_eq!(rt; EntryPointCommand::read(&STRUCTURES, 264), entry);
-    let page = RelocationInfo {
-        r_address: 0x61626364,
-        r_symbolnum: 0xabcdef,
-        r_pcrel: true,
-        r_length: 2,
-        r_extern: false,
-        r_type: 9,
-    };
-    page.write(&mut out)?;
-    assert_eq!(rt; RelocationInfo::read(&STRUCTURES, 288), page);
-    let pointer = RelocationInfo {
-        r_address: 0xfffffff8,
-        r_symbolnum: 0x123456,
-        r_pcrel: false,
-        r_length: 3,
-        r_extern: true,
-        r_type: 6,
-    };
-    pointer.write(&mut out)?;
-    assert_eq!(rt; RelocationInfo::read(&STRUCTURES, 296), pointer);
-    let symbol = Nlist {
-        n_strx: 1,
-        n_type: 0x0f,
-        n_sect: 0x1e,
-        n_desc: 0x280,
-        n_value: 0x9192939495969798,
-    };
-    symbol.write(&mut out)?;
-    assert_eq!(rt; Nlist::read(&STRUCTURES, 304), symbol);
+    write_structures(&mut out)?;
     assert_eq!(rt; out.as_slice(), STRUCTURES.as_slice());
     Ok(())
 }
