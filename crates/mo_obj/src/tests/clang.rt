@@ -1,7 +1,7 @@
 //! Objects of clang and of LLVM's assembler.
-use super::described::{SectionRow, SymbolRow, check_sections, check_symbols};
-use super::read;
+use super::described::{SectionRow, SymbolRow, check_object};
 use super::sample::{expect_fault, fault_of};
+use super::symbols::check_sample;
 use std::test::Fail;
 
 // What `llvm-mc -triple=arm64-apple-macos11 -filetype=obj` (LLVM 14) makes of
@@ -348,23 +348,11 @@ fn debugged_symbols() -> &'static [SymbolRow] {
 }
 
 #[test]
-fn an_assembled_object(rt: HostRuntime) -> Result<(), Fail> {
-    let object = read(rt.alloc(), assembled())?;
-    assert!(rt; object.subsections);
-    check_sections(&rt, &object, assembled_sections())?;
-    check_symbols(&rt, &object, assembled_symbols())
-}
-
-#[test]
-fn an_object_with_debugging_data(rt: HostRuntime) -> Result<(), Fail> {
-    let object = read(rt.alloc(), debugged())?;
-    assert!(rt; object.subsections);
-    check_sections(&rt, &object, debugged_sections())?;
-    check_symbols(&rt, &object, debugged_symbols())
-}
-
-#[test]
-fn frames_come_later(rt: HostRuntime) -> Result<(), Fail> {
+fn objects_of_tools(rt: HostRuntime) -> Result<(), Fail> {
+    check_sample(&rt)?;
+    check_object(&rt, assembled(), assembled_sections(), assembled_symbols())?;
+    check_object(&rt, debugged(), debugged_sections(), debugged_symbols())?;
+    // the frames of the third come later
     let fault = fault_of(rt.alloc(), framed(), framed().len());
     expect_fault(&rt, fault, "unsupported: later", "framed")
 }

@@ -1,5 +1,6 @@
 //! An object's sections and symbols as rows of a table.
-use mo_types::{Object, Section, Symbol, SymbolKind};
+use super::read;
+use mo_types::{ObjFault, Object, Section, Symbol, SymbolKind};
 use std::alloc::Global;
 use std::process::Abort;
 use std::test::Fail;
@@ -23,25 +24,26 @@ fn numbers(section: &Section) -> [u64; 7] {
     ]
 }
 
-/// Asserts that the sections are those of a table, and that all but those of zeros have their bytes.
-pub fn check_sections(rt: &impl Abort, object: &Object, rows: &[SectionRow]) -> Result<(), Fail> {
+// Whether a section is that of a row, and has its bytes, unless they are zeros.
+fn is_section(section: &Section, (segment, name, wanted): &SectionRow) -> bool {
+    let size = if section.is_zerofill() {
+        0
+    } else {
+        section.size
+    };
+    section.segment.as_slice() == segment.as_bytes()
+        && section.name.as_slice() == name.as_bytes()
+        && numbers(section) == *wanted
+        && section.bytes.len() as u64 == size
+}
+
+// Asserts that the sections are those of a table.
+fn check_sections(rt: &impl Abort, object: &Object, rows: &[SectionRow]) {
     let sections = object.sections.as_slice();
     assert_eq!(rt; sections.len(), rows.len());
-    for (section, (segment, name, wanted)) in sections.iter().zip(rows.iter()) {
-        assert!(rt;
-            section.segment.as_slice() == segment.as_bytes(),
-            "in {name}"
-        );
-        assert!(rt; section.name.as_slice() == name.as_bytes(), "in {name}");
-        assert_eq!(rt; numbers(section), *wanted, "in {name}");
-        let size = if section.is_zerofill() {
-            0
-        } else {
-            section.size
-        };
-        assert_eq!(rt; section.bytes.len() as u64, size, "in {name}");
+    for (section, row) in sections.iter().zip(rows.iter()) {
+        assert!(rt; is_section(section, row), "in {}", row.1);
     }
-    Ok(())
 }
 
 fn kind(kind: &SymbolKind) -> (&'static str, [u64; 2]) {
@@ -75,21 +77,53 @@ fn marks(alloc: Global, symbol: &Symbol) -> Result<String, Fail> {
     Ok(text)
 }
 
-/// Asserts that the symbols are those of a table.
-pub fn check_symbols(
+fn is_symbol(symbol: &Symbol, (name, wanted, numbers, _): &SymbolRow) -> bool {
+    symbol.name.as_slice() == name.as_bytes() && kind(&symbol.kind) == (*wanted, *numbers)
+}
+
+fn has_marks(alloc: Global, symbol: &Symbol, wanted: &str) -> Result<bool, Fail> {
+    Ok(marks(alloc, symbol)?.as_str() == wanted)
+}
+
+// Asserts that the symbols are those of a table.
+fn check_symbols(
     rt: &(impl Abort + AllocGlobal),
     object: &Object,
     rows: &[SymbolRow],
 ) -> Result<(), Fail> {
     let symbols = object.symbols.as_slice();
     assert_eq!(rt; symbols.len(), rows.len());
-    for (symbol, (name, wanted, wanted_numbers, wanted_marks)) in symbols.iter().zip(rows.iter()) {
-        assert!(rt; symbol.name.as_slice() == name.as_bytes(), "in {name}");
-        let (word, numbers) = kind(&symbol.kind);
-        assert!(rt; word == *wanted, "in {name}");
-        assert_eq!(rt; numbers, *wanted_numbers, "in {name}");
-        let marks = marks(rt.alloc(), symbol)?;
-        assert_eq!(rt; marks.as_str(), *wanted_marks, "in {name}");
+    for (symbol, row) in symbols.iter().zip(rows.iter()) {
+        assert!(rt; is_symbol(symbol, row), "in {}", row.0);
+        assert!(rt; has_marks(rt.alloc(), symbol, row.3)?, "in {}", row.0);
     }
     Ok(())
+}
+
+// Asserts that an object was read, in subsections, and that its sections and symbols are those of tables.
+fn check_read(
+    rt: &(impl Abort + AllocGlobal),
+    read: &Result<Object, ObjFault>,
+    sections: &[SectionRow],
+    symbols: &[SymbolRow],
+) -> Result<(), Fail> {
+    match read {
+        Ok(object) => {
+            assert!(rt; object.subsections);
+            check_sections(rt, object, sections);
+            check_symbols(rt, object, symbols)
+        }
+        Err(_) => Err(Fail::from("the object wasn't read")),
+    }
+}
+
+/// Asserts that the object of some bytes has the sections and symbols of tables.
+pub fn check_object(
+    rt: &(impl Abort + AllocGlobal),
+    bytes: &[u8],
+    sections: &[SectionRow],
+    symbols: &[SymbolRow],
+) -> Result<(), Fail> {
+    let object = read(rt.alloc(), bytes);
+    check_read(rt, &object, sections, symbols)
 }

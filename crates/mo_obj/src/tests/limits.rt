@@ -1,8 +1,9 @@
 //! Relocations that pass the file's end, and as many sections as there may be.
 use super::read;
 use super::sample::{edit, expect_fault, fault_of};
-use mo_types::OutOfMemory;
+use mo_types::{ObjFault, Object, OutOfMemory};
 use std::alloc::Global;
+use std::process::Abort;
 use std::test::Fail;
 
 // One function without relocations: the header of its section at 104, the function at 208, one symbol at 216,
@@ -31,15 +32,14 @@ fn with_relocations(alloc: Global, size: usize) -> Result<Vec<u8>, OutOfMemory> 
     Ok(bytes)
 }
 
-#[test]
-fn relocations_outside(rt: HostRuntime) -> Result<(), Fail> {
-    let bytes = with_relocations(rt.alloc(), 0x1ef)?;
-    let fault = fault_of(rt.alloc(), &bytes, 0x1ef);
-    expect_fault(&rt, fault, "malformed at 104: relocations", "0x1ef bytes")?;
-    // a byte more: they lie inside, and no row of the table has r_type 0 and r_length 0
-    let bytes = with_relocations(rt.alloc(), 0x1f0)?;
-    let fault = fault_of(rt.alloc(), &bytes, 0x1f0);
-    expect_fault(&rt, fault, "malformed at 480: shape", "0x1f0 bytes")
+fn expect_relocations(
+    rt: &(impl Abort + AllocGlobal),
+    size: usize,
+    text: &str,
+) -> Result<(), Fail> {
+    let bytes = with_relocations(rt.alloc(), size)?;
+    let fault = fault_of(rt.alloc(), &bytes, size);
+    expect_fault(rt, fault, text, "relocations")
 }
 
 // An object with sections that have no names and no contents, and no symbols: its size in bytes, and the numbers of
@@ -51,11 +51,26 @@ fn with_sections(alloc: Global, size: usize, numbers: &str) -> Result<Vec<u8>, O
     Ok(bytes)
 }
 
+fn count_of(read: &Result<Object, ObjFault>) -> Option<usize> {
+    match read {
+        Ok(object) => Some(object.sections.len()),
+        Err(_) => None,
+    }
+}
+
+// How many sections are read, where the object is.
+fn section_count(alloc: Global, bytes: &[u8]) -> Option<usize> {
+    let object = read(alloc, bytes);
+    count_of(&object)
+}
+
 #[test]
-fn sections_are_255_at_most(rt: HostRuntime) -> Result<(), Fail> {
+fn relocations_and_sections_within_limits(rt: HostRuntime) -> Result<(), Fail> {
+    expect_relocations(&rt, 0x1ef, "malformed at 104: relocations")?;
+    // a byte more: they lie inside, and no row of the table has r_type 0 and r_length 0
+    expect_relocations(&rt, 0x1f0, "malformed at 480: shape")?;
     let bytes = with_sections(rt.alloc(), 20_504, "96=ff00 20=f84f 36=f84f")?;
-    let object = read(rt.alloc(), &bytes)?;
-    assert_eq!(rt; object.sections.len(), 255);
+    assert!(rt; section_count(rt.alloc(), &bytes) == Some(255));
     let bytes = with_sections(rt.alloc(), 20_584, "96=0001 20=4850 36=4850")?;
     let fault = fault_of(rt.alloc(), &bytes, bytes.len());
     expect_fault(&rt, fault, "malformed at 32: segment", "256 sections")

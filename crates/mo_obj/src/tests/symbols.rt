@@ -1,7 +1,7 @@
 //! What stands in the sample.
-use super::described::{SectionRow, SymbolRow, check_sections, check_symbols};
-use super::read;
+use super::described::{SectionRow, SymbolRow, check_object};
 use super::sample::sample;
+use std::process::Abort;
 use std::test::Fail;
 
 fn sections() -> &'static [SectionRow] {
@@ -33,11 +33,8 @@ fn symbols() -> &'static [SymbolRow] {
     ]
 }
 
-#[test]
-fn the_sample(rt: HostRuntime) -> Result<(), Fail> {
+/// Asserts that the sample is read with what stands in it.
+pub fn check_sample(rt: &(impl Abort + AllocGlobal)) -> Result<(), Fail> {
     let bytes = sample(rt.alloc())?;
-    let object = read(rt.alloc(), &bytes)?;
-    assert!(rt; object.subsections);
-    check_sections(&rt, &object, sections())?;
-    check_symbols(&rt, &object, symbols())
+    check_object(rt, &bytes, sections(), symbols())
 }
