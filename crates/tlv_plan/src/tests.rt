@@ -58,8 +58,8 @@ fn section(alloc: Global, kind: u8, align: u8, rows: &[Row]) -> Result<OutSectio
         keys.push(key(row))?;
     }
     Ok(OutSection {
-        segment: Bytes::from_slice(alloc, b"__DATA")?,
-        name: Bytes::from_slice(alloc, b"__thread")?,
+        segment: Bytes::from_static(b"__DATA"),
+        name: Bytes::from_static(b"__thread"),
         kind,
         flags: u32::from(kind),
         align,
@@ -108,123 +108,177 @@ fn made(
     }
 }
 
-// Whether the atoms of these rows, and no others, are in a template, at these offsets.
-fn holds(template: &Template, rows: &[(Row, u64)]) -> bool {
-    template.places.as_slice().len() == rows.len()
-        && rows.iter().all(|(row, offset)| offset_of(template, key(row)) == Some(*offset))
+// A section of the image: its type, its alignment, and its atoms.
+type Part<'a> = (u8, u8, &'a [Row]);
+
+fn sections(alloc: Global, parts: &[Part]) -> Result<OutSections, OutOfMemory> {
+    let mut sections = OutSections::new(alloc);
+    for (kind, align, rows) in parts {
+        sections.push(section(alloc, *kind, *align, rows)?)?;
+    }
+    Ok(sections)
 }
 
-// A variable of 4 bytes with a value, one of 8 bytes without, and their code.
+fn planned(alloc: Global, rows: &[Row], parts: &[Part]) -> Result<Option<Template>, OutOfMemory> {
+    let kept = atoms(alloc, rows)?;
+    let sections = sections(alloc, parts)?;
+    made(alloc, &kept, &sections)
+}
+
+// Whether the atoms of these rows, and no others, are in the template, at these offsets, and it has this alignment and
+// this size.
+fn holds(template: &Option<Template>, offsets: &[(Row, u64)], align: u8, size: u64) -> bool {
+    match template {
+        Some(template) => {
+            template.places.as_slice().len() == offsets.len()
+                && offsets
+                    .iter()
+                    .all(|(row, at)| offset_of(template, key(row)) == Some(*at))
+                && template.align == align
+                && template.size == size
+        }
+        None => false,
+    }
+}
+
+fn is_planned(
+    alloc: Global,
+    rows: &[Row],
+    parts: &[Part],
+    offsets: &[(Row, u64)],
+    align: u8,
+    size: u64,
+) -> Result<bool, OutOfMemory> {
+    let template = planned(alloc, rows, parts)?;
+    Ok(holds(&template, offsets, align, size))
+}
+
+fn is_too_large(alloc: Global, rows: &[Row], parts: &[Part]) -> Result<bool, OutOfMemory> {
+    Ok(planned(alloc, rows, parts)?.is_none())
+}
+
+// A variable of 4 bytes with a value, one of 8 bytes without, and their code. The base is a multiple of 8.
 #[test]
 fn thread_local_offsets(rt: HostRuntime) -> Result<(), Fail> {
-    let alloc = rt.alloc();
     let text = (0, 1, 0, 4, 2);
     let value = (0, 2, 0, 4, 2);
     let zeros = (0, 3, 0, 8, 3);
-    let kept = atoms(alloc, &[text, value, zeros])?;
-    let mut sections = OutSections::new(alloc);
-    sections.push(section(alloc, TEXT, 4, &[text])?)?;
-    sections.push(section(alloc, DATA, 2, &[value])?)?;
-    sections.push(section(alloc, ZEROFILL, 3, &[zeros])?)?;
-    let template = made(alloc, &kept, &sections)?;
-    assert!(rt; template.is_some());
-    if let Some(template) = template {
-        assert!(rt; holds(&template, &[(value, 0), (zeros, 8)]));
-        assert!(rt; offset_of(&template, key(&text)).is_none());
-        // The base is a multiple of 8.
-        assert!(rt; template.align == 3 && template.size == 16);
-    }
+    let rows = [text, value, zeros];
+    let parts: [Part; 3] = [
+        (TEXT, 4, &[text]),
+        (DATA, 2, &[value]),
+        (ZEROFILL, 3, &[zeros]),
+    ];
+    let offsets = [(value, 0), (zeros, 8)];
+    assert!(rt; is_planned(rt.alloc(), &rows, &parts, &offsets, 3, 16)?);
     Ok(())
-}
-
-// What is in a section of this type and alignment is placed behind what there is.
-fn one_section(
-    alloc: Global,
-    kind: u8,
-    align: u8,
-    rows: &[Row],
-) -> Result<Option<Template>, OutOfMemory> {
-    let kept = atoms(alloc, rows)?;
-    let mut sections = OutSections::new(alloc);
-    sections.push(section(alloc, kind, align, rows)?)?;
-    made(alloc, &kept, &sections)
 }
 
 #[test]
 fn sections_of_two_files(rt: HostRuntime) -> Result<(), Fail> {
     let alloc = rt.alloc();
-    let rows = [
-        (0, 2, 0, 5, 0),
-        (0, 2, 5, 0, 0),
-        (0, 3, 0, 1, 4),
-        (1, 2, 0, 1, 4),
-        (1, 3, 0, 7, 3),
+    let first = (0, 2, 0, 5, 0);
+    let empty = (0, 2, 5, 0, 0);
+    let aligned = (0, 3, 0, 1, 4);
+    let second = (1, 2, 0, 1, 4);
+    let last = (1, 3, 0, 7, 3);
+    let rows = [first, empty, aligned, second, last];
+    let parts: [Part; 2] = [
+        (DATA, 4, &[first, empty, second]),
+        (ZEROFILL, 5, &[aligned, last]),
     ];
-    let [first, empty, aligned, second, last] = rows;
-    let kept = atoms(alloc, &rows)?;
-    let mut sections = OutSections::new(alloc);
-    sections.push(section(alloc, DATA, 4, &[first, empty, second])?)?;
-    sections.push(section(alloc, ZEROFILL, 5, &[aligned, last])?)?;
-    let template = made(alloc, &kept, &sections)?;
-    assert!(rt; template.is_some());
-    if let Some(template) = template {
-        // The second file's value at 16, and the zeros from the next multiple of 32 on.
-        assert!(rt;
-            holds(
-                &template,
-                &[
-                    (first, 0),
-                    (empty, 5),
-                    (second, 16),
-                    (aligned, 32),
-                    (last, 40)
-                ]
-            )
-        );
-        assert!(rt; template.align == 5 && template.size == 47);
-    }
-    let none = one_section(alloc, TEXT, 4, &[first])?;
-    assert!(rt; none.is_some_and(|t| holds(&t, &[]) && t.align == 0 && t.size == 0));
+    // The second file's value at 16, and the zeros from the next multiple of 32 on.
+    let offsets = [
+        (first, 0),
+        (empty, 5),
+        (second, 16),
+        (aligned, 32),
+        (last, 40),
+    ];
+    assert!(rt; is_planned(alloc, &rows, &parts, &offsets, 5, 47)?);
+    assert!(rt; is_planned(alloc, &[first], &[(TEXT, 4, &[first])], &[], 0, 0)?);
     // The last byte that 64 bits can count, and one more.
-    let most = one_section(alloc, DATA, 0, &[(0, 1, 0, u64::MAX, 0)])?;
-    assert!(rt; most.is_some_and(|t| t.size == u64::MAX));
-    assert!(rt; one_section(alloc, DATA, 0, &[(0, 1, 0, u64::MAX, 0), (0, 2, 0, 1, 0)])?.is_none());
+    let most = (0, 1, 0, u64::MAX, 0);
+    let more = [most, (0, 2, 0, 1, 0)];
+    assert!(rt;
+        is_planned(
+            alloc,
+            &[most],
+            &[(DATA, 0, &[most])],
+            &[(most, 0)],
+            0,
+            u64::MAX
+        )?
+    );
+    assert!(rt; is_too_large(alloc, &more, &[(DATA, 0, &more)])?);
     Ok(())
 }
 
 // Two sections that take turns in the order of atoms: 3 bytes at multiples of 4, and 8 bytes each.
-fn thousands(alloc: Global, count: u16) -> Result<Option<Template>, OutOfMemory> {
+fn small(file: u16) -> Row {
+    (file, 1, 0, 3, 2)
+}
+
+fn large(file: u16) -> Row {
+    (file, 2, 0, 8, 3)
+}
+
+fn many_atoms(alloc: Global, count: u16) -> Result<AtomList, OutOfMemory> {
     let mut kept = AtomList::new(alloc);
-    let mut small = KeyList::new(alloc);
-    let mut large = KeyList::new(alloc);
     for file in 0..count {
-        small.push(key(&(file, 1, 0, 3, 2)))?;
-        kept.push(atom(&(file, 1, 0, 3, 2)))?;
-        large.push(key(&(file, 2, 0, 8, 3)))?;
-        kept.push(atom(&(file, 2, 0, 8, 3)))?;
+        kept.push(atom(&small(file)))?;
+        kept.push(atom(&large(file)))?;
     }
+    Ok(kept)
+}
+
+fn many_small(alloc: Global, count: u16) -> Result<OutSection, OutOfMemory> {
+    let mut many = section(alloc, DATA, 2, &[])?;
+    for file in 0..count {
+        many.atoms.push(key(&small(file)))?;
+    }
+    Ok(many)
+}
+
+fn many_large(alloc: Global, count: u16) -> Result<OutSection, OutOfMemory> {
+    let mut many = section(alloc, ZEROFILL, 3, &[])?;
+    for file in 0..count {
+        many.atoms.push(key(&large(file)))?;
+    }
+    Ok(many)
+}
+
+fn two_sections(alloc: Global, count: u16) -> Result<OutSections, OutOfMemory> {
     let mut sections = OutSections::new(alloc);
-    let mut first = section(alloc, DATA, 2, &[])?;
-    first.atoms = small;
-    sections.push(first)?;
-    let mut second = section(alloc, ZEROFILL, 3, &[])?;
-    second.atoms = large;
-    sections.push(second)?;
+    sections.push(many_small(alloc, count)?)?;
+    sections.push(many_large(alloc, count)?)?;
+    Ok(sections)
+}
+
+fn thousands(alloc: Global, count: u16) -> Result<Option<Template>, OutOfMemory> {
+    let kept = many_atoms(alloc, count)?;
+    let sections = two_sections(alloc, count)?;
     made(alloc, &kept, &sections)
+}
+
+fn are_in_place(template: &Option<Template>, count: u16) -> bool {
+    let Some(template) = template else {
+        return false;
+    };
+    for file in 0..count {
+        let at = u64::from(file);
+        if offset_of(template, key(&small(file))) != Some(at * 4)
+            || offset_of(template, key(&large(file))) != Some(40_000 + at * 8)
+        {
+            return false;
+        }
+    }
+    template.size == 120_000 && template.align == 3
 }
 
 #[test]
 fn thousands_of_variables(rt: HostRuntime) -> Result<(), Fail> {
     let template = thousands(rt.alloc(), 10_000)?;
-    assert!(rt; template.is_some());
-    if let Some(template) = template {
-        assert!(rt; template.size == 120_000 && template.align == 3);
-        for file in 0..10_000u16 {
-            let small = offset_of(&template, key(&(file, 1, 0, 3, 2)));
-            assert!(rt; small == Some(u64::from(file) * 4), "{file}");
-            let large = offset_of(&template, key(&(file, 2, 0, 8, 3)));
-            assert!(rt; large == Some(40_000 + u64::from(file) * 8), "{file}");
-        }
-    }
+    assert!(rt; are_in_place(&template, 10_000));
     Ok(())
 }
