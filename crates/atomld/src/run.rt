@@ -11,7 +11,24 @@ use mo_outside::{Diag, Files, FreeGate, Out};
 use mo_types::{ArgList, OutOfMemory, Status};
 use std::alloc::Global;
 
+// Links what the words say, and answers the exit status.
+fn link_words<F: Files, O: Out, D: Diag>(
+    alloc: Global,
+    words: &ArgList,
+    files: &mut F,
+    out: &mut O,
+    diag: &mut D,
+) -> u8
+    ensures { ForFiles (F.holds files.old) (λ held. Exits (verdict words.now held) result
+        (Rises (F.faults files.old) (F.faults files.new)) (Rises (O.faults out.old) (O.faults out.new)) (¬ Rises (D.faults diag.old) (D.faults diag.new))
+        (record { files = O.files out.old; calls = O.calls out.old; lines = D.lines diag.old })
+        (record { files = O.files out.new; calls = O.calls out.new; lines = D.lines diag.new })) }
+{
+    link(alloc, words, files, out, diag, &FreeGate).code()
+}
+
 /// Links what the words say, or tells that memory for them was refused, and answers the exit status.
+#[tactic(auto, using(crate::proofs::ExitLemmas::values))]
 pub fn run<F: Files, O: Out, D: Diag>(
     alloc: Global,
     words: Result<ArgList, OutOfMemory>,
@@ -26,7 +43,7 @@ pub fn run<F: Files, O: Out, D: Diag>(
     ensures memory { IfErr words (λ fault. result ≡ 4) }
 {
     match words {
-        Ok(words) => link(alloc, &words, files, out, diag, &FreeGate).code(),
+        Ok(words) => link_words(alloc, &words, files, out, diag),
         Err(_) => {
             tell(diag, b"", &Status::OutOfMemory);
             Status::OutOfMemory.code()
