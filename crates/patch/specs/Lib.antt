@@ -1,0 +1,5 @@
+pub mod Field
+pub mod Patched
+pub mod Range
+pub mod Reading
+pub mod inner

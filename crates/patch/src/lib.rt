@@ -1,0 +1,21 @@
+//! The fields of references in an image: what each is to hold, and the bytes of atoms with their fields.
+#![tactic(auto)]
+
+mod atom;
+#[cfg(test)]
+mod conditions;
+mod fault;
+mod field;
+mod laws;
+mod met;
+mod range;
+#[cfg(test)]
+mod tests;
+
+pub use atom::patch_atom;
+pub use laws::{
+    fields_read_back, instructions_keep_their_other_bits, no_byte_is_in_two_atoms,
+    no_byte_is_in_two_fields,
+};
+pub use met::{Met, RangeFault};
+pub use range::{PlacedWork, patch_range};
