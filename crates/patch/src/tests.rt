@@ -534,15 +534,16 @@ fn loaded(alloc: Global, contents: &[u8]) -> Result<Loaded, OutOfMemory> {
         } else {
             Bytes::from_slice(alloc, contents)?
         };
+        let id = FileId {
+            position,
+            member: 0,
+        };
         files.push(LoadedFile {
-            id: FileId {
-                position,
-                member: 0,
-            },
+            id,
             label: Bytes::from_static(b"a.o"),
             object: object(alloc, bytes)?,
             atoms: AtomList::new(alloc),
-            refs: RefList::new(alloc),
+            refs: RefList::new(alloc, id),
             unwinds: UnwindList::new(alloc),
         })?;
     }
