@@ -23,7 +23,7 @@ PYTHON
     echo "  $name"
 }
 
-for form in names local long sections strings; do
+for form in names local long sections strings empty texts tables locals rising scattered; do
     python3 "$bench/make_hostile_object.py" "$folder/$form.o" "$form"
     echo "$form: $(stat -c %s "$folder/$form.o") bytes"
     run atomld "$atomld" -o "$folder/$form" "$folder/$form.o"

@@ -215,7 +215,26 @@ fn sections_of(
     Ok(SectionList::from_vec(list))
 }
 
-/// The sections, where they and their relocations lie within the file.
+// How many bytes of the file are taken apart for a section: those of its relocations, strings and literals.
+fn parted_bytes(header: &SectionHeader) -> u64 {
+    let contents = match header.flags & 0xff {
+        2 | 3 | 4 | 0xe => header.size,
+        _ => 0,
+    };
+    contents.saturating_add(8 * u64::from(header.nreloc))
+}
+
+// Whether sections share what is taken apart for each of them so often that it is over a mebibyte more than the file.
+fn share_too_much(size: usize, headers: &[SectionHeader]) -> bool {
+    let mut parted = 0u64;
+    for header in headers {
+        parted = parted.saturating_add(parted_bytes(header));
+    }
+    parted.saturating_sub(size as u64) > 1 << 20
+}
+
+/// The sections, where they and their relocations lie within the file. Sections that share too much want more memory
+/// than a reader may take, which is told as want of memory.
 #[tactic(auto, using(crate::proofs::SectionLemmas::checks), unfolding(crate::specs::Object::checked_sections))]
 pub fn checked_sections(alloc: Global, file: &Bytes, frame: Frame) -> Result<SectionList, ObjFault>
     requires { IsFrame file.now frame }
@@ -235,6 +254,9 @@ pub fn checked_sections(alloc: Global, file: &Bytes, frame: Frame) -> Result<Sec
         frame,
         first_with_relocs_outside(size, headers.as_slice()),
     )?;
+    if share_too_much(size, headers.as_slice()) {
+        return Err(ObjFault::OutOfMemory);
+    }
     Ok(sections_of(alloc, file, headers.as_slice())?)
 }
 

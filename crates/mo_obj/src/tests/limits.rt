@@ -1,4 +1,4 @@
-//! Relocations that pass the file's end, and as many sections as there may be.
+//! Relocations that pass the file's end, as many sections as there may be, and sections that share too much.
 use super::read;
 use super::sample::{edit, expect_fault, fault_of};
 use mo_types::{ObjFault, Object, OutOfMemory};
@@ -51,6 +51,22 @@ fn with_sections(alloc: Global, size: usize, numbers: &str) -> Result<Vec<u8>, O
     Ok(bytes)
 }
 
+// Lets 255 sections of debugging data share one table at 20,504 of that many relocations.
+fn share_a_table(bytes: &mut [u8], count: u16) {
+    let [low, high] = count.to_le_bytes();
+    let headers = bytes.get_mut(104..20_504).unwrap_or(&mut []);
+    for (i, byte) in headers.iter_mut().enumerate() {
+        *byte = match i % 80 {
+            56 => 0x18,
+            57 => 0x50,
+            60 => low,
+            61 => high,
+            67 => 2,
+            _ => *byte,
+        };
+    }
+}
+
 fn count_of(read: &Result<Object, ObjFault>) -> Option<usize> {
     match read {
         Ok(object) => Some(object.sections.len()),
@@ -73,5 +89,11 @@ fn relocations_and_sections_within_limits(rt: HostRuntime) -> Result<(), Fail> {
     assert!(rt; section_count(rt.alloc(), &bytes) == Some(255));
     let bytes = with_sections(rt.alloc(), 20_584, "96=0001 20=4850 36=4850")?;
     let fault = fault_of(rt.alloc(), &bytes, bytes.len());
-    expect_fault(&rt, fault, "malformed at 32: segment", "256 sections")
+    expect_fault(&rt, fault, "malformed at 32: segment", "256 sections")?;
+    let mut bytes = with_sections(rt.alloc(), 28_504, "96=ff00 20=f84f 36=f84f")?;
+    share_a_table(&mut bytes, 500);
+    assert!(rt; section_count(rt.alloc(), &bytes) == Some(255));
+    share_a_table(&mut bytes, 1000);
+    let fault = fault_of(rt.alloc(), &bytes, bytes.len());
+    expect_fault(&rt, fault, "out of memory", "sections that share a table")
 }
