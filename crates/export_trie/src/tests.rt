@@ -67,58 +67,70 @@ fn spelled(alloc: Global, exports: Vec<ExportAddress>) -> Result<Vec<u8>, Fail> 
     Ok(write_trie(alloc, &Items::from_vec(exports))?)
 }
 
+fn has_all(trie: &[u8], rows: &[Row]) -> bool {
+    for (name, flags, address) in rows {
+        let (flags, address) = (*flags, *address);
+        if find(trie, name) != (Found::At { flags, address }) {
+            return false;
+        }
+    }
+    true
+}
+
+fn has_none(trie: &[u8], names: &[&[u8]]) -> bool {
+    names.iter().all(|name| find(trie, name) == Found::Absent)
+}
+
+// Its nodes, a line each.
+#[rattlefmt::skip]
+const THREE: [u8; 32] = [
+    0x00, 0x01, 0x5f, 0x00, 0x05,
+    0x00, 0x02, 0x61, 0x00, 0x0d, 0x62, 0x00, 0x1a,
+    0x03, 0x00, 0x80, 0x20, 0x01, 0x62, 0x00, 0x15,
+    0x03, 0x00, 0x84, 0x20, 0x00,
+    0x03, 0x00, 0x88, 0x20, 0x00,
+    0x00,
+];
+
 #[test]
 fn trie_of_three(rt: HostRuntime) -> Result<(), Fail> {
     let rows: [Row; 3] = [(b"_b", 0, 0x1008), (b"_a", 0, 0x1000), (b"_ab", 0, 0x1004)];
     let trie = written(rt.alloc(), &rows)?;
-    let nodes: [&[u8]; 6] = [
-        &[0x00, 0x01, 0x5f, 0x00, 0x05],
-        &[0x00, 0x02, 0x61, 0x00, 0x0d, 0x62, 0x00, 0x1a],
-        &[0x03, 0x00, 0x80, 0x20, 0x01, 0x62, 0x00, 0x15],
-        &[0x03, 0x00, 0x84, 0x20, 0x00],
-        &[0x03, 0x00, 0x88, 0x20, 0x00],
-        &[0x00],
-    ];
-    let mut want = Vec::new(rt.alloc());
-    for node in nodes {
-        want.extend_from_slice(node)?;
-    }
-    assert_eq!(rt; trie.as_slice(), want.as_slice());
-    for (name, flags, address) in rows {
-        assert_eq!(rt;
-            find(trie.as_slice(), name),
-            Found::At { flags, address },
-            "{name:?}"
-        );
-    }
-    for name in [b"_".as_slice(), b"_abc", b""] {
-        assert_eq!(rt; find(trie.as_slice(), name), Found::Absent, "{name:?}");
-    }
+    assert!(rt; trie.as_slice() == THREE.as_slice());
+    assert!(rt; has_all(&trie, &rows));
+    assert!(rt; has_none(&trie, &[b"_", b"_abc", b""]));
     Ok(())
 }
 
 #[test]
 fn trie_of_none(rt: HostRuntime) -> Result<(), Fail> {
     let trie = written(rt.alloc(), &[])?;
-    assert_eq!(rt; trie.as_slice(), [0; 8].as_slice());
-    assert_eq!(rt; find(trie.as_slice(), b""), Found::Absent);
+    assert!(rt; trie.as_slice() == [0; 8].as_slice());
+    assert!(rt; has_none(&trie, &[b""]));
     Ok(())
+}
+
+fn finds_number(alloc: Global, trie: &[u8], number: u64) -> Result<bool, Fail> {
+    let name = format!(in alloc; "_name{number}")?;
+    let found = find(trie, name.as_bytes());
+    if number < MANY {
+        Ok(
+            found
+                == Found::At {
+                    flags: 0,
+                    address: number,
+                },
+        )
+    } else {
+        Ok(found == Found::Absent)
+    }
 }
 
 #[test]
 fn trie_of_many(rt: HostRuntime) -> Result<(), Fail> {
     let trie = spelled(rt.alloc(), many_exports(rt.alloc())?)?;
     for number in [0, 1, 10, 4711, MANY - 1, MANY] {
-        let name = format!(in rt.alloc(); "_name{number}")?;
-        let want = if number < MANY {
-            Found::At {
-                flags: 0,
-                address: number,
-            }
-        } else {
-            Found::Absent
-        };
-        assert!(rt; find(trie.as_slice(), name.as_bytes()) == want, "{name}");
+        assert!(rt; finds_number(rt.alloc(), &trie, number)?, "{number}");
     }
     Ok(())
 }
@@ -145,25 +157,11 @@ fn another_linkers_trie(rt: HostRuntime) {
         (b"_alpha", 0, 0x254),
         (b"_a", 0, 0x248),
     ];
-    for (name, flags, address) in rows {
-        assert_eq!(rt;
-            find(&LINKED, name),
-            Found::At { flags, address },
-            "{name:?}"
-        );
-    }
-    for name in [
-        b"".as_slice(),
-        b"_",
-        b"_al",
-        b"_alph",
-        b"_alphab",
-        b"_c",
-        b"_zetas",
-        b"_a\0",
-    ] {
-        assert_eq!(rt; find(&LINKED, name), Found::Absent, "{name:?}");
-    }
+    assert!(rt; has_all(&LINKED, &rows));
+    let others: [&[u8]; 8] = [
+        b"", b"_", b"_al", b"_alph", b"_alphab", b"_c", b"_zetas", b"_a\0",
+    ];
+    assert!(rt; has_none(&LINKED, &others));
 }
 
 #[test]
