@@ -1,5 +1,5 @@
 -- Addresses of 64 bits.
-use Rattle.std.proofs.Common.{tests, ◌≡◌, ℕ, ◌^◌, ◌<◌, ℤ, pos, negsuc, ◌+ℤ◌, Option, Some, None, refl, sym, arith}
+use Rattle.std.proofs.Common.{tests, ◌≡◌, ℕ, ℤ, pos, negsuc, ◌+ℤ◌, Option, Some, None, refl, arith}
 use Rattle.std.specs.Int.{FitsUnsigned, w64}
 use Rattle.std.specs.Prelude.{unsigned_abs}
 use Rattle.std.proofs.lemmas.Int.{ints}

@@ -47,13 +47,18 @@ DYLD_CHAINED_IMPORT = 1
 abbrev pub DYLD_CHAINED_IMPORT_ADDEND64 : ℕ
 DYLD_CHAINED_IMPORT_ADDEND64 = 3
 
--- name_offset of an import: the upper 23 bits of 4 bytes, or the upper 32 of the first 8 of 16
+-- name_offset of an import of 16 bytes at a place: the upper 32 bits of the first 8
+abbrev pub wide_name_offset : List ℕ → ℕ → Option ℕ
+wide_name_offset image at =
+    option_and_then (λ word. option_map (λ addend. word / 0x100000000) (number_at 8 image (at + 8))) (number_at 8 image at)
+
+-- name_offset of an import, by its number: in one of 4 bytes the upper 23 bits
 abbrev pub name_offset : List ℕ → FixupsHeader → ℕ → Option ℕ
 name_offset image header import =
     if header.imports_format == DYLD_CHAINED_IMPORT
     then option_map (λ word. word / 0x200) (number_at 4 image (header.at + header.imports_offset + 4 * import))
     else if header.imports_format == DYLD_CHAINED_IMPORT_ADDEND64
-    then option_map (λ word. word / 0x100000000) (number_at 8 image (header.at + header.imports_offset + 16 * import))
+    then wide_name_offset image (header.at + header.imports_offset + 16 * import)
     else None
 
 -- where the name of an import stands

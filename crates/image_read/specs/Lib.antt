@@ -1,5 +1,12 @@
+pub mod Alike
+pub mod Chain
 pub mod Commands
+pub mod Denotes
+pub mod Example
 pub mod Fixups
+pub mod Held
 pub mod Imports
 pub mod Mapped
 pub mod Meaning
+pub mod Reaches
+pub mod inner

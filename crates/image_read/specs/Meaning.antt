@@ -1,5 +1,5 @@
 -- What a field of an image tells, by its kind (`mach-o/arm64/reloc.h`; the Arm Architecture Reference Manual for instructions).
-use Rattle.std.specs.Prelude.{ℕ, ◌+◌, ◌*◌, ◌/◌, ◌^◌, ◌&&◌, Bool, false, nat_eq, nat_le, nat_lt, ℤ, pos, negsuc, ◌+ℤ◌, List, codes, Option, Some, None, if◌then◌else◌}
+use Rattle.std.specs.Prelude.{ℕ, ◌+◌, ◌*◌, ◌/◌, ◌^◌, ◌&&◌, nat_eq, nat_le, nat_lt, ℤ, pos, negsuc, ◌+ℤ◌, List, codes, Option, Some, None, if◌then◌else◌}
 use Rattle.std.specs.Int.{cast_signed, w32, w64}
 use Rattle.std.specs.List.{starts_with}
 use Rattle.std.specs.Option.{option_and_then, option_map}
@@ -11,7 +11,7 @@ use Rattle.mo_format.specs.declared.segment.SegmentCommand.{SegmentCommand}
 use Rattle.mo_types.specs.Rows.{when}
 use Rattle.mo_types.specs.Scan.{first_some}
 use Rattle.mo_types.specs.declared.reference.RefKind.{RefKind}
-use Rattle.mo_types.specs.declared.reference.RefKind.TheVariants.{Pointer, Diff32, Diff64, Branch, Page, PageOff, GotPage, GotPageOff, GotDelta, GotPointer, TlvPage, TlvPageOff}
+use Rattle.mo_types.specs.declared.reference.RefKind.TheVariants.{Pointer, Diff32, Diff64, Branch, Page, GotPage, GotDelta, GotPointer, TlvPage}
 use Rattle.image_read.specs.Commands.{commands_of, fits}
 use Rattle.image_read.specs.Fixups.{fixup_at, long_at, word_at}
 use Rattle.image_read.specs.Mapped.{is_segment}

@@ -23,6 +23,15 @@ pub fn number(image: &[u8], at: usize) -> u32
     LittleEndian::read_u32(&image[at..])
 }
 
+/// The 64-bit number at a place.
+#[tactic(auto, unfolding(mo_bytes::specs::Number::number))]
+pub fn long_number(image: &[u8], at: usize) -> u64
+    requires { at + 8 ≤ length image.now }
+    ensures { result ≡ numbers.number 8 image.now at }
+{
+    LittleEndian::read_u64(&image[at..])
+}
+
 /// How many commands the header tells.
 #[tactic(auto, unfolding(crate::specs::Commands::ncmds))]
 pub fn ncmds(image: &[u8]) -> u32

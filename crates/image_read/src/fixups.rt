@@ -3,11 +3,12 @@
 ghost use Rattle.std.specs.Prelude.{◌≡◌, ◌+◌, ◌≤◌, ◌<◌, ◌^◌, ◌%◌, IfOk, IfSome, length};
 ghost use Rattle.image_read.specs.Commands.{IsFitting};
 ghost use Rattle.image_read.specs.Fixups as fixups;
-ghost use Rattle.image_read.specs.Mapped.{mapped};
+ghost use Rattle.image_read.specs.inner.Window.{IsWindow};
 
 use crate::commands::{cmdsize, fits, ncmds};
 use crate::imports::{FixupsHeader, fixups_command, header_by};
-use crate::memory::{holds, is_segment, mapped};
+use crate::memory::{holds, is_segment};
+use crate::window::{Window, long_by, window_in};
 use mo_bytes::{read_u16, read_u32, read_u64};
 use mo_format::SegmentCommand;
 
@@ -50,38 +51,6 @@ pub struct Holding {
 }
 
 const PAGE: u64 = 0x4000;
-
-#[tactic(auto, unfolding(crate::specs::Fixups::short_at))]
-fn short_at(image: &[u8], address: u64) -> Option<u16>
-    requires { address + 2 ≤ 2 ^ 64 }
-    ensures { result ≡ fixups.short_at image.now address }
-{
-    let low = mapped(image, address)?;
-    let high = mapped(image, address + 1)?;
-    Some(u16::from(low) + 0x100 * u16::from(high))
-}
-
-/// The number of 4 bytes at an address.
-#[tactic(auto, unfolding(crate::specs::Fixups::word_at))]
-pub fn word_at(image: &[u8], address: u64) -> Option<u32>
-    requires { address + 4 ≤ 2 ^ 64 }
-    ensures { result ≡ fixups.word_at image.now address }
-{
-    let low = short_at(image, address)?;
-    let high = short_at(image, address + 2)?;
-    Some(u32::from(low) + 0x1_0000 * u32::from(high))
-}
-
-/// The number of 8 bytes at an address.
-#[tactic(auto, unfolding(crate::specs::Fixups::long_at))]
-pub fn long_at(image: &[u8], address: u64) -> Option<u64>
-    requires { address + 8 ≤ 2 ^ 64 }
-    ensures { result ≡ fixups.long_at image.now address }
-{
-    let low = word_at(image, address)?;
-    let high = word_at(image, address + 4)?;
-    Some(u64::from(low) + 0x1_0000_0000 * u64::from(high))
-}
 
 #[tactic(auto, unfolding(crate::specs::Fixups::header_read))]
 fn header_read(image: &[u8]) -> Result<FixupsHeader, FixupRead>
@@ -180,8 +149,9 @@ fn page_start(image: &[u8], starts: usize, page: u64) -> Result<u16, FixupRead>
     Ok(start)
 }
 
-// The pointer at a place of a page, which has room for it.
-fn pointer_at(image: &[u8], base: u64, at: u64) -> Option<u64>
+// The pointer at a place of a page, which has room for it. A window may have it.
+fn pointer_at(image: &[u8], window: Option<Window>, base: u64, at: u64) -> Option<u64>
+    requires { IfSome window (IsWindow image.now) }
     ensures { result ≡ fixups.pointer_at image.now base at }
 {
     if at > PAGE - 8 {
@@ -191,7 +161,7 @@ fn pointer_at(image: &[u8], base: u64, at: u64) -> Option<u64>
     if address > u64::MAX - 7 {
         return None;
     }
-    long_at(image, address)
+    long_by(image, window, address)
 }
 
 fn next_of(word: u64) -> u64
@@ -214,12 +184,14 @@ fn taken(place: u64, at: u64, word: u64, held: Option<u64>) -> Option<u64>
 // What the chain of a page holds at a place of the page.
 #[tactic(auto, using(crate::proofs::FixupLemmas::chases), unfolding(crate::specs::Fixups::held_on))]
 fn held_on(image: &[u8], base: u64, start: u16, place: u64) -> Result<Option<u64>, FixupRead>
+    requires { IsFitting image.now }
     ensures { result ≡ fixups.held_on image.now base start place }
 {
+    let window = window_in(image, base, PAGE);
     let mut at = u64::from(start);
     let mut held = None;
     for _step in 0..0x1001_u32 {
-        let Some(word) = pointer_at(image, base, at) else {
+        let Some(word) = pointer_at(image, window, base, at) else {
             return Err(FixupRead::Broken);
         };
         held = taken(place, at, word, held);

@@ -98,7 +98,9 @@ fn name_offset(image: &[u8], header: FixupsHeader, import: u32) -> Option<u64>
             Some(u64::from(word / 0x200))
         }
         3 => {
-            let word = read_u64(image, table + 16 * import as usize)?;
+            let at = table + 16 * import as usize;
+            let word = read_u64(image, at)?;
+            let _addend = read_u64(image, at + 8)?;
             Some(word / 0x1_0000_0000)
         }
         _ => None,

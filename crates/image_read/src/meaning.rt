@@ -9,8 +9,9 @@ ghost use Rattle.arm64_insn.specs.Page as page;
 ghost use Rattle.image_read.specs.Meaning as meanings;
 
 use crate::commands::{cmdsize, fits, ncmds};
-use crate::fixups::{FixupRead, fixup_at, long_at, word_at};
+use crate::fixups::{FixupRead, fixup_at};
 use crate::memory::is_segment;
+use crate::window::{long_at, word_at};
 use arm64_insn::{branch_of, low12_of, page_of};
 use mo_format::SegmentCommand;
 use mo_types::RefKind;

@@ -1,10 +1,13 @@
 //! A small image, and copies of it with other bytes at some places. What they have to be read as was told by another
 //! reader, which is written from the same headers.
+mod tables;
+
 use crate::{FixupRead, Meaning, denote, fixup_at, import_name, mapped};
 use mo_types::RefKind;
 use std::alloc::{AllocError, Global};
 use std::process::Abort;
 use std::test::Fail;
+use tables::{header, images, numbers_of_format_1, numbers_of_format_3};
 
 // An image of 620 bytes:
 //
@@ -279,6 +282,27 @@ fn fixups_of(alloc: Global, image: &[u8]) -> Result<Vec<u8>, AllocError> {
     Ok(out)
 }
 
+// The names of the imports 0, 1 and 2 in hexadecimal digits, and the fixups at those addresses.
+fn names_and_fixups_of(alloc: Global, image: &[u8]) -> Result<Vec<u8>, AllocError> {
+    let mut out = Vec::new(alloc);
+    for import in 0..3 {
+        match import_name(image, import) {
+            Some(name) if name.is_empty() => out.extend_from_slice(b"''")?,
+            Some(name) => {
+                for byte in name {
+                    out.extend_from_slice(&[digit(byte / 16), digit(byte % 16)])?;
+                }
+            }
+            None => out.extend_from_slice(b"--")?,
+        }
+        out.extend_from_slice(b" ")?;
+    }
+    out.extend_from_slice(b"/ ")?;
+    let fixups = fixups_of(alloc, image)?;
+    out.extend_from_slice(&fixups)?;
+    Ok(out)
+}
+
 fn meaning_told(alloc: Global, meaning: Meaning) -> Result<String, AllocError> {
     match meaning {
         Meaning::Address(address) => format!(in alloc; "a{address} "),
@@ -321,6 +345,50 @@ fn edited(alloc: Global, edits: &str) -> Result<Vec<u8>, AllocError> {
     Ok(bytes)
 }
 
+// An image of zeros but for its header and some bytes, as `branch 16384 440=02` says.
+fn small_image(alloc: Global, text: &str) -> Result<Vec<u8>, AllocError> {
+    let (_name, rest) = text.split_once(' ').unwrap_or((text, ""));
+    let (size, edits) = rest.split_once(' ').unwrap_or((rest, ""));
+    let mut image = Vec::new(alloc);
+    image.resize(size.parse().unwrap_or(0), 0)?;
+    edit(&mut image, header());
+    edit(&mut image, edits);
+    Ok(image)
+}
+
+// The edits of each line of a table, after some that come first, give what the line tells.
+fn expect_numbers(
+    rt: &impl Abort,
+    alloc: Global,
+    first: &str,
+    table: &str,
+) -> Result<(), AllocError> {
+    for (text, lines) in table.lines().filter_map(|line| line.split_once(": ")) {
+        for edits in lines.split(", ") {
+            let mut image = edited(alloc, first)?;
+            edit(&mut image, edits);
+            let found = names_and_fixups_of(alloc, &image)?;
+            expect(rt, &found, text);
+        }
+    }
+    Ok(())
+}
+
+// What the field or byte of an address is, as `64>72` says of a branch and `64:192` of a byte.
+fn expect_field(rt: &impl Abort, image: &[u8], text: &str) {
+    if let Some((address, target)) = text.split_once('>') {
+        let found = denote(image, address.parse().unwrap_or(0), RefKind::Branch);
+        assert!(rt;
+            found == Meaning::Address(target.parse().unwrap_or(0)),
+            "not {text}"
+        );
+    }
+    if let Some((address, byte)) = text.split_once(':') {
+        let found = mapped(image, address.parse().unwrap_or(0));
+        assert!(rt; found == Some(byte.parse().unwrap_or(0)), "not {text}");
+    }
+}
+
 fn expect(rt: &impl Abort, found: &[u8], text: &str) {
     assert!(rt; found.trim_ascii_end() == text.as_bytes(), "not {text}");
 }
@@ -341,39 +409,65 @@ fn bytes_in_memory(rt: HostRuntime) -> Result<(), Fail> {
 }
 
 #[test]
-fn fixups_on_chains(rt: HostRuntime) -> Result<(), Fail> {
+fn fixups_and_names(rt: HostRuntime) -> Result<(), Fail> {
     for (edits, text) in fixups().lines().filter_map(|line| line.split_once(": ")) {
         let image = edited(rt.alloc(), edits)?;
         let found = fixups_of(rt.alloc(), &image)?;
         expect(&rt, &found, text);
     }
-    // broken wherever the file ends within what is read of the fixups
-    for size in 268..620 {
-        let image = sample().get(..size).unwrap_or(b"");
-        assert!(rt;
-            fixup_at(image, 0x1400) == FixupRead::Broken,
-            "{size} bytes"
-        );
-    }
-    Ok(())
-}
-
-#[test]
-fn names_of_imports(rt: HostRuntime) -> Result<(), Fail> {
     for (edits, text) in names().lines().filter_map(|line| line.split_once(": ")) {
         let image = edited(rt.alloc(), edits)?;
         let found = names_of(rt.alloc(), &image)?;
         expect(&rt, &found, text);
     }
-    // the name is there once its NUL is
-    for size in 0..496 {
+    let wide = edited(rt.alloc(), "468=03 456=40")?;
+    for size in 268..620 {
+        // broken wherever the file ends within what is read of the fixups
         let image = sample().get(..size).unwrap_or(b"");
+        assert!(rt;
+            fixup_at(image, 0x1400) == FixupRead::Broken,
+            "{size} bytes"
+        );
+        // the name is there once its NUL is
         assert!(rt;
             import_name(image, 1).is_none() == (size < 496),
             "{size} bytes"
         );
+        // with imports of format 3, which stand behind the names, once the import is whole too
+        let image = wide.get(..size).unwrap_or(b"");
+        assert!(rt;
+            fixup_at(image, 0x1408) == FixupRead::Broken,
+            "{size} bytes"
+        );
+        assert!(rt;
+            import_name(image, 1).is_none() == (size < 544),
+            "{size} bytes"
+        );
     }
     assert!(rt; import_name(sample().get(..496).unwrap_or(b""), 1) == Some(b"_bc".as_slice()));
+    Ok(())
+}
+
+#[test]
+fn each_number_of_the_fixups(rt: HostRuntime) -> Result<(), Fail> {
+    expect_numbers(&rt, rt.alloc(), "", numbers_of_format_1())?;
+    expect_numbers(&rt, rt.alloc(), "468=03 456=40", numbers_of_format_3())?;
+    Ok(())
+}
+
+#[test]
+fn images_of_small_objects(rt: HostRuntime) -> Result<(), Fail> {
+    for (text, fields) in images().lines().filter_map(|line| line.split_once(": ")) {
+        let image = small_image(rt.alloc(), text)?;
+        for field in fields.split_whitespace() {
+            expect_field(&rt, &image, field);
+        }
+        // none of them has a fixup
+        for word in 0..0x1000 {
+            let address = 0x1_0000_0000 + 4 * word;
+            assert!(rt; fixup_at(&image, address) == FixupRead::Plain, "{address}");
+        }
+    }
     Ok(())
 }
 
