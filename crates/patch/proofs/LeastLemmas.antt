@@ -1,5 +1,5 @@
 -- The fault at the least place.
-use Rattle.std.proofs.Common.{◌≡◌, ℕ, zero, suc, ◌+◌, ◌<◌, ◌≤◌, ◌⊎◌, inl, inr, List, [], ◌∷◌, length, take, get_or, Bool, true, false, nat_le, Option, Some, None, Result, Ok, Err, refl, sym, ap, ◌∙◌, subst, arith}
+use Rattle.std.proofs.Common.{◌≡◌, ℕ, zero, suc, ◌+◌, ◌<◌, ◌≤◌, ◌⊎◌, inl, inr, ◌==◌, List, [], ◌∷◌, length, take, get_or, Bool, true, false, nat_le, Option, Some, None, Result, Ok, Err, refl, sym, ap, ◌∙◌, subst, arith}
 use Rattle.std.specs.Prelude.{All, Contains}
 use Rattle.std.proofs.lemmas.Bool.Decides.{nat_tests}
 use Rattle.std.proofs.lemmas.List.{get_or-take, length-take-le, take_all}
@@ -7,9 +7,13 @@ use Rattle.std.proofs.lemmas.List.Elements.{All-more, All-nil, All-weaker, at_re
 use Rattle.patch.specs.declared.fault.Found.{Found}
 use Rattle.patch.specs.declared.met.Met.{Met}
 use Rattle.patch.specs.declared.met.RangeFault.{RangeFault}
-use Rattle.patch.specs.Field.{field_of}
+use Rattle.mo_bytes.specs.Number.{number}
+use Rattle.mo_types.specs.Rows.{field_size}
+use Rattle.mo_types.specs.declared.reference.RefKind.{RefKind}
+use Rattle.mo_types.specs.declared.reference.RefKind.TheVariants.{Pointer, Diff32, Diff64, Branch, Page, PageOff, GotPage, GotPageOff, GotDelta, GotPointer, TlvPage, TlvPageOff}
+use Rattle.patch.specs.Field.{field_by, field_of}
 use Rattle.patch.specs.Patched.{AreFields, Fits, IsFirstAtFault, size_of}
-use Rattle.patch.specs.inner.Least.{IsLeast, earlier}
+use Rattle.patch.specs.inner.Least.{IsLeast, earlier, fault_in}
 
 -- an element, whatever stands for it past the end
 pub element_at : {X : Type 0} (xs : List X) (at : ℕ) (d e : X) → at < length xs → get_or xs at d ≡ get_or xs at e
@@ -53,9 +57,17 @@ keeps address bytes mets at (Some found) met (first, it) within is fits = (
   },
 )
 
-pub least_stays : (address : ℕ) (bytes : List ℕ) (mets : List Met) (at : ℕ) (least : Option Found) (met : Met) (read : Result ℕ RangeFault) (value : ℕ) → IsLeastBefore address bytes mets at least → at < length mets → met ≡ get_or mets at met → read ≡ field_of address bytes met → read ≡ Ok value → IsLeastBefore address bytes mets (at + 1) least
-least_stays address bytes mets at least met read value before within is e ok =
-    record { is = keeps address bytes mets at least met before.is within is (value, sym e ∙ ok); within = omega arith }
+fits_from : (r : Result ℕ RangeFault) → fault_in r ≡ None → (value : ℕ) × (r ≡ Ok value)
+fits_from (Ok n) e = (n, refl)
+fits_from (Err f) e = absurd cc
+
+fails_from : (r : Result ℕ RangeFault) (fault : RangeFault) → fault_in r ≡ Some fault → r ≡ Err fault
+fails_from (Ok n) fault e = absurd cc
+fails_from (Err f) fault e = cc
+
+pub least_stays : (address : ℕ) (bytes : List ℕ) (mets : List Met) (at : ℕ) (least : Option Found) (met : Met) (asked : Option RangeFault) → IsLeastBefore address bytes mets at least → at < length mets → met ≡ get_or mets at met → asked ≡ fault_in (field_of address bytes met) → asked ≡ None → IsLeastBefore address bytes mets (at + 1) least
+least_stays address bytes mets at least met asked before within is e none =
+    record { is = keeps address bytes mets at least met before.is within is (fits_from (field_of address bytes met) (sym e ∙ none)); within = omega arith }
 
 -- the new one, before all that are at fault
 newest : (address : ℕ) (bytes : List ℕ) (mets : List Met) (at : ℕ) (met : Met) (fault : RangeFault) → at < length mets → met ≡ get_or mets at met → field_of address bytes met ≡ Err fault → All (λ other. Fits address bytes other ⊎ (met.place ≤ other.place)) (take at mets) → IsFirstAtFault address bytes (take (at + 1) mets) fault met
@@ -95,10 +107,10 @@ takes address bytes mets at met found within is fails place (Some other) (first,
       },
     )
 
-pub least_takes : (address : ℕ) (bytes : List ℕ) (mets : List Met) (at : ℕ) (least : Option Found) (met : Met) (read : Result ℕ RangeFault) (fault : RangeFault) (found : Found) (new : Option Found) → IsLeastBefore address bytes mets at least → at < length mets → met ≡ get_or mets at met → read ≡ field_of address bytes met → read ≡ Err fault → found ≡ record { place = met.place; fault = fault } → new ≡ earlier least found → IsLeastBefore address bytes mets (at + 1) new
-least_takes address bytes mets at least met read fault found new before within is e err made chosen = record {
+pub least_takes : (address : ℕ) (bytes : List ℕ) (mets : List Met) (at : ℕ) (least : Option Found) (met : Met) (asked : Option RangeFault) (fault : RangeFault) (found : Found) (new : Option Found) → IsLeastBefore address bytes mets at least → at < length mets → met ≡ get_or mets at met → asked ≡ fault_in (field_of address bytes met) → asked ≡ Some fault → found ≡ record { place = met.place; fault = fault } → new ≡ earlier least found → IsLeastBefore address bytes mets (at + 1) new
+least_takes address bytes mets at least met asked fault found new before within is e some made chosen = record {
   is = subst (λ (o : Option Found). IsLeast address bytes (take (at + 1) mets) o) (sym chosen)
-      (takes address bytes mets at met found within is (sym e ∙ err ∙ ap (λ (f : Found). Err f.fault) (sym made)) (ap (λ (f : Found). f.place) made) least before.is);
+      (takes address bytes mets at met found within is (fails_from (field_of address bytes met) fault (sym e ∙ some) ∙ ap (λ (f : Found). Err f.fault) (sym made)) (ap (λ (f : Found). f.place) made) least before.is);
   within = omega arith;
 }
 
@@ -121,3 +133,26 @@ pub a_fault : (address : ℕ) (bytes : List ℕ) (mets : List Met) (least : Opti
 a_fault address bytes mets least found is some = first_fault address bytes mets found (subst (λ (o : Option Found). IsLeast address bytes mets o) some is)
 
 pub ruleset verdicts = (no_fault, a_fault)
+
+-- ---- a field of 8 bytes holds every number
+
+eight_by_kind : (kind : RefKind) (at word : ℕ) (met : Met) → (field_size kind == 8) ≡ true → None ≡ fault_in (field_by kind at word met)
+unfolding field_by
+eight_by_kind Pointer at word met e = refl
+eight_by_kind GotPointer at word met e = refl
+eight_by_kind Diff64 at word met e = refl
+eight_by_kind Diff32 at word met e = absurd cc
+eight_by_kind GotDelta at word met e = absurd cc
+eight_by_kind Branch at word met e = absurd cc
+eight_by_kind Page at word met e = absurd cc
+eight_by_kind GotPage at word met e = absurd cc
+eight_by_kind TlvPage at word met e = absurd cc
+eight_by_kind PageOff at word met e = absurd cc
+eight_by_kind GotPageOff at word met e = absurd cc
+eight_by_kind TlvPageOff at word met e = absurd cc
+
+pub eight_hold_all : (address : ℕ) (bytes : List ℕ) (met : Met) → (field_size met.kind == 8) ≡ true → None ≡ fault_in (field_of address bytes met)
+unfolding field_of
+eight_hold_all address bytes met e = eight_by_kind met.kind (address + met.place) (number 4 bytes met.place) met e
+
+pub ruleset asked = (eight_hold_all)

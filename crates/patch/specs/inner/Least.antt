@@ -1,8 +1,14 @@
 -- The fault at the least place, while it is looked for.
-use Rattle.std.specs.Prelude.{ℕ, ◌≡◌, nat_le, List, All, Option, Some, None, if◌then◌else◌}
+use Rattle.std.specs.Prelude.{ℕ, ◌≡◌, nat_le, List, All, Option, Some, None, Result, Ok, Err, if◌then◌else◌}
 use Rattle.patch.specs.declared.fault.Found.{Found}
 use Rattle.patch.specs.declared.met.Met.{Met}
+use Rattle.patch.specs.declared.met.RangeFault.{RangeFault}
 use Rattle.patch.specs.Patched.{Fits, IsFirstAtFault}
+
+-- the fault of an answer that is one
+abbrev pub fault_in : {A : Type 0} → Result A RangeFault → Option RangeFault
+fault_in (Ok x) = None
+fault_in (Err fault) = Some fault
 
 -- the fault at the lesser place, or the earlier one
 abbrev pub earlier : Option Found → Found → Option Found
