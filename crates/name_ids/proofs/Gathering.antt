@@ -1,0 +1,134 @@
+-- Names of symbols and of files, added one by one.
+use Rattle.std.proofs.Common.{◌≡◌, ℕ, ◌+◌, ◌<◌, ◌≤◌, ◌^◌, true, false, List, [], ◌∷◌, ◌++◌, length, nat_lt, Ok, Err, drop, get_or, refl, sym, ap, ◌∙◌}
+use Rattle.std.proofs.lemmas.Bool.{le-ltb, lt-ltb}
+use Rattle.std.proofs.lemmas.List.{drop_all, drop_more}
+use Rattle.std.proofs.lemmas.List.Sums.{fold-append}
+use Rattle.std.specs.Str.{bytes_eq}
+use Rattle.indexmap.specs.IndexSet.{insert_all, insert_key}
+use Rattle.mo_types.specs.declared.loaded.LoadedFile.{LoadedFile}
+use Rattle.mo_types.specs.declared.object.Symbol.{Symbol}
+use Rattle.name_ids.specs.Names.{IsNumbering, external_names, external_of, gathered, limited, numbered}
+use Rattle.name_ids.specs.declared.fault.GatherFault.TheVariants.{Names}
+use Rattle.name_ids.proofs.Once.{distinct}
+
+-- with the rest of the names added to those of now, there are those that all make of those before
+pub record IsAdding (before now all rest : List (List ℕ)) : Type 0 where
+  pub same : insert_all bytes_eq now rest ≡ insert_all bytes_eq before all
+
+there : {X : Type 0} (xs : List X) (i : ℕ) (x : X) → i < length xs → x ≡ get_or xs i x → drop i xs ≡ x ∷ drop (i + 1) xs
+there xs i x low is = drop_more xs i x low ∙ ap (λ y. y ∷ drop (i + 1) xs) (sym is)
+
+adds : (before now new all rest more : List (List ℕ)) (name : List ℕ) → IsAdding before now all rest → rest ≡ name ∷ more → new ≡ insert_key bytes_eq now name → IsAdding before new all more
+adds before now new all rest more name adding is key = record { same = ap (λ ks. insert_all bytes_eq ks more) key ∙ sym (ap (insert_all bytes_eq now) is) ∙ adding.same }
+
+passes : (before now all rest more : List (List ℕ)) → IsAdding before now all rest → rest ≡ more → IsAdding before now all more
+passes before now all rest more adding is = record { same = sym (ap (insert_all bytes_eq now) is) ∙ adding.same }
+
+ends : (before now all rest : List (List ℕ)) → IsAdding before now all rest → rest ≡ [] → now ≡ insert_all bytes_eq before all
+ends before now all rest adding is = sym (ap (insert_all bytes_eq now) is) ∙ adding.same
+
+-- ---- symbols
+
+external_first : (symbol : Symbol) (rest : List Symbol) → symbol.external ≡ true → external_of (symbol ∷ rest) ≡ symbol.name ∷ external_of rest
+unfolding external_of
+external_first symbol rest is = rw is refl
+
+local_first : (symbol : Symbol) (rest : List Symbol) → symbol.external ≡ false → external_of (symbol ∷ rest) ≡ external_of rest
+unfolding external_of
+local_first symbol rest is = rw is refl
+
+no_symbols : external_of [] ≡ []
+unfolding external_of
+no_symbols = refl
+
+pub symbols_start : (before : List (List ℕ)) (symbols : List Symbol) → IsAdding before before (external_of symbols) (external_of (drop 0 symbols))
+symbols_start before symbols = record { same = refl }
+
+pub symbols_add : (before now new : List (List ℕ)) (symbols : List Symbol) (i : ℕ) (symbol : Symbol) → IsAdding before now (external_of symbols) (external_of (drop i symbols)) → i < length symbols → symbol ≡ get_or symbols i symbol → symbol.external ≡ true → new ≡ insert_key bytes_eq now symbol.name → IsAdding before new (external_of symbols) (external_of (drop (i + 1) symbols))
+symbols_add before now new symbols i symbol adding low is external key =
+    adds before now new (external_of symbols) (external_of (drop i symbols)) (external_of (drop (i + 1) symbols)) symbol.name adding
+    (ap external_of (there symbols i symbol low is) ∙ external_first symbol (drop (i + 1) symbols) external) key
+
+pub symbols_pass : (before now : List (List ℕ)) (symbols : List Symbol) (i : ℕ) (symbol : Symbol) → IsAdding before now (external_of symbols) (external_of (drop i symbols)) → i < length symbols → symbol ≡ get_or symbols i symbol → symbol.external ≡ false → IsAdding before now (external_of symbols) (external_of (drop (i + 1) symbols))
+symbols_pass before now symbols i symbol adding low is external =
+    passes before now (external_of symbols) (external_of (drop i symbols)) (external_of (drop (i + 1) symbols)) adding
+    (ap external_of (there symbols i symbol low is) ∙ local_first symbol (drop (i + 1) symbols) external)
+
+pub symbols_end : (before now : List (List ℕ)) (symbols : List Symbol) (i : ℕ) → IsAdding before now (external_of symbols) (external_of (drop i symbols)) → length symbols ≤ i → now ≡ insert_all bytes_eq before (external_of symbols)
+symbols_end before now symbols i adding past =
+    ends before now (external_of symbols) (external_of (drop i symbols)) adding (ap external_of (drop_all i symbols past) ∙ no_symbols)
+
+pub ruleset symbols = (symbols_start, symbols_add, symbols_pass, symbols_end)
+
+-- ---- files
+
+file_first : (file : LoadedFile) (rest : List LoadedFile) → external_names (file ∷ rest) ≡ external_of file.object.symbols ++ external_names rest
+unfolding external_names
+file_first file rest = refl
+
+no_files : external_names [] ≡ []
+unfolding external_names
+no_files = refl
+
+pub files_start : (before : List (List ℕ)) (files : List LoadedFile) → IsAdding before before (external_names files) (external_names (drop 0 files))
+files_start before files = record { same = refl }
+
+pub files_add : (before now new : List (List ℕ)) (files : List LoadedFile) (i : ℕ) (file : LoadedFile) → IsAdding before now (external_names files) (external_names (drop i files)) → i < length files → file ≡ get_or files i file → new ≡ insert_all bytes_eq now (external_of file.object.symbols) → IsAdding before new (external_names files) (external_names (drop (i + 1) files))
+files_add before now new files i file adding low is added = record {
+  same =
+      ap (λ ks. insert_all bytes_eq ks (external_names (drop (i + 1) files))) added
+      ∙ sym (fold-append (insert_key bytes_eq) now (external_of file.object.symbols) (external_names (drop (i + 1) files)))
+      ∙ sym (ap (insert_all bytes_eq now) (ap external_names (there files i file low is) ∙ file_first file (drop (i + 1) files)))
+      ∙ adding.same;
+}
+
+pub files_end : (before now : List (List ℕ)) (files : List LoadedFile) (i : ℕ) → IsAdding before now (external_names files) (external_names (drop i files)) → length files ≤ i → now ≡ insert_all bytes_eq before (external_names files)
+files_end before now files i adding past =
+    ends before now (external_names files) (external_names (drop i files)) adding (ap external_names (drop_all i files past) ∙ no_files)
+
+pub ruleset files = (files_start, files_add, files_end)
+
+-- ---- names
+
+pub names_start : (before names : List (List ℕ)) → IsAdding before before names (drop 0 names)
+names_start before names = record { same = refl }
+
+pub names_add : (before now new names : List (List ℕ)) (i : ℕ) (name : List ℕ) → IsAdding before now names (drop i names) → i < length names → name ≡ get_or names i name → new ≡ insert_key bytes_eq now name → IsAdding before new names (drop (i + 1) names)
+names_add before now new names i name adding low is key = adds before now new names (drop i names) (drop (i + 1) names) name adding (there names i name low is) key
+
+pub names_end : (before now names : List (List ℕ)) (i : ℕ) → IsAdding before now names (drop i names) → length names ≤ i → now ≡ insert_all bytes_eq before names
+names_end before now names i adding past = ends before now names (drop i names) adding (drop_all i names past)
+
+pub ruleset names = (names_start, names_add, names_end)
+
+-- ---- all of them
+
+gathered_are : (empty found all : List (List ℕ)) (files : List LoadedFile) (extra : List (List ℕ)) → empty ≡ [] → found ≡ insert_all bytes_eq empty (external_names files) → all ≡ insert_all bytes_eq found extra → all ≡ numbered (external_names files ++ extra)
+unfolding numbered
+gathered_are empty found all files extra none first second =
+    second ∙ ap (λ ks. insert_all bytes_eq ks extra) (first ∙ ap (λ ks. insert_all bytes_eq ks (external_names files)) none)
+    ∙ sym (fold-append (insert_key bytes_eq) [] (external_names files) extra)
+
+-- what was read of the arguments is theirs
+pub all_are : (empty found all : List (List ℕ)) (read files : List LoadedFile) (more extra : List (List ℕ)) → empty ≡ [] → read ≡ files → more ≡ extra → found ≡ insert_all bytes_eq empty (external_names read) → all ≡ insert_all bytes_eq found more → all ≡ numbered (external_names files ++ extra)
+all_are empty found all read files more extra none e f first second =
+    gathered_are empty found all files extra none
+    (first ∙ ap (λ fs. insert_all bytes_eq empty (external_names fs)) e)
+    (second ∙ ap (insert_all bytes_eq found) f)
+
+pub numbering : (names all : List (List ℕ)) → all ≡ numbered names → length all < 2 ^ 24 → IsNumbering all
+numbering names all is few = record { distinct = rw is (distinct names); few = few }
+
+too_long : (all : List (List ℕ)) → 2 ^ 24 ≤ length all → limited all ≡ Err Names
+too_long all past = let e : nat_lt (length all) (2 ^ 24) ≡ false = le-ltb (length all) (2 ^ 24) past in rw e refl
+
+short : (all : List (List ℕ)) → length all < 2 ^ 24 → limited all ≡ Ok all
+short all few = let e : nat_lt (length all) (2 ^ 24) ≡ true = lt-ltb (length all) (2 ^ 24) few in rw e refl
+
+pub too_many : (files : List LoadedFile) (extra all : List (List ℕ)) → all ≡ numbered (external_names files ++ extra) → 2 ^ 24 ≤ length all → gathered files extra ≡ Err Names
+unfolding gathered
+too_many files extra all is past = ap limited (sym is) ∙ too_long all past
+
+pub fitting : (files : List LoadedFile) (extra all : List (List ℕ)) → all ≡ numbered (external_names files ++ extra) → length all < 2 ^ 24 → gathered files extra ≡ Ok all
+unfolding gathered
+fitting files extra all is few = ap limited (sym is) ∙ short all few

@@ -1,0 +1,15 @@
+//! Numbers of names: one for each distinct name of a link.
+#![tactic(auto)]
+
+mod fault;
+mod laws;
+mod name;
+mod numbering;
+mod table;
+#[cfg(test)]
+mod tests;
+
+pub use fault::GatherFault;
+pub use laws::{each_name_has_a_number, numbers_lead_back};
+pub use numbering::gather;
+pub use table::NameTable;

@@ -1,0 +1,79 @@
+ghost use Rattle.std.specs.Prelude.{◌≡◌, take};
+
+use std::hash::{Hash, Hasher};
+use std::marker::Model;
+
+/// A name, which contracts see as its bytes.
+#[derive(Debug, Drop)]
+pub struct Name<'a>(&'a [u8]);
+
+impl<'a> Model for Name<'a> {
+    ghost use Rattle.std.specs.Prelude.{List, ℕ};
+
+    ghost Value = { List ℕ };
+
+    ghost view = { λ name. name.0.now };
+}
+
+impl<'a> Name<'a> {
+    /// The name of these bytes.
+    pub(crate) fn new(bytes: &'a [u8]) -> Name<'a>
+        ensures { result ≡ bytes.now }
+    {
+        Name(bytes)
+    }
+
+    /// Its bytes.
+    pub(crate) fn bytes(&self) -> &[u8]
+        ensures { result.now ≡ self.now }
+    {
+        self.0
+    }
+}
+
+impl<'a> PartialEq for Name<'a> {
+    ghost use Rattle.std.specs.Prelude.{nat_eq};
+    ghost use Rattle.std.specs.Cmp.Lexicographic.{pointwise, nat_list_eq_equiv};
+    ghost use Rattle.std.specs.Cmp.{partial_equiv_from_equiv};
+
+    ghost eq = { pointwise nat_eq };
+
+    ghost laws = { partial_equiv_from_equiv nat_list_eq_equiv };
+
+    fn eq(&self, other: &Self) -> bool {
+        self.0 == other.0
+    }
+}
+
+impl<'a> Eq for Name<'a> {
+    ghost use Rattle.std.specs.Cmp.Lexicographic.{nat_list_eq_equiv};
+
+    ghost laws = { nat_list_eq_equiv };
+}
+
+// The first bytes of a name, or all where it has no more.
+#[tactic(auto, using(crate::proofs::Once::fronts))]
+fn front(bytes: &[u8]) -> &[u8]
+    ensures { result.now ≡ take 1024 bytes.now }
+{
+    let count = bytes.len().min(1024);
+    &bytes[..count]
+}
+
+// Names that are parts of each other have other lengths, so that a hash of all their bytes, which is quadratic in the
+// file where they overlap, isn't needed to tell them apart.
+impl<'a> Hash for Name<'a> {
+    ghost use Rattle.std.specs.Prelude.{◌++◌, length, take};
+    ghost use Rattle.std.specs.Hash as fed;
+    ghost use Rattle.std.specs.Cmp.Rules.{hashing};
+    ghost use Rattle.std.proofs.Common.{rules};
+
+    ghost hash_input = { λ name. fed.usize (length name) ++ fed.slice fed.u8 (take 1024 name) };
+
+    ghost respects_eq = { Prim.search (hashing, rules) };
+
+    fn hash<H: Hasher>(&self, state: &mut H) {
+        self.0.len().hash(state);
+        front(self.0).hash(state);
+    }
+}
