@@ -1,0 +1,29 @@
+//! The text of stub libraries: the part of YAML 1.2 in which TBD files are written.
+#![tactic(auto)]
+
+mod block;
+mod body;
+mod characters;
+mod docs;
+mod entries;
+mod fault;
+mod file;
+mod flow;
+mod key_set;
+mod laws;
+mod lines;
+mod marks;
+mod places;
+mod quoted;
+mod read;
+mod reading;
+mod scalars;
+#[cfg(test)]
+mod tests;
+mod token;
+mod units;
+
+pub use fault::YamlFault;
+pub use file::{DocList, EventList, YamlDoc, YamlEvent, YamlFile};
+pub use laws::{a_walk_is_through_one_tree, each_document_is_a_tree};
+pub use read::read_yaml;

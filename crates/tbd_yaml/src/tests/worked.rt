@@ -1,0 +1,106 @@
+use super::{read_bytes, walk_of};
+use crate::YamlFault;
+use mo_types::{Bytes, Rule};
+use std::alloc::Global;
+
+const SDK_HELLO: &[u8] = b"\
+--- !tapi-tbd\n\
+tbd-version:     4\n\
+targets:         [ x86_64-macos, arm64-macos, arm64e-macos ]\n\
+install-name:    '/usr/lib/libSystem.B.dylib'\n\
+current-version: 1345.100.2\n\
+reexported-libraries:\n  \
+  - targets:         [ arm64-macos ]\n    \
+    libraries:       [ '/usr/lib/system/libsystem_c.dylib' ]\n\
+--- !tapi-tbd\n\
+tbd-version:     4\n\
+targets:         [ arm64-macos ]\n\
+install-name:    '/usr/lib/system/libsystem_c.dylib'\n\
+exports:\n  \
+  - targets:         [ arm64-macos ]\n    \
+    symbols:         [ _puts ]\n\
+...\n";
+
+const SDK_HELLO_WALK: &[u8] = b"\
+%!tapi-tbd{tbd-version=<4>targets=(<x86_64-macos><arm64-macos><arm64e-macos>.\
+install-name=</usr/lib/libSystem.B.dylib>current-version=<1345.100.2>\
+reexported-libraries=({targets=(<arm64-macos>.libraries=(</usr/lib/system/libsystem_c.dylib>....\
+%!tapi-tbd{tbd-version=<4>targets=(<arm64-macos>.install-name=</usr/lib/system/libsystem_c.dylib>\
+exports=({targets=(<arm64-macos>.symbols=(<_puts>....";
+
+// The list that the fifth line opens isn't closed.
+const OPEN_FLOW_LIST: &[u8] = b"\
+--- !tapi-tbd\n\
+tbd-version: 4\n\
+targets: [ arm64-macos ]\n\
+install-name: /x\n\
+exports: [ a,\n  \
+  b\n\
+...\n";
+
+fn is_walk(alloc: Global, text: &'static [u8], walk: &[u8]) -> bool {
+    let Ok(file) = read_bytes(alloc, &Bytes::from_static(text)) else {
+        return false;
+    };
+    match walk_of(alloc, &file) {
+        Ok(found) => found.as_slice() == walk,
+        Err(_) => false,
+    }
+}
+
+// A text of so many keys within each other, each more indented than the one around it.
+fn nested(alloc: Global, levels: usize) -> Result<Bytes, YamlFault> {
+    let mut text = Vec::new(alloc);
+    text.extend_from_slice(b"---\n")?;
+    for level in 0..levels {
+        for _ in 0..level {
+            text.push(b' ')?;
+        }
+        text.extend_from_slice(b"a:\n")?;
+    }
+    Ok(Bytes::from_vec(text)?)
+}
+
+// A text of one list with so many symbols, in lines of four.
+fn listed(alloc: Global, lines: usize) -> Result<Bytes, YamlFault> {
+    let mut text = Vec::new(alloc);
+    text.extend_from_slice(b"---\nsymbols: [ _a")?;
+    for _ in 1..lines {
+        text.extend_from_slice(b",\n   _b, '_c', \"_d\", _e.f")?;
+    }
+    text.extend_from_slice(b" ]\n")?;
+    Ok(Bytes::from_vec(text)?)
+}
+
+// How many steps the walk through the only tree of a text has, or 0.
+fn steps_of(alloc: Global, text: Result<Bytes, YamlFault>) -> usize {
+    let Ok(text) = text else {
+        return 0;
+    };
+    match read_bytes(alloc, &text) {
+        Ok(file) => match file.docs.as_slice() {
+            [doc] => doc.events.len(),
+            _ => 0,
+        },
+        Err(_) => 0,
+    }
+}
+
+#[test]
+fn open_flow_list_and_sdk_hello(rt: HostRuntime) {
+    let alloc = rt.alloc();
+    assert!(rt; is_walk(alloc, SDK_HELLO, SDK_HELLO_WALK));
+    assert!(rt; is_walk(alloc, b"---\na: \"\\n\\t\\0\"", b"%{a=<\n\t\0>."));
+    let told = read_bytes(alloc, &Bytes::from_static(OPEN_FLOW_LIST));
+    assert!(rt;
+        matches!(
+            told,
+            Err(YamlFault::At {
+                line: 5,
+                rule: Rule::Flow
+            })
+        )
+    );
+    assert!(rt; steps_of(alloc, nested(alloc, 3_000)) == 9_001);
+    assert!(rt; steps_of(alloc, listed(alloc, 5_000)) == 20_002);
+}
