@@ -6,3 +6,4 @@ pub mod BlockLemmas
 pub mod ReadLemmas
 pub mod TreeLemmas
 pub mod SoundLemmas
+pub mod GrammarLemmas

@@ -32,30 +32,30 @@ use Rattle.tbd_yaml.proofs.TreeLemmas.{IsPartial, partial_new, partial_scalar, p
 
 -- What an answer came from
 
-bind_ok : {A B : Type 0} (r : Result A YamlFault) (f : A → Result B YamlFault) (y : B) → (r >>= f) ≡ Ok y → (x : A) × (r ≡ Ok x) × (f x ≡ Ok y)
+pub bind_ok : {A B : Type 0} (r : Result A YamlFault) (f : A → Result B YamlFault) (y : B) → (r >>= f) ≡ Ok y → (x : A) × (r ≡ Ok x) × (f x ≡ Ok y)
 bind_ok (Ok x) f y is = (x, refl, is)
 bind_ok (Err e) f y is = absurd (cc)
 
-unless_ok : {A : Type 0} (test : Bool) (fault : YamlFault) (r : Result A YamlFault) (y : A) → (if test then Err fault else r) ≡ Ok y → (test ≡ false) × (r ≡ Ok y)
+pub unless_ok : {A : Type 0} (test : Bool) (fault : YamlFault) (r : Result A YamlFault) (y : A) → (if test then Err fault else r) ≡ Ok y → (test ≡ false) × (r ≡ Ok y)
 unless_ok true fault r y is = absurd (cc)
 unless_ok false fault r y is = (refl, is)
 
-when_ok : {A : Type 0} (test : Bool) (fault : YamlFault) (r : Result A YamlFault) (y : A) → (if test then r else Err fault) ≡ Ok y → (test ≡ true) × (r ≡ Ok y)
+pub when_ok : {A : Type 0} (test : Bool) (fault : YamlFault) (r : Result A YamlFault) (y : A) → (if test then r else Err fault) ≡ Ok y → (test ≡ true) × (r ≡ Ok y)
 when_ok true fault r y is = (refl, is)
 when_ok false fault r y is = absurd (cc)
 
-never_ok : {A : Type 0} (test : Bool) (one other : YamlFault) (y : A) → (if test then Err one else Err other) ≡ Ok y → ⊥
+pub never_ok : {A : Type 0} (test : Bool) (one other : YamlFault) (y : A) → (if test then Err one else Err other) ≡ Ok y → ⊥
 never_ok true one other y is = cc
 never_ok false one other y is = cc
 
-ok_same : {A : Type 0} (x y : A) → ◌≡◌ {A = Result A YamlFault} (Ok x) (Ok y) → x ≡ y
+pub ok_same : {A : Type 0} (x y : A) → ◌≡◌ {A = Result A YamlFault} (Ok x) (Ok y) → x ≡ y
 ok_same x y is = cc
 
-by_test : {A P : Type 0} (test : Bool) (x y z : A) → (if test then x else y) ≡ z → (test ≡ true → x ≡ z → P) → (test ≡ false → y ≡ z → P) → P
+pub by_test : {A P : Type 0} (test : Bool) (x y z : A) → (if test then x else y) ≡ z → (test ≡ true → x ≡ z → P) → (test ≡ false → y ≡ z → P) → P
 by_test true x y z is one other = one refl is
 by_test false x y z is one other = other refl is
 
-both_true : (a b : Bool) → (a && b) ≡ true → a ≡ true
+pub both_true : (a b : Bool) → (a && b) ≡ true → a ≡ true
 both_true true b is = refl
 both_true false b is = absurd (cc)
 
@@ -92,7 +92,7 @@ token_ok place token.Forbidden state next maps partial is_open is =
     subst (FlowIs maps) (ok_same (record state { spoiled = true; wants = false }) next found.1) (open_flow maps state.closed state.events is_open partial)
 token_ok place token.Unclosed state next maps partial is_open is = absurd (never_ok state.wants (At place.line rule.Quote) (At place.opened rule.Flow) next is)
 
-settled_ok : (place : FlowPlace) (state after : FlowState) → settled place state ≡ Ok after → state ≡ after
+pub settled_ok : (place : FlowPlace) (state after : FlowState) → settled place state ≡ Ok after → state ≡ after
 settled_ok place state after is =
     let one = unless_ok state.escaped (At place.line rule.Escape) (if state.spoiled then Err (At place.line rule.Scalar) else Ok state) after is in
     let two = unless_ok state.spoiled (At place.line rule.Scalar) (Ok state) after one.1 in
@@ -119,7 +119,7 @@ tokens_ok (given ∷ tokens) place state after maps partial is_open is =
 abbrev maps_of : List Block → List Bool
 maps_of blocks = map (λ block. is_map_form block.form) blocks
 
-abbrev BodyBy : Option FlowList → Body → Type 0
+abbrev pub BodyBy : Option FlowList → Body → Type 0
 BodyBy None body = IsPartial body.awaits (maps_of body.blocks) body.events
 BodyBy (Some list) body = IsPartial false (false ∷ maps_of body.blocks) body.events × (body.awaits ≡ false)
 
@@ -308,11 +308,11 @@ whole_ok body partial = ends_ok body.blocks (answered body).events (answered_ok 
 
 -- Texts
 
-abbrev OpenIs : Option OpenDoc → Type 0
+abbrev pub OpenIs : Option OpenDoc → Type 0
 OpenIs None = Unit {0}
 OpenIs (Some doc) = IsBody doc.body
 
-record IsSound (reading : Reading) : Type 0 where
+pub record IsSound (reading : Reading) : Type 0 where
   pub docs : AllByRecursion HasTree reading.docs
   pub last : OpenIs reading.last
 
@@ -361,7 +361,7 @@ any_line_ok : (line : ℕ) (text : List ℕ) (list : Option FlowList) (reading n
 any_line_ok line text None reading next sound flow is = block_line_ok line text reading next sound flow is
 any_line_ok line text (Some list) reading next sound flow is = flow_line_ok line text list reading.last reading next sound sound.last flow is
 
-next_ok : (line : ℕ) (text : List ℕ) (reading next : Reading) → IsSound reading → with_next line text reading ≡ Ok next → IsSound next
+pub next_ok : (line : ℕ) (text : List ℕ) (reading next : Reading) → IsSound reading → with_next line text reading ≡ Ok next → IsSound next
 unfolding with_next
 next_ok line text reading next sound is =
     any_line_ok line text (flow_in reading.last) reading next sound refl (when_ok (is_utf8 text) (At line rule.Utf8) (with_any_line line text (flow_in reading.last) reading) next is).1

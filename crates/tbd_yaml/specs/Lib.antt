@@ -6,3 +6,4 @@ pub mod Flow
 pub mod Blocks
 pub mod File
 pub mod Tree
+pub mod Grammar

@@ -25,5 +25,7 @@ mod units;
 
 pub use fault::YamlFault;
 pub use file::{DocList, EventList, YamlDoc, YamlEvent, YamlFile};
-pub use laws::{a_walk_is_through_one_tree, each_document_is_a_tree};
+pub use laws::{
+    a_walk_is_through_one_tree, each_document_is_a_tree, what_is_read_is_in_the_grammar,
+};
 pub use read::read_yaml;
