@@ -18,7 +18,7 @@ fn name_of(alloc: Global, number: u32) -> Result<Bytes, OutOfMemory> {
     Ok(Bytes::from_vec(name)?)
 }
 
-/// So many needs of so many goals in turn, each goal by a stub and by a slot.
+/// So many needs of so many goals, each goal in turn by a stub and by a slot.
 pub(crate) fn needs_of(alloc: Global, count: u32, goals: u32) -> Result<NeedList, OutOfMemory>
     requires { 0 < goals }
 {
@@ -32,7 +32,7 @@ pub(crate) fn needs_of(alloc: Global, count: u32, goals: u32) -> Result<NeedList
         match names.get(goal as usize) {
             Some(name) => needs.push(Need {
                 goal: Goal::Flat(name.clone()?),
-                way: if i % 2 == 0 { Way::Stub } else { Way::Got },
+                way: if i / goals % 2 == 0 { Way::Stub } else { Way::Got },
             })?,
             None => {}
         }
