@@ -32,7 +32,11 @@ pub(crate) fn needs_of(alloc: Global, count: u32, goals: u32) -> Result<NeedList
         match names.get(goal as usize) {
             Some(name) => needs.push(Need {
                 goal: Goal::Flat(name.clone()?),
-                way: if i / goals % 2 == 0 { Way::Stub } else { Way::Got },
+                way: if i / goals % 2 == 0 {
+                    Way::Stub
+                } else {
+                    Way::Got
+                },
             })?,
             None => {}
         }
