@@ -237,6 +237,7 @@ fn fields_hold_their_values(rt: HostRuntime) {
             0,
             Err((RangeKind::Page, 1048576)),
         ),
+        // addend_before_page_offset
         (
             RefKind::PageOff,
             0x3dc00000,
