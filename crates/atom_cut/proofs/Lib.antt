@@ -4,6 +4,7 @@ pub mod CutLemmas
 pub mod KeyLemmas
 pub mod LiteralLemmas
 pub mod OffsetLemmas
+pub mod OwnBytes
 pub mod PieceLemmas
 pub mod RangeLemmas
 pub mod RisingLemmas

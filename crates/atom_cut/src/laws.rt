@@ -1,15 +1,15 @@
 //! What holds of atoms. Each function is a law, which its contract states, and does nothing.
 
-ghost use Rattle.std.specs.Prelude.{◌≡◌, ◌≤◌, ℕ, Some, false};
+ghost use Rattle.std.specs.Prelude.{◌≡◌, ◌≤◌, ℕ, Some, false, All};
 ghost use Rattle.std.specs.List.{AllPairs, flat_map};
 ghost use Rattle.mo_types.specs.AtomBytes.{atom_bytes};
 ghost use Rattle.mo_types.specs.Atoms.{atoms_of, cut_of, is_cut, section_atoms};
 ghost use Rattle.mo_types.specs.RelocationRules.{section_numbered};
-ghost use Rattle.mo_types.specs.Whole.{IsWholeSection, is_dropped};
+ghost use Rattle.mo_types.specs.Whole.{IsWhole, IsWholeSection, is_dropped};
 ghost use Rattle.mo_types.specs.declared.key.FileId.{FileId};
 ghost use Rattle.mo_types.specs.declared.object.Object.{Object};
 ghost use Rattle.mo_types.specs.declared.object.Section.{Section};
-ghost use Rattle.atom_cut.specs.Laws.{IsBefore, IsGreatest, Tile};
+ghost use Rattle.atom_cut.specs.Laws.{HasItsBytes, IsBefore, IsGreatest, Tile};
 
 /// The atoms of a linked section follow each other, without gap or overlap, from its start to its end.
 #[tactic(auto, using(crate::proofs::TileLemmas::tiles))]
@@ -33,4 +33,9 @@ pub fn offset_belongs_to_the_greatest_cut()
 #[tactic(auto, using(crate::proofs::KeyLemmas::keys))]
 pub fn keys_rise()
     ensures { (object : Object) (file : FileId) → AllPairs (λ a b. IsBefore a.key b.key) (atoms_of object file) }
+{}
+
+/// Each atom of a whole object has as many bytes as its size says, or none where its section is zerofill.
+pub fn atoms_have_their_bytes()
+    ensures { (object : Object) (file : FileId) → IsWhole object → All (HasItsBytes object) (atoms_of object file) }
 {}

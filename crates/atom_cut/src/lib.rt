@@ -12,4 +12,7 @@ mod tests;
 
 pub use contents::bytes_of;
 pub use cutting::cut;
-pub use laws::{atoms_tile, keys_rise, no_byte_is_lost, offset_belongs_to_the_greatest_cut};
+pub use laws::{
+    atoms_have_their_bytes, atoms_tile, keys_rise, no_byte_is_lost,
+    offset_belongs_to_the_greatest_cut,
+};
