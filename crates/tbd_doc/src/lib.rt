@@ -1,0 +1,8 @@
+//! What a stub library says: the documents of a TBD text, version 4, that hold for arm64 on macOS.
+#![tactic(auto)]
+
+mod fault;
+mod stub;
+
+pub use fault::StubFault;
+pub use stub::{Export, ExportList, Stub, StubFile, StubList};
