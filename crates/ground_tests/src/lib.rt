@@ -12,4 +12,6 @@ mod races;
 #[cfg(test)]
 mod structures;
 #[cfg(test)]
+mod types;
+#[cfg(test)]
 mod words;

@@ -3,3 +3,4 @@ pub mod Fronts
 pub mod Scanning
 pub mod Goals
 pub mod RefRowLemmas
+pub mod KeyOrder

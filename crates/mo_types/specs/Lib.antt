@@ -1,7 +1,9 @@
 pub mod Answer
 pub mod AtomBytes
 pub mod Atoms
+pub mod Candidates
 pub mod Cause
+pub mod Destination
 pub mod FaultText
 pub mod Gives
 pub mod Keys

@@ -3,7 +3,10 @@
 
 mod answer;
 mod atom;
+mod candidate;
 mod cause;
+mod destination;
+mod edge;
 mod goal;
 mod items;
 mod key;
@@ -19,14 +22,13 @@ mod reference;
 mod reference_fault;
 mod section;
 mod string;
-#[cfg(test)]
-mod tests;
 mod unwind;
 mod whole;
 
 pub use answer::{Refusal, Status};
 pub use atom::{Atom, AtomList};
 pub use cause::{Feature, RangeKind, Rule, UsageRule, Which};
+pub use edge::{Edge, EdgeList};
 pub use goal::{Goal, GoalList};
 pub use items::Items;
 pub use key::{AtomKey, FileId, files_are_in_order, keys_are_in_order};

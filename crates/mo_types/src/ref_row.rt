@@ -8,6 +8,9 @@ ghost use Rattle.mo_types.specs.inner.RefRows as rows;
 use crate::key::{AtomKey, FileId};
 use crate::reference::{Ref, RefKind, Target};
 
+// Two of them share a cache line.
+const _: () = prove!(size_of::<Row>() == 32);
+
 /// What a reference has but its ends and its file, in numbers of 32 bits.
 #[derive(Clone, Copy, Debug)]
 pub struct Spot {

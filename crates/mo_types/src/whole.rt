@@ -1,7 +1,19 @@
 ghost use Rattle.std.specs.Prelude.{◌≡◌, ◌↔◌, ◌+◌, ◌-◌, ◌*◌, ◌%◌, ◌<◌, ◌^◌, length, slice_index, true, All, IsTrue, IfSome, if◌then◌else◌};
+ghost use Rattle.std.specs.Option.{option_copied};
+ghost use Rattle.mo_types.specs.RelocationRules as rules;
 ghost use Rattle.mo_types.specs.Whole as whole;
 
 use crate::object::{Object, RawReloc, Section, Symbol, SymbolKind};
+
+/// The section of a number from 1, or `None` exactly where there is none.
+pub(crate) fn section_numbered(sections: &[Section], number: u32) -> Option<&Section>
+    ensures { option_copied result ≡ rules.section_numbered sections.now number }
+{
+    if number == 0 {
+        return None;
+    }
+    sections.get(number as usize - 1)
+}
 
 fn are_numbered(relocs: &[RawReloc]) -> bool
     ensures { IsTrue result ↔ All (λ reloc. reloc.number < 2 ^ 24) relocs.now }
@@ -91,8 +103,17 @@ fn are_defined_within(sections: &[Section], symbols: &[Symbol]) -> bool
 }
 
 impl Object {
-    ghost use Rattle.std.specs.Prelude.{◌↔◌, IsTrue};
+    ghost use Rattle.std.specs.Prelude.{◌↔◌, ◌≡◌, IsTrue};
+    ghost use Rattle.std.specs.Option.{option_copied};
+    ghost use Rattle.mo_types.specs.RelocationRules as rules;
     ghost use Rattle.mo_types.specs.Whole.{IsWhole};
+
+    /// Its section of a number from 1, or `None` exactly where there is none.
+    pub fn section(&self, number: u32) -> Option<&Section>
+        ensures { option_copied result ≡ rules.section_numbered self.now.sections number }
+    {
+        section_numbered(self.sections.as_slice(), number)
+    }
 
     /// Whether the object is whole, as what the reader of objects gives is: its numbers have room, its
     /// sections have their bytes, and its definitions lie in their sections.

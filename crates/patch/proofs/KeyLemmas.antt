@@ -1,25 +1,19 @@
--- The order of atom keys is a total one.
+-- Which of two atoms comes first by their keys.
 use Rattle.std.proofs.Common.{◌≡◌, true, false, refl, ap, ◌∙◌}
-use Rattle.std.specs.Cmp.{IsTotalOrder}
 use Rattle.std.specs.Ordering.{is_gt, ordering_reverse}
 use Rattle.std.specs.declared.cmp.Ordering.{Ordering}
 use Rattle.std.specs.declared.cmp.Ordering.TheVariants.{Less, Equal, Greater}
-use Rattle.std.proofs.lemmas.Cmp.{nat_cmp_total, on_total, then_total, tied_itself, upto}
+use Rattle.std.proofs.lemmas.Cmp.{tied_itself, upto}
 use Rattle.mo_types.specs.declared.key.AtomKey.{AtomKey}
-use Rattle.mo_types.specs.declared.key.FileId.{FileId}
 use Rattle.mo_types.specs.Keys.{compare_keys}
+use Rattle.mo_types.proofs.KeyOrder.{compare_keys_total}
 use Rattle.patch.specs.Range.{IsUpTo}
 
-keys_total : IsTotalOrder compare_keys
-keys_total = then_total
-    (on_total (λ (k : AtomKey). k.file) (then_total (on_total (λ (f : FileId). f.position) nat_cmp_total) (on_total (λ (f : FileId). f.member) nat_cmp_total)))
-    (then_total (on_total (λ (k : AtomKey). k.section) nat_cmp_total) (on_total (λ (k : AtomKey). k.offset) nat_cmp_total))
-
 pub itself : (a : AtomKey) → IsUpTo a a
-itself a = ap is_gt (tied_itself keys_total a)
+itself a = ap is_gt (tied_itself compare_keys_total a)
 
 pub through : (a b c : AtomKey) → IsUpTo a b → IsUpTo b c → IsUpTo a c
-through a b c = upto keys_total a b c
+through a b c = upto compare_keys_total a b c
 
 turned : (o : Ordering) → is_gt (ordering_reverse o) ≡ true → is_gt o ≡ false
 turned Less e = refl
@@ -30,4 +24,4 @@ pub turned_round : (a b : AtomKey) → is_gt (compare_keys a b) ≡ true → IsU
 turned_round a b after = turned (compare_keys b a) (ap is_gt (sym_order a b) ∙ after)
   where
     sym_order : (a b : AtomKey) → ordering_reverse (compare_keys b a) ≡ compare_keys a b
-    sym_order a b = let e = keys_total.antisymm a b in cc
+    sym_order a b = let e = compare_keys_total.antisymm a b in cc

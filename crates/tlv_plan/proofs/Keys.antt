@@ -1,4 +1,4 @@
--- The order of atoms is a total one that ties just the same atoms, and what searches by it find.
+-- The order of atoms ties just the same atoms, and what searches by it find.
 use Rattle.std.proofs.Common.{◌≡◌, ℕ, zero, suc, ◌+◌, ◌<◌, ◌≤◌, ◌⊎◌, Bool, true, false, List, [], ◌∷◌, length, get_or, refl, sym, ap, subst, ◌∙◌, inl, inr, arith, Some, None}
 use Rattle.std.specs.List.{AllAdjacentBelow, HoldsAt, find}
 use Rattle.std.specs.List.Sorted.{IsStrictlySortedBy, IsSorted, IsNonDecreasingBy, IsPartitionPoint}
@@ -7,7 +7,7 @@ use Rattle.std.specs.declared.cmp.Ordering.TheVariants.{Less, Equal, Greater}
 use Rattle.std.specs.Ordering.{nat_cmp, on, is_lt, is_eq, ordering_reverse, ordering_then, ordering_index}
 use Rattle.std.specs.Cmp.{IsTotalOrder}
 use Rattle.std.proofs.lemmas.Bool.{cases_lt}
-use Rattle.std.proofs.lemmas.Cmp.{nat_cmp_total, on_total, then_total, tied_itself}
+use Rattle.std.proofs.lemmas.Cmp.{on_total, tied_itself}
 use Rattle.std.proofs.lemmas.List.Sorted.{searchable_from_sorted}
 use Rattle.list_lemmas.proofs.Members.{all_at, all_weaker}
 use Rattle.list_lemmas.proofs.Rising.{rising_at}
@@ -15,11 +15,7 @@ use Rattle.list_lemmas.proofs.Ties.{tied_first, tied_second, same_number}
 use Rattle.mo_types.specs.declared.key.AtomKey.{AtomKey}
 use Rattle.mo_types.specs.declared.key.FileId.{FileId}
 use Rattle.mo_types.specs.Keys.{compare_files, compare_keys}
-
-pub compare_keys_total : IsTotalOrder compare_keys
-compare_keys_total = then_total
-    (on_total (λ (k : AtomKey). k.file) (then_total (on_total (λ (f : FileId). f.position) nat_cmp_total) (on_total (λ (f : FileId). f.member) nat_cmp_total)))
-    (then_total (on_total (λ (k : AtomKey). k.section) nat_cmp_total) (on_total (λ (k : AtomKey). k.offset) nat_cmp_total))
+use Rattle.mo_types.proofs.KeyOrder.{compare_keys_total}
 
 abbrev key_of : ℕ → ℕ → ℕ → ℕ → AtomKey
 key_of p m s o = record { file = record { position = p; member = m }; section = s; offset = o }

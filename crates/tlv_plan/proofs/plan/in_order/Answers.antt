@@ -3,7 +3,7 @@ use Rattle.std.specs.Ordering.{is_lt}
 use Rattle.std.proofs.lemmas.List.Sorted.{ranks_by, answers_always}
 use Rattle.tlv_plan.specs.declared.parts.Offset.{Offset}
 use Rattle.mo_types.specs.Keys.{compare_keys}
-use Rattle.tlv_plan.proofs.Keys.{compare_keys_total}
+use Rattle.mo_types.proofs.KeyOrder.{compare_keys_total}
 use Rattle.tlv_plan.proofs.plan.in_order.Goals as goal
 
 pub from_sorted-requires : goal.from_sorted-requires
