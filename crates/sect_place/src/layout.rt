@@ -1,0 +1,134 @@
+ghost use Rattle.std.specs.Prelude.{◌≡◌, ℕ, Contains, IfOk, IsPermutation, MatchOption};
+ghost use Rattle.std.specs.List.Sorted.{IsSorted};
+ghost use Rattle.std.specs.Ordering.{on};
+ghost use Rattle.mo_types.specs.Keys.{compare_keys};
+ghost use Rattle.sect_place.specs.declared.layout.Placed.{Placed};
+
+use crate::lookup::{find, hinted, hints_of};
+use mo_types::{AtomKey, Bytes, Items, OutOfMemory, OutSection};
+use std::alloc::Global;
+use std::cmp::Ordering;
+use std::marker::Model;
+
+/// A segment of an image (`loader.h`: segment_command_64). Its `maxprot` is its `initprot`.
+#[derive(Debug, Drop)]
+pub struct Segment {
+    pub name: Bytes,
+    /// A multiple of 0x4000.
+    pub address: u64,
+    /// In bytes of memory, a multiple of 0x4000. That of `__LINKEDIT` is 0 here, since its parts come later.
+    pub vmsize: u64,
+    /// From the start of the image's file, a multiple of 0x4000.
+    pub file_offset: u64,
+    /// In bytes of the file. That of `__LINKEDIT` is 0 here.
+    pub file_size: u64,
+    /// What its memory may be used for (`vm_prot.h`: 1 reading, 2 writing, 4 running).
+    pub protection: u32,
+    /// 0x10 where it is read-only once the loader is done (`loader.h`: SG_READ_ONLY).
+    pub flags: u32,
+    /// How many sections it has.
+    pub sections: u32,
+}
+
+/// The segments of an image, in the order of their addresses.
+pub type SegmentList = Items<Segment>;
+
+/// A section of an image and where it stands (`loader.h`: section_64). One without atoms is the linker's own:
+/// `__stubs`, `__unwind_info`, `__got` or `__thread_ptrs`.
+#[derive(Debug, Drop)]
+pub struct PlacedSection {
+    pub section: OutSection,
+    pub address: u64,
+    /// In bytes of memory.
+    pub size: u64,
+    /// From the start of the image's file, or 0 where it has no bytes there.
+    pub file_offset: u64,
+}
+
+/// The sections of an image, segment by segment, in the order of their addresses.
+pub type PlacedSectionList = Items<PlacedSection>;
+
+/// Where an atom stands.
+#[derive(Clone, Copy, Debug, PartialEq, Eq)]
+pub struct Placed {
+    pub atom: AtomKey,
+    pub address: u64,
+}
+
+/// Addresses in the order of their atoms. Contracts see the list of them.
+#[derive(Debug, Drop)]
+pub struct PlacedList {
+    placed: Vec<Placed>,
+    // Where atoms are to be looked for. Nothing is proved of it: what it misses is searched for.
+    hints: Vec<u32>,
+}
+
+impl Model for PlacedList {
+    ghost use Rattle.std.specs.Prelude.{List};
+    ghost use Rattle.std.specs.List.Sorted.{IsSorted};
+    ghost use Rattle.std.specs.Ordering.{on};
+    ghost use Rattle.mo_types.specs.Keys.{compare_keys};
+    ghost use Rattle.sect_place.specs.declared.layout.Placed.{Placed};
+
+    ghost Value = { List Placed };
+
+    ghost view = { λ list. list.placed.items };
+
+    ghost invariant = { λ list. IsSorted (on (λ (p : Placed). p.atom) compare_keys) list.placed.items };
+}
+
+impl PlacedList {
+    /// The list of some addresses, in the order of their atoms.
+    pub fn from_vec(alloc: Global, placed: Vec<Placed>) -> Result<PlacedList, OutOfMemory>
+        ensures { IfOk result (IsPermutation placed.items) }
+    {
+        let placed = in_order(placed);
+        let hints = hints_of(alloc, placed.as_slice())?;
+        Ok(PlacedList { placed, hints })
+    }
+
+    /// All addresses, in order.
+    pub fn as_slice(&self) -> &[Placed]
+        ensures all { result.now ≡ self.now }
+        ensures rising { IsSorted (on (λ (p : Placed). p.atom) compare_keys) self.now }
+    {
+        self.placed.as_slice()
+    }
+
+    // The address of an atom.
+    pub(crate) fn address_of(&self, atom: &AtomKey) -> Option<u64>
+        ensures { MatchOption result ((address : ℕ) → ¬ Contains self.now (record { atom = atom.now; address = address })) (λ address. Contains self.now (record { atom = atom.now; address = address })) }
+    {
+        match hinted(self.placed.as_slice(), self.hints.as_slice(), atom) {
+            Some(address) => Some(address),
+            None => find(self.placed.as_slice(), atom),
+        }
+    }
+}
+
+// Addresses in the order of their atoms.
+fn in_order(placed: Vec<Placed>) -> Vec<Placed>
+    ensures same { IsPermutation placed.items result.items }
+    ensures rising { IsSorted (on (λ (p : Placed). p.atom) compare_keys) result.items }
+{
+    let mut placed = placed;
+    placed.sort_unstable_by(|a, b| compare(&a.atom, &b.atom));
+    placed
+}
+
+// The order of two atoms.
+pub(crate) fn compare(a: &AtomKey, b: &AtomKey) -> Ordering
+    ensures { result ≡ compare_keys a.now b.now }
+{
+    a.cmp(b)
+}
+
+/// Where everything of an image stands.
+#[derive(Debug, Drop)]
+pub struct Layout {
+    /// From `__PAGEZERO` or `__TEXT` to `__LINKEDIT`.
+    pub segments: SegmentList,
+    pub sections: PlacedSectionList,
+    /// Each atom of the image.
+    pub placed: PlacedList,
+}
