@@ -2,7 +2,7 @@ pub mod FieldLemmas
 pub mod KeyLemmas
 pub mod LeastLemmas
 pub mod NumberLemmas
+pub mod OrderLemmas
 pub mod RangeLemmas
 pub mod ReadingLemmas
-pub mod TestLemmas
 pub mod WriteLemmas

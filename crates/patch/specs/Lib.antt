@@ -1,4 +1,5 @@
 pub mod Field
+pub mod Order
 pub mod Patched
 pub mod Range
 pub mod Reading

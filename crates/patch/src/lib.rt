@@ -2,12 +2,11 @@
 #![tactic(auto)]
 
 mod atom;
-#[cfg(test)]
-mod conditions;
 mod fault;
 mod field;
 mod laws;
 mod met;
+mod order;
 mod range;
 #[cfg(test)]
 mod tests;
@@ -18,4 +17,5 @@ pub use laws::{
     no_byte_is_in_two_fields,
 };
 pub use met::{Met, RangeFault};
+pub use order::{fields_are_in_order, work_is_in_order};
 pub use range::{PlacedWork, patch_range};

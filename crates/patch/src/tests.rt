@@ -1,7 +1,6 @@
 //! Fields against the words of an assembler, and atoms against images that were put together by hand.
 
 use super::*;
-use crate::conditions::{are_fields, are_work};
 use mo_types::{
     Atom, AtomKey, AtomList, Bytes, FileId, Loaded, LoadedFile, LoadedList, Object, OutOfMemory,
     RangeKind, RefKind, RefList, RelocList, Section, SectionList, SymbolList, UnwindList,
@@ -27,7 +26,7 @@ fn patched(row: &Row) -> Option<Result<u64, RangeFault>> {
         addend: row.4,
     }];
     let mut bytes = row.1.to_le_bytes();
-    if !are_fields(ADDRESS, 8, &mets) {
+    if !fields_are_in_order(ADDRESS, 8, &mets) {
         return None;
     }
     Some(match patch_atom(&mut bytes, ADDRESS, &mets) {
@@ -452,17 +451,10 @@ fn met(place: u64, kind: RefKind, value: u64) -> Met {
     }
 }
 
-// Of several faults that at the least place is told, wherever it stands in the list, and nothing is written.
-fn least_place_is_told() -> bool {
-    let mets = [
-        met(28, RefKind::Diff32, 0x8000_0000),
-        met(20, RefKind::Pointer, 1),
-        met(8, RefKind::Branch, ADDRESS + 0x800_0008),
-        met(4, RefKind::Branch, ADDRESS + 8),
-        met(12, RefKind::Diff32, 0x8000_0001),
-    ];
+// Of several faults that at the least place is told, and nothing is written.
+fn least_is_told(mets: &[Met]) -> bool {
     let mut bytes = [0x94; 32];
-    if !are_fields(ADDRESS, 32, &mets) {
+    if !fields_are_in_order(ADDRESS, 32, mets) {
         return false;
     }
     let fault = RangeFault {
@@ -470,7 +462,18 @@ fn least_place_is_told() -> bool {
         kind: RangeKind::Branch,
         value: 0x800_0000,
     };
-    patch_atom(&mut bytes, ADDRESS, &mets) == Err(fault) && bytes == [0x94; 32]
+    patch_atom(&mut bytes, ADDRESS, mets) == Err(fault) && bytes == [0x94; 32]
+}
+
+// The same references by rising and by falling place.
+fn least_place_is_told() -> bool {
+    let fits = met(4, RefKind::Branch, ADDRESS + 8);
+    let first = met(8, RefKind::Branch, ADDRESS + 0x800_0008);
+    let second = met(12, RefKind::Diff32, 0x8000_0001);
+    let pointer = met(20, RefKind::Pointer, 1);
+    let third = met(28, RefKind::Diff32, 0x8000_0000);
+    least_is_told(&[fits, first, second, pointer, third])
+        && least_is_told(&[third, pointer, second, first, fits])
 }
 
 // A few thousand fields, the last one first.
@@ -481,7 +484,7 @@ fn thousands_are_written(alloc: Global) -> Result<bool, OutOfMemory> {
         mets.push(met(4 * (2999 - i), RefKind::Diff32, i))?;
         bytes.extend_from_slice(&[0xff; 4])?;
     }
-    if !are_fields(ADDRESS, bytes.len(), mets.as_slice()) {
+    if !fields_are_in_order(ADDRESS, bytes.len(), mets.as_slice()) {
         return Ok(false);
     }
     let done = patch_atom(bytes.as_mut_slice(), ADDRESS, mets.as_slice()) == Ok(());
@@ -590,7 +593,7 @@ fn filled(
         work(1, 0, 0x4010, 2),
     ];
     let mut piece = [0xee; 20];
-    if !are_work(&items, loaded.files.as_slice(), mets, 0x4000, 20) {
+    if !work_is_in_order(&items, loaded.files.as_slice(), mets, 0x4000, 20) {
         return Ok((Ok(()), [0; 20]));
     }
     let answer = patch_range(&mut piece, 0x4000, &items, &loaded, mets);
@@ -663,7 +666,7 @@ fn thousands_are_filled(alloc: Global) -> Result<bool, OutOfMemory> {
     }
     let loaded = loaded(alloc, contents.as_slice())?;
     let (work, mets) = (items.as_slice(), mets.as_slice());
-    if !are_work(work, loaded.files.as_slice(), mets, 0, piece.len()) {
+    if !work_is_in_order(work, loaded.files.as_slice(), mets, 0, piece.len()) {
         return Ok(false);
     }
     let done = patch_range(piece.as_mut_slice(), 0, work, &loaded, mets) == Ok(());

@@ -1,0 +1,34 @@
+-- References and atoms that are listed in the order of their places.
+use Rattle.std.specs.Prelude.{ℕ, ◌+◌, ◌≤◌, ◌⊎◌, List, length, All}
+use Rattle.std.specs.List.{AllPairs}
+use Rattle.mo_types.specs.declared.loaded.LoadedFile.{LoadedFile}
+use Rattle.patch.specs.declared.met.Met.{Met}
+use Rattle.patch.specs.declared.range.PlacedWork.{PlacedWork}
+use Rattle.patch.specs.Patched.{AreFields, size_of}
+use Rattle.patch.specs.Range.{AreWork, IsWork, bytes_of, refs_of}
+
+-- a field ends where another one begins, or before
+abbrev pub IsBefore : Met → Met → Type 0
+IsBefore a b = a.place + size_of a ≤ b.place
+
+abbrev pub IsAfter : Met → Met → Type 0
+IsAfter a b = IsBefore b a
+
+-- fields that lie apart and are listed by rising or by falling place
+pub record AreFieldsInOrder (address size : ℕ) (mets : List Met) : Type 0 where
+  pub fields : AreFields address size mets
+  pub order : AllPairs IsBefore mets ⊎ AllPairs IsAfter mets
+
+-- the bytes of an atom end where those of another one begin, or before
+abbrev pub StandsBefore : List LoadedFile → PlacedWork → PlacedWork → Type 0
+StandsBefore files a b = a.at + length (bytes_of files a) ≤ b.at
+
+-- an atom that stands in a piece, with references in order
+pub record IsWorkInOrder (files : List LoadedFile) (mets : List Met) (from size : ℕ) (item : PlacedWork) : Type 0 where
+  pub work : IsWork files mets from size item
+  pub refs : AreFieldsInOrder item.address (length (bytes_of files item)) (refs_of mets item)
+
+-- atoms that stand one behind the other, each with its references in order
+pub record AreWorkInOrder (files : List LoadedFile) (mets : List Met) (from size : ℕ) (work : List PlacedWork) : Type 0 where
+  pub items : AreWork files mets from size work
+  pub refs : All (IsWorkInOrder files mets from size) work
