@@ -1,5 +1,5 @@
 -- What is read is in the grammar: with what may follow a line, the line stands in the grammar's place for it.
-use Rattle.std.proofs.Common.{◌≡◌, ℕ, ◌+◌, List, [], ◌∷◌, ◌++◌, drop, map, Bool, true, false, ◌&&◌, ◌||◌, ◌==◌, not, Option, Some, None, Ok, Err, refl, sym, ap, ◌∙◌, subst, arith, tests, append_assoc, append-nil}
+use Rattle.std.proofs.Common.{◌≡◌, ℕ, ◌+◌, ◌≤◌, List, [], ◌∷◌, ◌++◌, length, drop, map, Bool, true, false, ◌&&◌, ◌||◌, ◌==◌, not, Option, Some, None, Ok, Err, refl, sym, ap, ◌∙◌, subst, arith, tests, append_assoc, append-nil}
 use Rattle.std.specs.Prelude.{nat_lt, is_none, if◌then◌else◌}
 use Rattle.std.specs.Str.{is_utf8}
 use Rattle.mo_types.specs.Gives.{◌>>=◌}
@@ -26,10 +26,10 @@ use Rattle.tbd_yaml.specs.Flow.{with_token, settled, with_tokens, new_state, tok
 use Rattle.tbd_yaml.specs.Blocks.{is_key_list, goes_on, closed_to, begins_block, list_form, opening, with_block, answered, closing, placed, has_key, key_added, with_key, after_flow, with_flow, with_value, with_rest, with_pair, with_item_of, with_item, is_map_form, is_map, with_entry, with_line_at, with_line, whole_events, new_body}
 use Rattle.tbd_yaml.specs.File.{docs_with, with_doc, with_body, with_text, with_mark, with_block_line, flow_in, with_flow_line, with_any_line, with_next, ends, closed, finished, read_on, file_of}
 use Rattle.tbd_yaml.specs.Tree.{Tree, scalar, list, map as a_map_of, Trees, no_trees, tree, Pairs, no_pairs, pair, events_of, tree_events, pair_events}
-use Rattle.tbd_yaml.specs.Grammar.{IsPassed, IsBlockLine, content, stands_below, IsItems, next_line, a_comma, an_item, a_bracket, IsValue, a_scalar, a_flow_list, IsBelow, nothing, pass_below, a_block, a_map, a_list, IsPairs, a_pair, IsPairValue, value_here, value_below, IsMorePairs, no_more_pairs, pass_pairs, more_pairs, IsEntries, an_entry, IsEntry, entry_value, entry_map, IsMoreEntries, no_more_entries, pass_entries, more_entries, Document, AreDocuments, the_last_line, the_end, pass_line, a_document, AreDocumentsOf}
+use Rattle.tbd_yaml.specs.Grammar.{IsPassed, IsBlockLine, content, stands_below, IsItems, next_line, a_comma, an_item, a_bracket, IsValue, a_scalar, a_flow_list, IsBelow, nothing, pass_below, a_block, a_map, a_list, IsPairs, a_pair, IsPairValue, value_here, value_below, IsMorePairs, no_more_pairs, pass_pairs, more_pairs, IsEntries, an_entry, IsEntry, entry_value, entry_map, IsMoreEntries, no_more_entries, pass_entries, more_entries, Document, AreDocuments, the_last_line, the_end, pass_line, a_document, doc_of, AreDocumentsOf}
 use Rattle.tbd_yaml.proofs.SoundLemmas.{bind_ok, unless_ok, when_ok, never_ok, ok_same, by_test, both_true, settled_ok, IsSound, OpenIs, BodyBy, next_ok}
 
-abbrev Lines : Type 0
+abbrev pub Lines : Type 0
 Lines = List (List ℕ)
 
 -- all events of a document are those so far and a rest with a property
@@ -61,7 +61,7 @@ abbrev Rest : Lines → List Block → List YamlEvent → Lines → Type 0
 Rest left [] tail lines = (tail ≡ []) × Passes lines left
 Rest left (block ∷ outer) tail lines = RestBy block.form block.column block.keys (λ tail lines. Rest left outer tail lines) tail lines
 
-abbrev parent : List Block → Option ℕ
+abbrev pub parent : List Block → Option ℕ
 parent [] = None
 parent (block ∷ outer) = Some block.column
 
@@ -388,7 +388,7 @@ record IsTop (column : ℕ) (left : List Block × List YamlEvent) : Type 0 where
   pub top : left.0 ≡ block ∷ outer
   pub stands : block.column ≡ column
 
-is_equal : (x y : ℕ) → (x == y) ≡ true → x ≡ y
+pub is_equal : (x y : ℕ) → (x == y) ≡ true → x ≡ y
 is_equal x y is = grind (arith, tests)
 
 second_true : (a b : Bool) → (a && b) ≡ true → b ≡ true
@@ -429,7 +429,7 @@ answered_by : (awaits : Bool) (body : Body) (left : Lines) (total : List YamlEve
 answered_by true body left total lines leads = (event.Scalar [] ∷ leads.0, step_back total body.events leads.0 (event.Scalar []) leads.1, (scalar [], leads.0, lines, refl, nothing, leads.2))
 answered_by false body left total lines leads = leads
 
-same_stands : (blocks : List Block) (column : ℕ) (item : Bool) → begins_block column item blocks ≡ stands_below (parent blocks) column item
+pub same_stands : (blocks : List Block) (column : ℕ) (item : Bool) → begins_block column item blocks ≡ stands_below (parent blocks) column item
 same_stands [] column item = refl
 same_stands (block ∷ outer) column item = refl
 
@@ -538,9 +538,13 @@ whole_back body left none = from_awaits left (whole_events body) left body none 
 
 -- Texts
 
+-- documents, perhaps none, of some lines
+abbrev DocumentsOf : Lines → List YamlDoc → Type 0
+DocumentsOf lines docs = (documents : List Document) × AreDocuments lines documents × (docs ≡ map doc_of documents)
+
 abbrev DocsFrom : Option OpenDoc → List YamlDoc → Lines → Type 0
-DocsFrom None rest lines = AreDocumentsOf lines rest
-DocsFrom (Some doc) rest lines = (left : Lines) × (total : List YamlEvent) × (others : List YamlDoc) × (rest ≡ record { tag = doc.tag; events = total } ∷ others) × BodyLeads left total lines doc.body × AreDocumentsOf left others
+DocsFrom None rest lines = DocumentsOf lines rest
+DocsFrom (Some doc) rest lines = (left : Lines) × (total : List YamlEvent) × (others : List YamlDoc) × (rest ≡ record { tag = doc.tag; events = total } ∷ others) × BodyLeads left total lines doc.body × DocumentsOf left others
 
 abbrev ReadingLeads : List YamlDoc → Lines → Reading → Type 0
 ReadingLeads all lines reading = (rest : List YamlDoc) × (all ≡ reading.docs ++ rest) × DocsFrom reading.last rest lines
@@ -551,7 +555,7 @@ passed_from (Some doc) rest line lines none passed from =
     let on = to_awaits from.0 from.1 lines doc.body none from.4 in
     (from.0, from.1, from.2, from.3, from_awaits from.0 from.1 (line ∷ lines) doc.body none (on.0, on.1, pass_awaits doc.body.awaits from.0 doc.body.blocks on.0 line lines passed on.2), from.5)
 
-begun_docs : (tag line : List ℕ) (rest : List YamlDoc) (lines : Lines) → is_utf8 line ≡ true → is_bare line ≡ false → tag_of line ≡ Some tag → DocsFrom (Some (record { tag = tag; body = new_body })) rest lines → AreDocumentsOf (line ∷ lines) rest
+begun_docs : (tag line : List ℕ) (rest : List YamlDoc) (lines : Lines) → is_utf8 line ≡ true → is_bare line ≡ false → tag_of line ≡ Some tag → DocsFrom (Some (record { tag = tag; body = new_body })) rest lines → DocumentsOf (line ∷ lines) rest
 begun_docs tag line rest lines utf8 some mark from =
     let on = from.4 in
     let whole : from.1 ≡ events_of on.2.0 = on.1 ∙ on.2.3 ∙ ap (λ later. events_of on.2.0 ++ later) on.2.5.0 ∙ append-nil (events_of on.2.0) in (
@@ -560,7 +564,7 @@ begun_docs tag line rest lines utf8 some mark from =
       from.3 ∙ ap (λ events. record { tag = tag; events = events } ∷ from.2) whole ∙ ap (λ docs. record { tag = tag; events = events_of on.2.0 } ∷ docs) from.5.2,
     )
 
-mark_back : (last : Option OpenDoc) (docs all : List YamlDoc) (line : List ℕ) (lines : Lines) (rest : List YamlDoc) → flow_in last ≡ None → all ≡ docs_with docs last ++ rest → AreDocumentsOf (line ∷ lines) rest
+mark_back : (last : Option OpenDoc) (docs all : List YamlDoc) (line : List ℕ) (lines : Lines) (rest : List YamlDoc) → flow_in last ≡ None → all ≡ docs_with docs last ++ rest → DocumentsOf (line ∷ lines) rest
     → (rest : List YamlDoc) × (all ≡ docs ++ rest) × DocsFrom last rest (line ∷ lines)
 mark_back None docs all line lines rest none is are = (rest, is, are)
 mark_back (Some doc) docs all line lines rest none is are = (
@@ -645,7 +649,7 @@ next_back number line reading next all lines sound more is leads =
     let found = when_ok (is_utf8 line) (At number rule.Utf8) (with_any_line number line (flow_in reading.last) reading) next is in
     any_line_back number line (flow_in reading.last) reading next all lines sound refl found.0 (λ none. not_first (is_end line) (is_utf8 line) (is_none (flow_in reading.last)) more found.0 none) found.1 leads
 
-closed_file_back : (count : ℕ) (given : Option FlowList) (last : Option OpenDoc) (reading : Reading) (file : YamlFile) (lines : Lines) → flow_in last ≡ given → AreDocumentsOf lines [] → closed count given last reading ≡ Ok file
+closed_file_back : (count : ℕ) (given : Option FlowList) (last : Option OpenDoc) (reading : Reading) (file : YamlFile) (lines : Lines) → flow_in last ≡ given → DocumentsOf lines [] → closed count given last reading ≡ Ok file
     → (rest : List YamlDoc) × (file.docs ≡ reading.docs ++ rest) × DocsFrom last rest lines
 closed_file_back count (Some given) last reading file lines flow are is = absurd (cc)
 closed_file_back count None None reading file lines flow are is = absurd (cc)
@@ -655,11 +659,11 @@ closed_file_back count None (Some doc) reading file lines flow are is = (
   (lines, whole_events doc.body, [], refl, whole_back doc.body lines flow, are),
 )
 
-end_back : (count : ℕ) (reading : Reading) (file : YamlFile) (lines : Lines) → AreDocumentsOf lines [] → finished count reading ≡ Ok file → ReadingLeads file.docs lines reading
+end_back : (count : ℕ) (reading : Reading) (file : YamlFile) (lines : Lines) → DocumentsOf lines [] → finished count reading ≡ Ok file → ReadingLeads file.docs lines reading
 unfolding finished
 end_back count reading file lines are is = closed_file_back count (flow_in reading.last) reading.last reading file lines refl are is
 
-ends_so : (line : List ℕ) (reading : Reading) (lines : Lines) → ends line reading ≡ true → AreDocumentsOf (line ∷ lines) []
+ends_so : (line : List ℕ) (reading : Reading) (lines : Lines) → ends line reading ≡ true → DocumentsOf (line ∷ lines) []
 unfolding ends
 ends_so line reading lines is =
     let first : (is_end line && is_utf8 line) ≡ true = both_true (is_end line && is_utf8 line) (is_none (flow_in reading.last)) is in
@@ -674,8 +678,46 @@ read_on_back (line ∷ lines) count reading file sound is =
     let step = bind_ok (with_next (count + 1) line reading) (λ reading. read_on (count + 1) reading lines) file e in
     next_back (count + 1) line reading step.0 file.docs lines sound more step.1 (read_on_back lines (count + 1) step.0 file (next_ok (count + 1) line reading step.0 sound step.1) step.2))
 
+-- a file has a document at least
+
+some_end : (docs : List YamlDoc) (doc : YamlDoc) → 1 ≤ length (docs ++ doc ∷ [])
+some_end [] doc = omega arith
+some_end (first ∷ docs) doc = omega arith
+
+closed_some : (count : ℕ) (given : Option FlowList) (last : Option OpenDoc) (reading : Reading) (file : YamlFile) → closed count given last reading ≡ Ok file → 1 ≤ length file.docs
+closed_some count (Some given) last reading file is = absurd (cc)
+closed_some count None None reading file is = absurd (cc)
+closed_some count None (Some doc) reading file is =
+    subst (λ (file : YamlFile). 1 ≤ length file.docs) (ok_same (record { docs = docs_with reading.docs (Some doc) }) file is) (some_end reading.docs (record { tag = doc.tag; events = whole_events doc.body }))
+
+finished_some : (count : ℕ) (reading : Reading) (file : YamlFile) → finished count reading ≡ Ok file → 1 ≤ length file.docs
+unfolding finished
+finished_some count reading file is = closed_some count (flow_in reading.last) reading.last reading file is
+
+read_some : (lines : Lines) (count : ℕ) (reading : Reading) (file : YamlFile) → read_on count reading lines ≡ Ok file → 1 ≤ length file.docs
+read_some [] count reading file is = finished_some count reading file is
+read_some (line ∷ lines) count reading file is =
+    by_test (ends line reading) (finished (count + 1) reading) (with_next (count + 1) line reading >>= λ reading. read_on (count + 1) reading lines) (Ok file) is
+    (λ _ e. finished_some (count + 1) reading file e)
+    (λ _ e.
+    let step = bind_ok (with_next (count + 1) line reading) (λ reading. read_on (count + 1) reading lines) file e in
+    read_some lines (count + 1) step.0 file step.2)
+
+some_documents : (docs : List YamlDoc) (documents : List Document) → docs ≡ map doc_of documents → 1 ≤ length docs → 1 ≤ length documents
+some_documents docs [] is some = absurd (none (subst (λ (docs : List YamlDoc). 1 ≤ length docs) is some))
+  where
+    none : 1 ≤ length {A = YamlDoc} [] → ⊥
+    none some = omega arith
+some_documents docs (first ∷ documents) is some = omega arith
+
+documents_grammar : (text : List ℕ) (file : YamlFile) → file_of text ≡ Ok file → DocumentsOf (lines_of text) file.docs
+unfolding file_of
+documents_grammar text file is =
+    let on = read_on_back (lines_of text) 0 (record { docs = []; last = None }) file (record { docs = tt; last = tt }) is in
+    subst (DocumentsOf (lines_of text)) (sym on.1) on.2
+
 pub file_grammar : (text : List ℕ) (file : YamlFile) → file_of text ≡ Ok file → AreDocumentsOf (lines_of text) file.docs
 unfolding file_of
 file_grammar text file is =
-    let on = read_on_back (lines_of text) 0 (record { docs = []; last = None }) file (record { docs = tt; last = tt }) is in
-    subst (AreDocumentsOf (lines_of text)) (sym on.1) on.2
+    let found = documents_grammar text file is in
+    (found.0, record { are = found.1; some = some_documents file.docs found.0 found.2 (read_some (lines_of text) 0 (record { docs = []; last = None }) file is) }, found.2)

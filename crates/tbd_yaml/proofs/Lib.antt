@@ -7,3 +7,4 @@ pub mod ReadLemmas
 pub mod TreeLemmas
 pub mod SoundLemmas
 pub mod GrammarLemmas
+pub mod ConverseLemmas

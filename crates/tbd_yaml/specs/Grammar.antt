@@ -1,6 +1,6 @@
 -- The grammar of a text (YAML 1.2, chapters 7 to 9), as relations between its lines and its documents. Each reads
 -- lines, and the text that is left of a line before them, and leaves the lines that follow.
-use Rattle.std.specs.Prelude.{ℕ, ◌≡◌, ◌+◌, ◌==◌, ◌&&◌, ◌||◌, nat_lt, Bool, true, false, List, [], ◌∷◌, ◌++◌, drop, map as each, Option, Some, None, Ok}
+use Rattle.std.specs.Prelude.{ℕ, ◌≡◌, ◌≤◌, ◌+◌, ◌==◌, ◌&&◌, ◌||◌, nat_lt, Bool, true, false, List, [], ◌∷◌, ◌++◌, length, drop, map as each, Option, Some, None, Ok}
 use Rattle.std.specs.Str.{is_utf8}
 use Rattle.tbd_yaml.specs.declared.file.YamlDoc.{YamlDoc}
 use Rattle.tbd_yaml.specs.declared.token.Token.{Token}
@@ -110,6 +110,11 @@ pub data AreDocuments : List (List ℕ) → List Document → Type 0 where
 abbrev pub doc_of : Document → YamlDoc
 doc_of document = record { tag = document.tag; events = events_of document.body }
 
+-- the lines of a text have these documents, and so one at least
+pub record HasDocuments (lines : List (List ℕ)) (documents : List Document) : Type 0 where
+  pub are : AreDocuments lines documents
+  pub some : 1 ≤ length documents
+
 -- the documents of some lines are these
 abbrev pub AreDocumentsOf : List (List ℕ) → List YamlDoc → Type 0
-AreDocumentsOf lines docs = (documents : List Document) × AreDocuments lines documents × (docs ≡ each doc_of documents)
+AreDocumentsOf lines docs = (documents : List Document) × HasDocuments lines documents × (docs ≡ each doc_of documents)

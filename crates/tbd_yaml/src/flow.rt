@@ -1,6 +1,6 @@
 //! Flow lists.
 
-ghost use Rattle.std.specs.Prelude.{◌≡◌, ◌+◌, ◌^◌, ◌==◌, ◌&&◌, ◌||◌, nat_lt, ◌<◌, ◌≤◌, true, false, IfOk, IfSome, drop, length, slice_index};
+ghost use Rattle.std.specs.Prelude.{◌≡◌, ◌+◌, ◌^◌, ◌==◌, ◌&&◌, ◌||◌, nat_lt, ◌<◌, ◌≤◌, true, false, IfOk, IfSome, drop, length, slice_index, Ok, Err, if◌then◌else◌};
 ghost use Rattle.std.specs.Option.{option_map};
 ghost use Rattle.mo_types.specs.Gives.{Gives};
 ghost use Rattle.tbd_yaml.specs.File.{IsYamlFault};
@@ -161,60 +161,75 @@ fn next_token(
     Ok(Some(lexed(alloc, line, place, byte)?))
 }
 
+// The fault of a token that doesn't belong where it stands.
+fn flow_fault(place: FlowPlace) -> YamlFault
+    ensures { result ≡ YamlFault.At place.opened Rule.Flow }
+{
+    YamlFault::At {
+        line: place.opened,
+        rule: Rule::Flow,
+    }
+}
+
+// The fault of a quoted scalar without its end.
+fn unclosed_fault(place: FlowPlace, wants: bool) -> YamlFault
+    ensures { result ≡ (if wants then YamlFault.At place.line Rule.Quote else YamlFault.At place.opened Rule.Flow) }
+{
+    if wants {
+        YamlFault::At {
+            line: place.line,
+            rule: Rule::Quote,
+        }
+    } else {
+        flow_fault(place)
+    }
+}
+
+// The list with the scalar that it wants.
+fn filled(place: FlowPlace, state: FlowState) -> Result<FlowState, YamlFault>
+    ensures { result ≡ (if state.wants then Ok (record state { wants = false }) else Err (YamlFault.At place.opened Rule.Flow)) }
+{
+    if !state.wants {
+        return Err(flow_fault(place));
+    }
+    let mut state = state;
+    state.wants = false;
+    Ok(state)
+}
+
 fn with_token(place: FlowPlace, token: Token, state: FlowState) -> Result<FlowState, YamlFault>
     ensures { Gives IsYamlFault result (flow.with_token place token state) }
 {
     let mut state = state;
-    let flow_fault = YamlFault::At {
-        line: place.opened,
-        rule: Rule::Flow,
-    };
     match token {
+        Token::Colon => return Err(flow_fault(place)),
         Token::Comma => {
             if state.wants {
-                return Err(flow_fault);
+                return Err(flow_fault(place));
             }
             state.wants = true;
-            return Ok(state);
         }
         Token::Close(ended) => {
             if !ended {
-                return Err(flow_fault);
+                return Err(flow_fault(place));
             }
             state.events.push(YamlEvent::End)?;
             state.closed = true;
-            return Ok(state);
-        }
-        Token::Colon => return Err(flow_fault),
-        Token::Unclosed => {
-            if state.wants {
-                return Err(YamlFault::At {
-                    line: place.line,
-                    rule: Rule::Quote,
-                });
-            }
-            return Err(flow_fault);
         }
         Token::Scalar(text) => {
-            if !state.wants {
-                return Err(flow_fault);
-            }
+            state = filled(place, state)?;
             state.events.push(YamlEvent::Scalar(text))?;
         }
         Token::Escaped => {
-            if !state.wants {
-                return Err(flow_fault);
-            }
+            state = filled(place, state)?;
             state.escaped = true;
         }
         Token::Forbidden => {
-            if !state.wants {
-                return Err(flow_fault);
-            }
+            state = filled(place, state)?;
             state.spoiled = true;
         }
+        Token::Unclosed => return Err(unclosed_fault(place, state.wants)),
     }
-    state.wants = false;
     Ok(state)
 }
 

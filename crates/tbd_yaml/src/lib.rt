@@ -26,6 +26,8 @@ mod units;
 pub use fault::YamlFault;
 pub use file::{DocList, EventList, YamlDoc, YamlEvent, YamlFile};
 pub use laws::{
-    a_walk_is_through_one_tree, each_document_is_a_tree, what_is_read_is_in_the_grammar,
+    a_text_has_one_list_of_trees, a_walk_is_through_one_tree, each_document_is_a_tree,
+    what_is_in_the_grammar_is_read, what_is_read_is_in_the_grammar,
+    what_is_refused_is_not_in_the_grammar,
 };
 pub use read::read_yaml;

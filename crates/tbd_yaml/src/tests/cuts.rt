@@ -14,6 +14,9 @@ const TEXT: &str = "\
                            '_c', ]~  \
       - targets: [ arm64-macos ]~    \
         weak-symbols: []~\
+    reexports: # nothing~\
+    - targets: [ arm64-macos ]~  \
+      symbols: [ ]~\
     ...~\
     anything: [~\
 ";
@@ -58,8 +61,18 @@ const CUTS: &str = "\
     318 0 read\n\
     319 11 flow\n\
     321 0 read\n\
-    323 12 key\n\
-    337 0 read\n\
+    330 12 key\n\
+    342 0 read\n\
+    344 13 key\n\
+    353 0 read\n\
+    367 13 flow\n\
+    371 0 read\n\
+    378 14 key\n\
+    380 0 read\n\
+    382 14 flow\n\
+    384 0 read\n\
+    386 15 key\n\
+    400 0 read\n\
 ";
 
 fn is_so(read: Result<YamlFile, YamlFault>, number: u32, name: &str) -> bool {

@@ -50,12 +50,12 @@ fn is_walk(alloc: Global, text: &'static [u8], walk: &[u8]) -> bool {
 
 // A text of so many keys within each other, each more indented than the one around it.
 fn nested(alloc: Global, levels: usize) -> Result<Bytes, YamlFault> {
-    let mut text = Vec::new(alloc);
+    let mut indent = Vec::new(alloc);
+    indent.resize(levels, b' ')?;
+    let mut text = Vec::with_capacity(alloc, 1 << 30)?;
     text.extend_from_slice(b"---\n")?;
     for level in 0..levels {
-        for _ in 0..level {
-            text.push(b' ')?;
-        }
+        text.extend_from_slice(&indent[..level])?;
         text.extend_from_slice(b"a:\n")?;
     }
     Ok(Bytes::from_vec(text)?)
@@ -101,6 +101,6 @@ fn open_flow_list_and_sdk_hello(rt: HostRuntime) {
             })
         )
     );
-    assert!(rt; steps_of(alloc, nested(alloc, 3_000)) == 9_001);
+    assert!(rt; steps_of(alloc, nested(alloc, 46_000)) == 138_001);
     assert!(rt; steps_of(alloc, listed(alloc, 5_000)) == 20_002);
 }
