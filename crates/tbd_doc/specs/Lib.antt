@@ -1,1 +1,5 @@
+pub mod inner
+pub mod Nodes
+pub mod Forms
+pub mod Exports
 pub mod Stubs

@@ -1,13 +1,24 @@
--- What a stub library is.
-use Rattle.std.specs.Prelude.{ℕ, List, All}
+-- What documents say as a stub library (TBD v4), and the first document at fault.
+use Rattle.std.specs.Prelude.{ℕ, ◌+◌, ◌==◌, ◌&&◌, Bool, false, List, [], ◌∷◌, codes, unwrap_or, All, Option, Some, None, Result, Ok, Err, if◌then◌else◌}
+use Rattle.std.specs.List.{flat_map, AllByRecursion}
 use Rattle.std.specs.List.Sorted.{IsStrictlySortedBy}
+use Rattle.std.specs.Option.{option_and_then}
 use Rattle.std.specs.Ordering.{nat_cmp, on}
 use Rattle.std.specs.Cmp.Lexicographic.{slice_cmp}
+use Rattle.std.specs.Str.{bytes_eq}
+use Rattle.mo_cmd.specs.Numbers.{version_of}
+use Rattle.mo_types.specs.Gives.{◌>>=◌}
+use Rattle.tbd_yaml.specs.Tree.{Tree, HasTree}
+use Rattle.tbd_yaml.specs.declared.file.YamlDoc.{YamlDoc}
+use Rattle.tbd_yaml.specs.declared.file.YamlFile.{YamlFile}
 use Rattle.tbd_doc.specs.declared.fault.StubFault.{StubFault}
 use Rattle.tbd_doc.specs.declared.fault.StubFault.TheVariants.{NotTbd4, NoTarget, BadKey, OutOfMemory}
 use Rattle.tbd_doc.specs.declared.stub.Export.{Export}
 use Rattle.tbd_doc.specs.declared.stub.Stub.{Stub}
 use Rattle.tbd_doc.specs.declared.stub.StubFile.{StubFile}
+use Rattle.tbd_doc.specs.Nodes.{Field, fields_of, value_of, text_of, texts_under, tree_of}
+use Rattle.tbd_doc.specs.Forms.{is_well_formed, has_text}
+use Rattle.tbd_doc.specs.Exports.{counted, exporting, exported_names, weak_names, exports_of}
 
 -- a fault that documents may have
 abbrev pub IsStubFault : StubFault → Type 0
@@ -26,3 +37,68 @@ IsWholeStub stub = AreInOrder stub.exports
 -- a stub library whose documents each have their exports in order
 abbrev pub IsWhole : StubFile → Type 0
 IsWhole file = All IsWholeStub file.docs
+
+-- the text under a key, where it is a scalar
+unfoldable pub text_under : List ℕ → List Field → Option (List ℕ)
+text_under key fields = option_and_then text_of (value_of key fields)
+
+abbrev pub version_in : Option (List ℕ) → Option ℕ
+version_in None = Some 65536
+version_in (Some text) = version_of text
+
+-- the version under a key, in 16, 8 and 8 bits; where there is none, it is 1
+unfoldable pub version_under : List ℕ → List Field → ℕ
+version_under key fields = unwrap_or (version_in (text_under key fields)) 0
+
+abbrev pub is_text : Option (List ℕ) → List ℕ → Bool
+is_text None text = false
+is_text (Some found) text = bytes_eq found text
+
+-- a document of TBD version 4
+unfoldable pub is_tbd4 : List ℕ → List Field → Bool
+is_tbd4 tag fields = bytes_eq tag (codes "!tapi-tbd") && is_text (text_under (codes "tbd-version") fields) (codes "4")
+
+-- the target that a document is for: arm64 before arm64e
+unfoldable pub target_of : List Field → Option (List ℕ)
+target_of fields =
+    if has_text (codes "targets") fields (codes "arm64-macos") then Some (codes "arm64-macos")
+    else if has_text (codes "targets") fields (codes "arm64e-macos") then Some (codes "arm64e-macos")
+    else None
+
+-- what a document says for a target
+unfoldable pub stub_of : List ℕ → List Field → Stub
+stub_of target fields = record {
+  install = unwrap_or (text_under (codes "install-name") fields) [];
+  current = version_under (codes "current-version") fields;
+  compatible = version_under (codes "compatibility-version") fields;
+  reexports = flat_map (λ item. texts_under (value_of (codes "libraries") item)) (counted target (codes "reexported-libraries") fields);
+  exports = exports_of (flat_map exported_names (exporting target fields)) (flat_map weak_names (exporting target fields));
+}
+
+-- Of a document by its number what it says for its target, nothing where it is passed over, or its fault: the first
+-- document has to have a target.
+abbrev pub stub_for : ℕ → List Field → Option (List ℕ) → Result (Option Stub) StubFault
+stub_for doc fields None = if doc == 0 then Err NoTarget else Ok None
+stub_for doc fields (Some target) = if is_well_formed fields then Ok (Some (stub_of target fields)) else Err (BadKey doc)
+
+unfoldable pub stub_at : ℕ → List ℕ → List Field → Result (Option Stub) StubFault
+stub_at doc tag fields = if is_tbd4 tag fields then stub_for doc fields (target_of fields) else Err NotTbd4
+
+abbrev pub with_stub : Option Stub → List Stub → List Stub
+with_stub None stubs = stubs
+with_stub (Some stub) stubs = stub ∷ stubs
+
+-- the stubs of documents from a number on, or the fault of the first document that has one
+abbrev pub stubs_from : ℕ → List YamlDoc → Result (List Stub) StubFault
+stubs_from number [] = Ok []
+stubs_from number (doc ∷ docs) =
+    stub_at number doc.tag (fields_of (tree_of doc.events)) >>= λ stub.
+    stubs_from (number + 1) docs >>= λ stubs. Ok (with_stub stub stubs)
+
+-- the stub library that documents are, or the fault of the first document that has one
+unfoldable pub stub_file_of : YamlFile → Result StubFile StubFault
+stub_file_of file = stubs_from 0 file.docs >>= λ stubs. Ok (record { docs = stubs })
+
+-- each document is a tree
+abbrev pub HaveTrees : YamlFile → Type 0
+HaveTrees file = AllByRecursion HasTree file.docs

@@ -2,6 +2,8 @@
 #![tactic(auto)]
 
 mod fault;
+mod forms;
+mod nodes;
 mod stub;
 
 pub use fault::StubFault;

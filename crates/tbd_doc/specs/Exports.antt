@@ -1,0 +1,64 @@
+-- The names that a document exports (TBD v4), and their order.
+use Rattle.std.specs.Prelude.{ℕ, ◌≡◌, ◌++◌, Bool, not, List, [], ◌∷◌, map, filter, codes, nat_eq, Option, Some, None}
+use Rattle.std.specs.List.{list_any, starts_with, flat_map}
+use Rattle.std.specs.Str.{bytes_eq}
+use Rattle.std.specs.Ordering.{nat_cmp, match_ordering}
+use Rattle.std.specs.Cmp.Lexicographic.{slice_cmp}
+use Rattle.tbd_yaml.specs.Tree.{Tree}
+use Rattle.tbd_doc.specs.declared.stub.Export.{Export}
+use Rattle.tbd_doc.specs.Nodes.{Field, items_of, fields_of, value_of, texts_under}
+use Rattle.tbd_doc.specs.Forms.{has_text}
+
+-- a name that is no directive to the linker (ld(1)'s `$ld$` symbols)
+abbrev pub is_symbol : List ℕ → Bool
+is_symbol name = not (starts_with nat_eq name (codes "$ld$"))
+
+-- the symbols that a list under a key names
+unfoldable pub symbols_under : List ℕ → List Field → List (List ℕ)
+symbols_under key fields = filter is_symbol (texts_under (value_of key fields))
+
+-- the symbols of the classes, types or variables that a list under a key names
+unfoldable pub prefixed_under : List ℕ → List ℕ → List Field → List (List ℕ)
+prefixed_under prefix key fields = map (λ name. prefix ++ name) (texts_under (value_of key fields))
+
+-- what an item exports weakly, and all that it exports
+abbrev pub weak_names : List Field → List (List ℕ)
+weak_names fields = symbols_under (codes "weak-symbols") fields
+
+unfoldable pub exported_names : List Field → List (List ℕ)
+exported_names fields =
+    symbols_under (codes "symbols") fields ++ symbols_under (codes "weak-symbols") fields
+    ++ symbols_under (codes "thread-local-symbols") fields
+    ++ prefixed_under (codes "_OBJC_CLASS_$_") (codes "objc-classes") fields
+    ++ prefixed_under (codes "_OBJC_METACLASS_$_") (codes "objc-classes") fields
+    ++ prefixed_under (codes "_OBJC_EHTYPE_$_") (codes "objc-eh-types") fields
+    ++ prefixed_under (codes "_OBJC_IVAR_$_") (codes "objc-ivars") fields
+
+-- the fields of the items under a key that count for a target
+abbrev pub counts : List ℕ → List Field → Bool
+counts target fields = has_text (codes "targets") fields target
+
+abbrev pub items_under : Option Tree → List (List Field)
+items_under None = []
+items_under (Some node) = map fields_of (items_of node)
+
+unfoldable pub counted : List ℕ → List ℕ → List Field → List (List Field)
+counted target key fields = filter (counts target) (items_under (value_of key fields))
+
+abbrev pub exporting : List ℕ → List Field → List (List Field)
+exporting target fields = counted target (codes "exports") fields ++ counted target (codes "reexports") fields
+
+-- a name among names that stand in order, each once
+abbrev pub with_name : List ℕ → List (List ℕ) → List (List ℕ)
+with_name name [] = name ∷ []
+with_name name (other ∷ others) =
+    match_ordering (slice_cmp nat_cmp name other) (name ∷ other ∷ others) (other ∷ others) (other ∷ with_name name others)
+
+-- the names in order, each once
+abbrev pub in_order : List (List ℕ) → List (List ℕ)
+in_order [] = []
+in_order (name ∷ names) = with_name name (in_order names)
+
+-- the exports of some names, weak where the name is among the weak ones
+unfoldable pub exports_of : List (List ℕ) → List (List ℕ) → List Export
+exports_of names weak = map (λ name. record { name = name; weak = list_any (bytes_eq name) weak }) (in_order names)
