@@ -1,5 +1,5 @@
 -- Fields that were written one after the other are read at their places.
-use Rattle.std.proofs.Common.{◌≡◌, ℕ, ◌+◌, ◌^◌, ◌<◌, List, [], ◌∷◌, ◌++◌, length, refl, sym, ap, append_assoc, length-append, subst}
+use Rattle.std.proofs.Common.{◌≡◌, ℕ, ◌+◌, ◌^◌, ◌<◌, List, [], ◌∷◌, ◌++◌, length, refl, sym, ap, append_assoc, append-nil, length-append, subst, ◌∙◌}
 use Rattle.std.proofs.Math.Seq.{drop-append_seam, take-append_seam}
 use Rattle.mo_bytes.specs.Number.{number}
 use Rattle.mo_bytes.proofs.Numbers.{length-number_bytes, number-number_bytes}
@@ -49,3 +49,12 @@ all_read (f ∷ fs) passed front mid rest fit e =
       subst (λ (bytes : List ℕ). ReadsAs bytes (length front + passed) f) first (read_after (front ++ mid) (spelled fs ++ rest) f (length front + passed) fit.0 here),
       subst (λ (bytes : List ℕ). AllRead bytes (length front) (passed + width_of f) fs) others (all_read fs (passed + width_of f) front (mid ++ field_bytes f) rest fit.1 passed_on),
     )
+
+-- bytes behind which the fields were put, one after the other
+abbrev pub put_behind : List ℕ → List Field → List ℕ
+put_behind out [] = out
+put_behind out (f ∷ fs) = put_behind (out ++ field_bytes f) fs
+
+pub put_spelled : (out : List ℕ) (fs : List Field) → put_behind out fs ≡ out ++ spelled fs
+put_spelled out [] = sym (append-nil out)
+put_spelled out (f ∷ fs) = put_spelled (out ++ field_bytes f) fs ∙ append_assoc out (field_bytes f) (spelled fs)

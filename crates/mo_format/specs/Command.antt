@@ -1,10 +1,11 @@
 -- The other load commands of an image.
 use Rattle.std.specs.Prelude.{ℕ, ◌+◌, List, [], ◌∷◌}
 use Rattle.mo_bytes.specs.Number.{number}
-use Rattle.mo_format.specs.Fields.{Field, Number, spelled}
+use Rattle.mo_format.specs.Fields.{Field, Number, Name, name_at, spelled}
 use Rattle.mo_format.specs.declared.command.DylinkerCommand.{DylinkerCommand}
 use Rattle.mo_format.specs.declared.command.BuildVersionCommand.{BuildVersionCommand}
 use Rattle.mo_format.specs.declared.command.EntryPointCommand.{EntryPointCommand}
+use Rattle.mo_format.specs.declared.command.UuidCommand.{UuidCommand}
 
 -- loader.h: dylinker_command, 12 bytes
 abbrev pub dylinker_command_at : List ℕ → ℕ → DylinkerCommand
@@ -67,3 +68,21 @@ entry_point_command_fields s =
 
 abbrev pub entry_point_command_bytes : EntryPointCommand → List ℕ
 entry_point_command_bytes s = spelled (entry_point_command_fields s)
+
+-- loader.h: uuid_command, 24 bytes
+abbrev pub uuid_command_at : List ℕ → ℕ → UuidCommand
+uuid_command_at bytes at = record {
+  cmd = number 4 bytes at;
+  cmdsize = number 4 bytes (at + 4);
+  uuid = name_at bytes (at + 8);
+}
+
+abbrev pub uuid_command_fields : UuidCommand → List Field
+uuid_command_fields s =
+    Number 4 s.cmd
+    ∷ Number 4 s.cmdsize
+    ∷ Name s.uuid
+    ∷ []
+
+abbrev pub uuid_command_bytes : UuidCommand → List ℕ
+uuid_command_bytes s = spelled (uuid_command_fields s)

@@ -1,8 +1,8 @@
 ghost use Rattle.std.specs.Prelude.{◌≡◌, ◌+◌, ◌≤◌, ◌++◌, length, OnOk, OnErr};
 ghost use Rattle.mo_format.specs.Fields.{ReadsBack};
-ghost use Rattle.mo_format.specs.Command.{dylinker_command_at, dylinker_command_bytes, build_version_command_at, build_version_command_bytes, entry_point_command_at, entry_point_command_bytes};
+ghost use Rattle.mo_format.specs.Command.{dylinker_command_at, dylinker_command_bytes, build_version_command_at, build_version_command_bytes, entry_point_command_at, entry_point_command_bytes, uuid_command_at, uuid_command_bytes};
 
-use crate::fields::{put_u32, put_u64, u32_at, u64_at};
+use crate::fields::{name_at, put_name, put_u32, put_u64, u32_at, u64_at};
 use std::alloc::AllocError;
 
 /// Which loader starts the program; its path follows (`loader.h`: `dylinker_command`).
@@ -143,6 +143,48 @@ impl EntryPointCommand {
         put_u32(out, self.cmdsize);
         put_u64(out, self.entryoff);
         put_u64(out, self.stacksize);
+        Ok(())
+    }
+}
+
+/// What tells an image from all others (`loader.h`: `uuid_command`).
+#[derive(Clone, Copy, Debug, PartialEq, Eq)]
+pub struct UuidCommand {
+    /// `LC_UUID`, 0x1b.
+    pub cmd: u32,
+    /// In bytes: 24.
+    pub cmdsize: u32,
+    /// The 16 bytes of a UUID (RFC 9562).
+    pub uuid: [u8; 16],
+}
+
+impl UuidCommand {
+    /// How many bytes it has in a file.
+    pub const SIZE: usize = 24;
+
+    /// Reads the command whose first byte stands at the offset `at`.
+    pub fn read(bytes: &[u8], at: usize) -> UuidCommand
+        requires { at + Self.SIZE ≤ length bytes.now }
+        ensures { result ≡ uuid_command_at bytes.now at }
+    {
+        UuidCommand {
+            cmd: u32_at(bytes, at),
+            cmdsize: u32_at(bytes, at + 4),
+            uuid: name_at(bytes, at + 8),
+        }
+    }
+
+    /// Appends the bytes of the command, or leaves `out` as it was.
+    pub fn write(self, out: &mut Vec<u8>) -> Result<(), AllocError>
+        ensures ok { OnOk result (out.new.items ≡ out.old.items ++ uuid_command_bytes self) }
+        ensures size { OnOk result (length out.new.items ≡ length out.old.items + Self.SIZE) }
+        ensures read_back { OnOk result (ReadsBack uuid_command_at out.old.items out.new.items self) }
+        ensures err { OnErr result (out.new.items ≡ out.old.items) }
+    {
+        out.reserve(Self::SIZE)?;
+        put_u32(out, self.cmd);
+        put_u32(out, self.cmdsize);
+        put_name(out, &self.uuid);
         Ok(())
     }
 }
