@@ -3,7 +3,8 @@
 ghost use Rattle.std.specs.Prelude.{◌≡◌, ◌+◌, ◌<◌, ◌≤◌, ◌^◌, [], length, take, drop, ◌≢◌, vec_len, false, true, None, IfErr, IfOk, IfSome, IsErrOf, IsUtf8, OnOk, OnErr};
 ghost use Rattle.std.specs.Io.KnownBytes.{Consumes, IsAtEnd};
 ghost use Rattle.std.specs.IoError.{error_kind};
-ghost use Rattle.atomld.specs.Faults.{counted, is_unread};
+ghost use Rattle.atomld.specs.Faults.{DiskFetch, counted, is_unread};
+ghost use Rattle.mo_outside.specs.Answers.{answer_of};
 ghost use Rattle.mo_outside.specs.Faults.{Rises};
 ghost use Rattle.mo_outside.specs.Files.{fetch_limit};
 
@@ -161,12 +162,14 @@ impl<R: rt::Files> Files for DiskFiles<R> {
 
     ghost asked = { λ _. None };
 
+    ghost answers = { λ old path answer new. DiskFetch path answer old.faults new.faults };
+
     ghost faults = { λ files. files.faults };
 
     /// Reads the file of the path, which is text. A file that is longer than 2^30 bytes isn't read on.
     fn fetch(&mut self, _alloc: Global, path: &[u8], into: &mut Vec<u8>) -> Result<bool, FetchFault>
         requires { into.old.items ≡ [] }
-        ensures counts { self.new.faults ≡ counted (is_unread result) self.old.faults }
+        ensures counts { self.new.faults ≡ counted (is_unread (answer_of result into.new.items)) self.old.faults }
         ensures faults { self.old.faults ≤ self.new.faults }
         ensures still { OnOk result (self.new.faults ≡ self.old.faults) }
         ensures refused { IsErrOf result FetchFault.Memory → self.new.faults ≡ self.old.faults }

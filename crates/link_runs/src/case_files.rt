@@ -1,4 +1,4 @@
-ghost use Rattle.std.specs.Prelude.{◌≡◌, None};
+ghost use Rattle.std.specs.Prelude.{◌≡◌, ⊤, None};
 
 use mo_outside::{FetchFault, Files};
 use std::alloc::Global;
@@ -73,6 +73,8 @@ impl<R: rt::Files + AllocGlobal> Files for CaseFiles<'_, R> {
     ghost holds = { λ _. None };
 
     ghost asked = { λ _. None };
+
+    ghost answers = { λ _ _ _ _. ⊤ };
 
     ghost faults = { λ files. files.faults };
 

@@ -1,7 +1,8 @@
 -- What contracts see of the objects in memory. A room is a count of bytes that was taken at the start.
-use Rattle.std.specs.Prelude.{◌≡◌, ◌≢◌, ℕ, List, All, Option, None, Some}
+use Rattle.std.specs.Prelude.{◌≡◌, ◌≢◌, ◌↔◌, IsTrue, ℕ, List, All, Option, None, Some}
 use Rattle.std.specs.FinMap.{from_entries}
-use Rattle.mo_outside.specs.Calls.{Calls}
+use Rattle.mo_outside.specs.Answers.{Answer, IsAnswer, Unread}
+use Rattle.mo_outside.specs.Calls.{Calls, counted, is_failing}
 use Rattle.mo_outside.specs.Files.{FileMap, file_at}
 use Rattle.mo_outside.specs.Written.{Written}
 
@@ -24,6 +25,19 @@ pub record MemoryFiles : Type 0 where
   pub pairs : List (List ℕ × List ℕ)
   pub asked : Option (List (List ℕ))
   pub calls : Calls
+
+-- a fetch of files that can always be read
+pub record SureFetch (path : List ℕ) (answer : Answer) (old new : SureFileSet) : Type 0 where
+  pub gives : IsAnswer (files_of old.pairs) path answer
+  pub read : answer ≢ Unread
+  pub pairs : new.pairs ≡ old.pairs
+
+-- a fetch of files where some calls are to fail
+pub record MemoryFetch (path : List ℕ) (answer : Answer) (old new : MemoryFiles) : Type 0 where
+  pub gives : IsAnswer (files_of old.pairs) path answer
+  pub failed : answer ≡ Unread ↔ IsTrue (is_failing old.calls)
+  pub pairs : new.pairs ≡ old.pairs
+  pub calls : new.calls ≡ counted (is_failing old.calls) old.calls
 
 -- an output with room for paths and contents, where some calls are to fail
 pub record MemoryOutput : Type 0 where

@@ -1,9 +1,10 @@
 ghost use Rattle.std.specs.Prelude.{◌≡◌, ◌↔◌, IsErrOf, IsTrue, OnOk, OnErr, ◌≢◌, ◌≤◌, ◌^◌, [], AllPairs, IfOk, IfErr, length, if◌then◌else◌, Some, false};
 ghost use Rattle.std.specs.Option.{option_copied};
+ghost use Rattle.mo_outside.specs.Answers.{IsAnswer, answer_of};
 ghost use Rattle.mo_outside.specs.Calls.{is_failing, counted};
 ghost use Rattle.mo_outside.specs.Files.{Fetches, file_at, fetched};
 ghost use Rattle.mo_outside.specs.Log.{Logs};
-ghost use Rattle.mo_outside.specs.Memory.{files_of, IsFilesOf};
+ghost use Rattle.mo_outside.specs.Memory.{files_of, IsFilesOf, MemoryFetch, SureFetch};
 ghost use Rattle.mo_outside.specs.Tells.{Tells};
 
 use crate::asked::AskedPaths;
@@ -36,6 +37,7 @@ fn find<'a>(pairs: &'a [(Bytes, Bytes)], path: &[u8]) -> Option<&'a [u8]>
 fn fetch_from(pairs: &[(Bytes, Bytes)], path: &[u8], into: &mut Vec<u8>) -> Result<bool, FetchFault>
     requires { into.old.items ≡ [] }
     ensures answer { IfOk result (λ there. fetched (files_of pairs.now) path.now ≡ (if there then Some into.new.items else None)) }
+    ensures gives { IsAnswer (files_of pairs.now) path.now (answer_of result into.new.items) }
     ensures absent { result ≡ Ok false → into.new.items ≡ [] }
     ensures size { length into.new.items ≤ 2 ^ 30 }
     ensures err { IfErr result (λ fault. (fault ≡ FetchFault.Memory) × (into.new.items ≡ [])) }
@@ -83,6 +85,8 @@ impl Files for SureFiles {
     ghost holds = { λ files. Some (files_of files.pairs) };
 
     ghost asked = { λ files. files.asked };
+
+    ghost answers = { λ old path answer new. SureFetch path answer old new };
 
     ghost faults = { λ _. 0 };
 
@@ -140,6 +144,8 @@ impl Files for MemFiles {
     ghost holds = { λ files. Some (files_of files.pairs) };
 
     ghost asked = { λ files. files.asked };
+
+    ghost answers = { λ old path answer new. MemoryFetch path answer old new };
 
     ghost faults = { λ files. files.calls.faults };
 

@@ -1,4 +1,5 @@
 ghost use Rattle.std.specs.Prelude.{◌≡◌, ◌≤◌, ◌<◌, ◌^◌, ℕ, List, [], length, Option, OnOk, OnErr, IfOk, IsErrOf, false};
+ghost use Rattle.mo_outside.specs.Answers.{Answer, answer_of};
 ghost use Rattle.mo_outside.specs.Log.{Logs, OutCall, Begin, Write, Cut, Finish};
 ghost use Rattle.mo_outside.specs.Faults.{Rises};
 ghost use Rattle.mo_outside.specs.Files.{FileMap, Fetches};
@@ -28,6 +29,10 @@ pub trait Files {
     // the paths that were asked for, in order, where the object tells them
     ghost asked: { Self → Option (List (List ℕ)) };
 
+    // A fetch of the path from the first object was answered so, and left the second one. Of files that tell nothing
+    // else only a fetch shows it.
+    ghost answers: { Self → List ℕ → Answer → Self → Type 0 };
+
     // how many faults there were
     ghost faults: { Self → ℕ };
 
@@ -40,6 +45,7 @@ pub trait Files {
         ensures faults { faults self.old ≤ faults self.new }
         ensures still { OnOk result (faults self.new ≡ faults self.old) }
         ensures refused { IsErrOf result FetchFault.Memory → faults self.new ≡ faults self.old }
+        ensures answers { answers self.old path.now (answer_of result into.new.items) self.new }
         ensures answer { IfOk result (λ there. Fetches (holds self.old) path.now there into.new.items) }
         ensures size { length into.new.items ≤ 2 ^ 30 }
         ensures failed { IsErrOf result FetchFault.Failed → Rises (faults self.old) (faults self.new) }
