@@ -1,0 +1,14 @@
+//! The image: its parts at their places, and the atoms with their fields.
+#![tactic(auto)]
+
+mod filling;
+mod joining;
+mod laws;
+mod parts;
+#[cfg(test)]
+mod tests;
+
+pub use filling::fill;
+pub use joining::join;
+pub use laws::parts_are_one_image;
+pub use parts::{Part, PartList, Parts};

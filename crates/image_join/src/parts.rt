@@ -1,0 +1,22 @@
+use mo_types::{Bytes, Items};
+
+/// A part of an image.
+#[derive(Debug, Drop)]
+pub struct Part {
+    /// The place of its first byte in the file.
+    pub from: u64,
+    pub bytes: Bytes,
+}
+
+/// Parts in a stated order.
+pub type PartList = Items<Part>;
+
+/// The parts of an image that are whole before the atoms are placed: the header with the load commands, and what
+/// `__LINKEDIT` holds.
+#[derive(Debug, Drop)]
+pub struct Parts {
+    /// How many bytes the image has in the file.
+    pub size: u64,
+    /// The parts, by rising place.
+    pub parts: PartList,
+}
