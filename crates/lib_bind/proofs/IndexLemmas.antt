@@ -21,7 +21,7 @@ chosen false bs cs w f g is first other = other is
 module _ {K X S : Type 0} (bytes : K → List ℕ) where
   -- after a value is put at a key, each name has its value, the key's the new one
   pub put_at : (name : List ℕ) (m n : HashMap K X S) (w : Option X) → UpdatesBy (λ x y. bytes_eq (bytes x) (bytes y)) (λ k. bytes_eq name (bytes k)) m n w
-      → (other : List ℕ) → get_by (λ k. bytes_eq other (bytes k)) n ≡ (if bytes_eq name other then w else get_by (λ k. bytes_eq other (bytes k)) m)
+      → (other : List ℕ) → get_by (λ k. bytes_eq other (bytes k)) n ≡ (if bytes_eq other name then w else get_by (λ k. bytes_eq other (bytes k)) m)
   put_at name m n w h other =
-      chosen (bytes_eq name other) name other w (λ ds. get_by (λ k. bytes_eq ds (bytes k)) m) (λ ds. get_by (λ k. bytes_eq ds (bytes k)) n) refl h.1
-      (λ e. other_entries _ _ _ _ h.3 _ (λ x y. nat_list_eq_equiv.congr other (bytes x) (bytes y)) (λ k. apart name other (bytes k) e))
+      rw (nat_list_eq_equiv.symm other name) (chosen (bytes_eq name other) name other w (λ ds. get_by (λ k. bytes_eq ds (bytes k)) m) (λ ds. get_by (λ k. bytes_eq ds (bytes k)) n) refl h.1
+      (λ e. other_entries _ _ _ _ h.3 _ (λ x y. nat_list_eq_equiv.congr other (bytes x) (bytes y)) (λ k. apart name other (bytes k) e)))

@@ -32,7 +32,7 @@ impl NameIndex {
 
     /// Notes by whom a name is provided, in place of what is known of it.
     pub fn note(self, alloc: Global, name: &[u8], offer: Offer) -> Result<NameIndex, OutOfMemory>
-        ensures { IfOk result (λ new. (other : List ℕ) → known new other ≡ (if bytes_eq name.now other then Some offer else known self other)) }
+        ensures { IfOk result (λ new. (other : List ℕ) → known new other ≡ (if bytes_eq other name.now then Some offer else known self other)) }
     {
         let NameIndex { mut map } = self;
         map.insert(key_of(alloc, name)?, offer)?;

@@ -5,5 +5,5 @@ use Rattle.lib_bind.proofs.index.NameIndex.note.Goals as goal
 
 pub returns : goal.returns
 returns c = λ other.
-    subst (λ (name : List ℕ). known (record { map = c.insert.new.self }) other ≡ (if bytes_eq name other then Some c.args.offer else known c.args.self other)) c.in_ok-key_of.ensures
+    subst (λ (name : List ℕ). known (record { map = c.insert.new.self }) other ≡ (if bytes_eq other name then Some c.args.offer else known c.args.self other)) c.in_ok-key_of.ensures
     (put_at (λ k. k.items) c.in_ok-key_of.field-0.items c.args.self.map c.insert.new.self (Some c.args.offer) c.in_ok-insert.ensures.updates other)
