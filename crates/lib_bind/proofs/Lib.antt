@@ -1,3 +1,6 @@
 pub mod FillLemmas
 pub mod IndexLemmas
+pub mod LawLemmas
+pub mod ReachLemmas
 pub mod ReachedLemmas
+pub mod WholeLemmas

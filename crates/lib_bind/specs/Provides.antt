@@ -64,3 +64,13 @@ pub record IsFirst (graph : LibraryGraph) (name : List ℕ) (at : ℕ) (library 
   pub there : slice_get graph.libraries at ≡ Some library
   pub provides : Provides graph name library
   pub first : (before : ℕ) (other : Library) → before < at → slice_get graph.libraries before ≡ Some other → ¬ Provides graph name other
+
+-- A provider is the first library that provides the name: by its ordinal, which counts the libraries that the command line
+-- names, whichever document has the name.
+pub record IsProvidedBy (graph : LibraryGraph) (name : List ℕ) (provider : Provider) : Type 0 where
+  pub at : ℕ
+  pub library : Library
+  pub first : IsFirst graph name at library
+  pub ordinal : provider.ordinal ≡ at + 1
+  pub weak : IsTrue provider.weak ↔ Weakens graph name library
+  pub weak_library : provider.weak_library ≡ library.weak

@@ -3,12 +3,17 @@
 
 mod fill;
 mod index;
+mod laws;
 mod libraries;
 mod library;
 mod named;
 mod provider;
 mod reach;
 
+pub use laws::{
+    a_library_reaches_what_paths_lead_to, a_provider_is_the_first,
+    without_a_provider_nothing_provides,
+};
 pub use libraries::Libraries;
 pub use library::{Library, LibraryGraph, LibraryList, LinkList, NumberList};
 pub use named::{NamedStub, StubFileList};

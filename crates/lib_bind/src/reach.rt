@@ -1,7 +1,8 @@
 //! The documents that libraries reach.
-ghost use Rattle.std.specs.Prelude.{◌≡◌, ◌<◌, ℕ, List, Some, IfOk, length, nat_eq, slice_get};
+ghost use Rattle.std.specs.Prelude.{◌≡◌, ◌<◌, ℕ, List, Some, IfOk, length, nat_eq, get_or, slice_get};
+ghost use Rattle.std.specs.List.{IsDistinct};
 ghost use Rattle.indexmap.specs.IndexSet.{insert_all};
-ghost use Rattle.lib_bind.specs.Graph.{AreLinks, AreReached, AreReaches};
+ghost use Rattle.lib_bind.specs.Graph.{AreLinks, AreReached, AreReaches, linked};
 ghost use Rattle.lib_bind.specs.declared.library.Library.{Library as Lib};
 
 use crate::library::{Library, NumberList};
@@ -20,15 +21,35 @@ fn add_all(before: IndexSet<usize>, more: &[usize]) -> Result<IndexSet<usize>, O
     Ok(found)
 }
 
+// The document that was found at a place.
+fn document_at(found: &IndexSet<usize>, at: usize) -> usize
+    requires { at < length found.now.keys }
+    ensures { get_or found.now.keys at 0 ≡ result }
+{
+    match found.get_index(at) {
+        Some(document) => *document,
+        None => 0,
+    }
+}
+
 // The list of documents that were found.
 fn list_of(alloc: Global, found: &IndexSet<usize>) -> Result<NumberList, OutOfMemory>
-    ensures { IfOk result (λ list. list ≡ found.now.keys) }
+    ensures all { IfOk result (λ list. list ≡ found.now.keys) }
+    ensures once { IfOk result (λ list. IsDistinct nat_eq list) }
 {
     let mut list = Vec::with_capacity(alloc, found.len())?;
-    for document in found.iter() {
-        list.push(*document)?;
+    for at in 0..found.len() {
+        list.push(document_at(found, at))?;
     }
     Ok(Items::from_vec(list))
+}
+
+// The documents that a document re-exports.
+fn links_of(links: &[NumberList], document: usize) -> &[usize]
+    requires { document < length links.now }
+    ensures { result.now ≡ linked links.now document }
+{
+    links[document].as_slice()
 }
 
 // The documents that a path of links leads to from one, that one among them, breadth first.
@@ -40,12 +61,13 @@ fn reached(alloc: Global, links: &[NumberList], from: usize) -> Result<NumberLis
     let mut found = IndexSet::new(alloc);
     found.insert(from)?;
     for at in 0..links.len() {
-        let Some(document) = found.get_index(at).copied() else {
-            return list_of(alloc, &found);
-        };
-        found = add_all(found, links[document].as_slice())?;
+        if at >= found.len() {
+            return Ok(list_of(alloc, &found)?);
+        }
+        let document = document_at(&found, at);
+        found = add_all(found, links_of(links, document))?;
     }
-    list_of(alloc, &found)
+    Ok(list_of(alloc, &found)?)
 }
 
 /// For each library the documents that it reaches.

@@ -1,0 +1,31 @@
+use Rattle.std.proofs.Common.{◌≡◌, ℕ, ◌<◌, ◌≤◌, List, [], length, get_or, nat_eq, sym, ap, subst, ◌∙◌, arith}
+use Rattle.std.specs.List.{IsDistinct}
+use Rattle.std.proofs.lemmas.List.{get_or_default}
+use Rattle.indexmap.specs.IndexSet.{insert_all}
+use Rattle.lib_bind.specs.Graph.{linked}
+use Rattle.lib_bind.proofs.ReachLemmas.{among, ends_as, few, next, reached_below}
+use Rattle.lib_bind.proofs.reach.reached.Goals as goal
+
+pub links_of-requires : goal.links_of-requires
+links_of-requires c =
+    let low : c.loop-at.at < length c.loop-at.found.keys = subst (λ (n : ℕ). c.loop-at.at < n) c.len.ensures.len c.if-at-len.false in
+    reached_below c.args.links.now c.args.from c.document_at-document.result c.requires.links c.requires.from
+    (c.loop-at.invariant.only c.document_at-document.result (among c.loop-at.found.keys c.loop-at.at c.document_at-document.result low c.document_at-document.ensures))
+
+pub loop-at-preserved : goal.loop-at-preserved
+loop-at-preserved c =
+    let low : c.loop-at.at < length c.loop-at.found.keys = subst (λ (n : ℕ). c.loop-at.at < n) c.len.ensures.len c.if-at-len.false in
+    next c.args.links.now c.args.from c.loop-at.found.keys c.in_ok-found.found.keys c.loop-at.at c.document_at-document.result c.loop-at.invariant low c.document_at-document.ensures
+    (c.in_ok-found.ensures ∙ ap (insert_all nat_eq c.loop-at.found.keys) c.links_of.ensures)
+
+pub returns : goal.returns
+returns c =
+    let once : IsDistinct nat_eq c.loop-at.found.keys = subst (λ (ds : List ℕ). IsDistinct nat_eq ds) c.in_ok-list_of-2.ensures.all c.in_ok-list_of-2.ensures.once in
+    let count : length c.loop-at.found.keys ≤ length c.args.links.now = few c.args.links.now c.args.from c.loop-at.found.keys c.loop-at.at c.loop-at.invariant c.requires.links c.requires.from once in
+    ends_as c.args.links.now c.args.from c.loop-at.found.keys c.in_ok-list_of-2.field-0 c.loop-at.at c.loop-at.invariant (omega (arith, count, c.loop-at-test.false)) once c.in_ok-list_of-2.ensures.all
+
+pub returns-then-at-len : goal.returns-then-at-len
+returns-then-at-len c =
+    let once : IsDistinct nat_eq c.loop-at.found.keys = subst (λ (ds : List ℕ). IsDistinct nat_eq ds) c.in_ok-list_of.ensures.all c.in_ok-list_of.ensures.once in
+    let past : length c.loop-at.found.keys ≤ c.loop-at.at = subst (λ (n : ℕ). n ≤ c.loop-at.at) c.len.ensures.len c.if-at-len.true in
+    ends_as c.args.links.now c.args.from c.loop-at.found.keys c.in_ok-list_of.field-0 c.loop-at.at c.loop-at.invariant past once c.in_ok-list_of.ensures.all
