@@ -1,1 +1,6 @@
 pub mod Found
+pub mod Arranged
+pub mod Laid
+pub mod Spread
+pub mod Narrow
+pub mod Finish

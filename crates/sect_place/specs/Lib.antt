@@ -1,1 +1,5 @@
 pub mod Whole
+pub mod Arrangement
+pub mod Places
+pub mod Layout
+pub mod inner

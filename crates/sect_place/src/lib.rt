@@ -1,14 +1,20 @@
 //! Where everything of an image stands: its segments, its sections, and the atoms in them.
 #![tactic(auto)]
 
+mod arrange;
 mod island;
 mod layout;
 mod lookup;
+mod part;
+mod placing;
 mod size;
+mod walk;
+mod wide;
 
 pub use island::{AreaList, BranchTarget, BranchTargetList, IslandArea, IslandPlan, WayList};
 pub use layout::{
     Layout, Placed, PlacedList, PlacedSection, PlacedSectionList, Segment, SegmentList,
 };
 pub use lookup::address;
+pub use placing::place;
 pub use size::{PlaceFault, PlaceSizes};

@@ -88,7 +88,7 @@ fn address_at(placed: &[Placed], at: usize, atom: &AtomKey) -> Option<u64>
 }
 
 // Whether two atoms are the same one.
-fn is_same(a: &AtomKey, b: &AtomKey) -> bool
+pub(crate) fn is_same(a: &AtomKey, b: &AtomKey) -> bool
     ensures { IsTrue result → a.now ≡ b.now }
 {
     a == b

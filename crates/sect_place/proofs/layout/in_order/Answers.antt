@@ -2,7 +2,7 @@ use Rattle.std.proofs.Common.{rules}
 use Rattle.std.specs.Ordering.{is_lt}
 use Rattle.std.proofs.lemmas.List.Sorted.{ranks_by, answers_always}
 use Rattle.mo_types.specs.Keys.{compare_keys}
-use Rattle.tlv_plan.proofs.Keys.{compare_keys_total}
+use Rattle.mo_types.proofs.KeyOrder.{compare_keys_total}
 use Rattle.sect_place.specs.declared.layout.Placed.{Placed}
 use Rattle.sect_place.proofs.layout.in_order.Goals as goal
 

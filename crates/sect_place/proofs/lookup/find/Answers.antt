@@ -2,7 +2,8 @@ use Rattle.std.proofs.Common.{rules}
 use Rattle.std.proofs.lemmas.Fn.{always_returns_same}
 use Rattle.sect_place.specs.declared.layout.Placed.{Placed}
 use Rattle.mo_types.specs.Keys.{compare_keys}
-use Rattle.tlv_plan.proofs.Keys.{compare_keys_total, found_key, no_key}
+use Rattle.mo_types.proofs.KeyOrder.{compare_keys_total}
+use Rattle.tlv_plan.proofs.Keys.{found_key, no_key}
 use Rattle.std.proofs.lemmas.Cmp.{tied_itself}
 use Rattle.sect_place.proofs.Found.{holds_placed}
 use Rattle.sect_place.proofs.lookup.find.Goals as goal
