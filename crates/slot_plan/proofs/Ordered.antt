@@ -4,12 +4,12 @@ use Rattle.std.specs.Borrow.{Bor}
 use Rattle.std.specs.List.{filter, dedup, AllPairs, HoldsAt}
 use Rattle.std.specs.declared.cmp.Ordering.TheVariants.{Less, Equal, Greater}
 use Rattle.std.specs.List.Sorted.{IsStrictlySortedBy, IsSorted, IsNonDecreasingBy, IsPartitionPoint}
-use Rattle.std.specs.Ordering.{on, eq_by_cmp, ordering_index}
+use Rattle.std.specs.Ordering.{on, eq_by_cmp, is_lt, ordering_index}
 use Rattle.std.proofs.lemmas.Cmp.{on_total, on_equiv, tied_itself}
 use Rattle.std.proofs.lemmas.Bool.{cases_lt}
 use Rattle.std.proofs.lemmas.Option.{slice_get-get_or}
 use Rattle.std.proofs.lemmas.List.Kept.{IsStrictlySortedBy-dedup, Any-dedup, Contains-from_dedup}
-use Rattle.std.proofs.lemmas.List.Sorted.{Contains-permutation, IsPermutation-sym, searchable_from_sorted}
+use Rattle.std.proofs.lemmas.List.Sorted.{Contains-permutation, IsPermutation-refl, IsPermutation-sym, searchable_from_sorted}
 use Rattle.mo_types.specs.declared.goal.Goal.{Goal}
 use Rattle.mo_types.specs.Goals.{compare_goals}
 use Rattle.mo_types.specs.GoalOrder.{compare_goals_total, compare_goals_equal}
@@ -19,7 +19,7 @@ use Rattle.slot_plan.specs.declared.need.Way.{Way}
 use Rattle.slot_plan.specs.declared.need.Way.TheVariants.{Got, Stub, Tlv}
 use Rattle.slot_plan.specs.Slots.{AreSlots, needed, in_got, in_stubs}
 use Rattle.std.proofs.lemmas.List.Elements.{filter-append}
-use Rattle.std.proofs.lemmas.List.{map-append, take_more, take_all}
+use Rattle.std.proofs.lemmas.List.{get_or-map, length-map, map-append, take_more, take_all}
 use Rattle.slot_plan.specs.inner.Held.{held, held_needs, HasTheSame}
 use Rattle.list_lemmas.proofs.Members.{In, in_from_Contains, Contains_from_in, in_map, from_map, in_filter, from_filter}
 use Rattle.list_lemmas.proofs.Rising.{rising_map, rising_apart, rising_same, sorted_from_rising}
@@ -27,7 +27,7 @@ use Rattle.list_lemmas.proofs.Rising.{rising_map, rising_apart, rising_same, sor
 abbrev pointed : Bor Goal → Goal
 pointed reference = reference.now
 
-pub ordered : (old sorted new : List (Bor Goal)) → IsPermutation old sorted → IsSorted (on pointed compare_goals) sorted → new ≡ dedup (on pointed (eq_by_cmp compare_goals)) sorted → AreSlots (held old) (held new)
+ordered : (old sorted new : List (Bor Goal)) → IsPermutation old sorted → IsSorted (on pointed compare_goals) sorted → new ≡ dedup (on pointed (eq_by_cmp compare_goals)) sorted → AreSlots (held old) (held new)
 ordered old sorted new moves up is = subst (λ (rs : List (Bor Goal)). AreSlots (held old) (held rs)) (sym is) (record {
   rising = rising_map pointed compare_goals once (IsStrictlySortedBy-dedup (on_total pointed compare_goals_total) (λ x y. refl) sorted up);
   all = λ goal h. stays goal (from_map pointed old goal (in_from_Contains (held old) goal h));
@@ -50,6 +50,16 @@ ordered old sorted new moves up is = subst (λ (rs : List (Bor Goal)). AreSlots 
         let there : Contains sorted from.0 = Contains-from_dedup (on pointed (eq_by_cmp compare_goals)) sorted from.0 (Contains_from_in once from.0 from.1) in
         let before : Contains old from.0 = Contains-permutation sorted old from.0 (IsPermutation-sym old sorted moves) there in
         subst (Contains (held old)) from.2 (Contains_from_in (held old) (pointed from.0) (in_map pointed old from.0 (in_from_Contains old from.0 before)))
+
+sorted_held : (goals : List (Bor Goal)) → IsSorted compare_goals (held goals) → IsSorted (on pointed compare_goals) goals
+sorted_held goals up = λ k d low high.
+    let inside : k + 1 < length (held goals) = subst (λ (n : ℕ). k + 1 < n) (sym (length-map goals pointed)) high in
+    let here : get_or (held goals) k (pointed d) ≡ pointed (get_or goals k d) = get_or-map pointed goals k d (pointed d) (omega arith) in
+    let next : get_or (held goals) (k + 1) (pointed d) ≡ pointed (get_or goals (k + 1) d) = get_or-map pointed goals (k + 1) d (pointed d) high in
+    ap (λ (g : Goal). is_lt (compare_goals g (pointed (get_or goals k d)))) (sym next) ∙ ap (λ (g : Goal). is_lt (compare_goals (get_or (held goals) (k + 1) (pointed d)) g)) (sym here) ∙ up k (pointed d) low inside
+
+pub left_once : (old new : List (Bor Goal)) → IsSorted compare_goals (held old) → new ≡ dedup (on pointed (eq_by_cmp compare_goals)) old → AreSlots (held old) (held new)
+left_once old new up is = ordered old old new (IsPermutation-refl old) (sorted_held old up) is
 
 pub stands_once : (goals slots : List Goal) → AreSlots goals slots → AllPairs (λ a b. a ≢ b) slots
 stands_once goals slots are = λ i j d low high. rising_apart compare_goals_total slots i j d are.rising low high

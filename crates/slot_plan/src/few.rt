@@ -3,6 +3,7 @@ ghost use Rattle.std.specs.Prelude.{◌≡◌, ◌<◌, length, Contains, IfOk, 
 ghost use Rattle.slot_plan.specs.inner.Held.{held_needs, HasTheSame};
 
 use crate::need::{Need, Way};
+use crate::seen::{Seen, cell_place, cell_tag};
 use mo_bytes::read_u64;
 use mo_types::{Goal, OutOfMemory};
 use std::alloc::Global;
@@ -13,11 +14,12 @@ pub(crate) fn few(alloc: Global, needs: &[Need]) -> Result<Vec<&Need>, OutOfMemo
     ensures { IfOk result (λ few. HasTheSame needs.now (held_needs few.items)) }
 {
     let mut few = Vec::new(alloc);
-    let mut places = vec![in alloc; usize::MAX; needs.len().clamp(64, 1 << 21)]?;
+    let mut seen = Seen::new(alloc)?;
     for need in needs {
-        match free_place(few.as_slice(), places.as_slice(), need) {
+        let tag = tag_of(need);
+        match free_cell(few.as_slice(), &seen, tag, need) {
             Some(free) => {
-                note(places.as_mut_slice(), free, few.len());
+                seen.note(free, tag, few.len())?;
                 few.push(need)?;
             }
             None => {}
@@ -26,32 +28,33 @@ pub(crate) fn few(alloc: Global, needs: &[Need]) -> Result<Vec<&Need>, OutOfMemo
     Ok(few)
 }
 
-// Puts a place into the table.
-fn note(places: &mut [usize], free: usize, place: usize) {
-    if let Some(there) = places.get_mut(free) {
-        *there = place;
-    }
-}
-
-// Where in the table the place of a need may go, or `None` only where the need is among the few.
-fn free_place(few: &[&Need], places: &[usize], need: &Need) -> Option<usize>
+// Where in the table a need with this tag may go, or `None` only where the need is among the few. Of the cells from
+// the tag's own on it looks at eight.
+fn free_cell(few: &[&Need], seen: &Seen, tag: u32, need: &Need) -> Option<usize>
     ensures { IfNone result (Contains (held_needs few.now) need.now) }
 {
-    let size = places.len().max(1);
-    let first = (hash_of(need) >> 32) as usize % size;
     for step in 0..8usize {
-        let at = first.wrapping_add(step) % size;
-        let place = places.get(at).copied().unwrap_or(usize::MAX);
-        match few.get(place) {
-            Some(seen) => {
-                if is_same(seen, need) {
-                    return None;
+        let at = seen.cell_of(tag, step);
+        match seen.at(at) {
+            Some(cell) => {
+                let place = if cell_tag(cell) == tag {
+                    cell_place(cell)
+                } else {
+                    usize::MAX
+                };
+                match few.get(place) {
+                    Some(seen) => {
+                        if is_same(seen, need) {
+                            return None;
+                        }
+                    }
+                    None => {}
                 }
             }
             None => return Some(at),
         }
     }
-    Some(first)
+    Some(seen.cell_of(tag, 0))
 }
 
 // Whether two needs are the same.
@@ -62,13 +65,13 @@ fn is_same(a: &Need, b: &Need) -> bool
 }
 
 // A hash of a need.
-fn hash_of(need: &Need) -> u64 {
+fn tag_of(need: &Need) -> u32 {
     let way = match need.way {
         Way::Got => 0,
         Way::Stub => 1,
         Way::Tlv => 2,
     };
-    match &need.goal {
+    let hash = match &need.goal {
         Goal::Def(key, offset) => {
             let file = u64::from(key.file.position) << 32 | u64::from(key.file.member);
             mixed(
@@ -77,7 +80,8 @@ fn hash_of(need: &Need) -> u64 {
             )
         }
         named => hash_of_name(way, named.name()),
-    }
+    };
+    (hash >> 32) as u32
 }
 
 // A hash of a name.

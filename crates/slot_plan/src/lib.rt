@@ -8,6 +8,7 @@ mod list;
 mod need;
 mod order;
 mod plan;
+mod seen;
 #[cfg(test)]
 mod tests;
 

@@ -1,9 +1,10 @@
 ghost use Rattle.std.specs.Prelude.{◌≡◌, Contains, IfOk};
-ghost use Rattle.std.specs.List.Sorted.{IsStrictlySortedBy};
+ghost use Rattle.std.specs.List.Sorted.{IsSorted, IsStrictlySortedBy};
+ghost use Rattle.std.specs.Ordering.{on};
 ghost use Rattle.mo_types.specs.Goals.{compare_goals};
 ghost use Rattle.mo_types.specs.declared.goal.Goal.{Goal};
 ghost use Rattle.slot_plan.specs.Slots.{AreSlots, needed, in_got, in_stubs, in_tlv};
-ghost use Rattle.slot_plan.specs.inner.Held.{held, held_needs, serves};
+ghost use Rattle.slot_plan.specs.inner.Held.{HasTheSame, goal_behind, held, held_needs, serves};
 
 use crate::few::few;
 use crate::list::{SlotList, Slots};
@@ -18,7 +19,7 @@ pub fn slots(alloc: Global, needs: &NeedList) -> Result<Slots, OutOfMemory>
     ensures stubs { IfOk result (λ slots. AreSlots (needed in_stubs needs.now) slots.stubs) }
     ensures tlv { IfOk result (λ slots. AreSlots (needed in_tlv needs.now) slots.tlv) }
 {
-    let needs = few(alloc, needs.as_slice())?;
+    let needs = in_order(alloc, needs.as_slice())?;
     let needs = needs.as_slice();
     Ok(Slots {
         got: slots_of(alloc, needs, Table::Got)?,
@@ -49,16 +50,27 @@ impl Table {
     }
 }
 
+// The needs, mostly once each, in the order of their goals.
+fn in_order(alloc: Global, needs: &[Need]) -> Result<Vec<&Need>, OutOfMemory>
+    ensures same { IfOk result (λ few. HasTheSame needs.now (held_needs few.items)) }
+    ensures sorted { IfOk result (λ few. IsSorted (on goal_behind compare_goals) few.items) }
+{
+    let mut few = few(alloc, needs)?;
+    few.sort_unstable_by(|a, b| compare(&a.goal, &b.goal));
+    Ok(few)
+}
+
 // The slots of one section.
 fn slots_of(alloc: Global, needs: &[&Need], table: Table) -> Result<SlotList, OutOfMemory>
+    requires { IsSorted (on goal_behind compare_goals) needs.now }
     ensures { IfOk result (AreSlots (needed (serves table) (held_needs needs.now))) }
 {
     let mut goals = served(alloc, needs, table)?;
-    put_in_order(&mut goals);
+    leave_once(&mut goals);
     Ok(SlotList::from_sorted(copies(alloc, goals.as_slice())?))
 }
 
-// The goals that have a slot in a section, as often as they are needed.
+// The goals that have a slot in a section, as often as they are needed, in the order of the needs.
 fn served<'a>(alloc: Global, needs: &[&'a Need], table: Table) -> Result<Vec<&'a Goal>, OutOfMemory>
     ensures { IfOk result (λ goals. held goals.items ≡ needed (serves table) (held_needs needs.now)) }
 {
@@ -71,11 +83,11 @@ fn served<'a>(alloc: Global, needs: &[&'a Need], table: Table) -> Result<Vec<&'a
     Ok(goals)
 }
 
-// Sorts goals, and leaves each once.
-fn put_in_order(goals: &mut Vec<&Goal>)
+// Leaves each goal once, of goals in order.
+fn leave_once(goals: &mut Vec<&Goal>)
+    requires { IsSorted compare_goals (held goals.old.items) }
     ensures { AreSlots (held goals.old.items) (held goals.new.items) }
 {
-    goals.sort_unstable_by(|a, b| compare(*a, *b));
     goals.dedup();
 }
 

@@ -16,6 +16,10 @@ held references = map (λ reference. reference.now) references
 abbrev pub held_needs : List (Bor Need) → List Need
 held_needs references = map (λ reference. reference.now) references
 
+-- the goal of a need behind a reference
+abbrev pub goal_behind : Bor Need → Goal
+goal_behind reference = reference.now.goal
+
 -- the same needs as another list, maybe another number of times
 pub record HasTheSame (needs few : List Need) : Type 0 where
   pub all : (need : Need) → Contains needs need → Contains few need

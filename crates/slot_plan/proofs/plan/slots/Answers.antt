@@ -11,15 +11,15 @@ same_few needs read few read_few e f h = rw f (subst (λ (ns : List Need). HasTh
 
 pub returns-clause-got : goal.returns-clause-got
 returns-clause-got c = slots_of_same in_got c.args.needs.now _ c.in_ok-slots_of.field-0
-    (same_few c.args.needs.now c.as_slice.result.now c.in_ok-needs.needs.items c.as_slice-needs.result.now c.as_slice.ensures c.as_slice-needs.ensures.value c.in_ok-needs.ensures)
+    (same_few c.args.needs.now c.as_slice.result.now c.in_ok-needs.needs.items c.as_slice-needs.result.now c.as_slice.ensures c.as_slice-needs.ensures.value c.in_ok-needs.ensures.same)
     c.in_ok-slots_of.ensures
 
 pub returns-clause-stubs : goal.returns-clause-stubs
 returns-clause-stubs c = slots_of_same in_stubs c.args.needs.now _ c.in_ok-slots_of-2.field-0
-    (same_few c.args.needs.now c.as_slice.result.now c.in_ok-needs.needs.items c.as_slice-needs.result.now c.as_slice.ensures c.as_slice-needs.ensures.value c.in_ok-needs.ensures)
+    (same_few c.args.needs.now c.as_slice.result.now c.in_ok-needs.needs.items c.as_slice-needs.result.now c.as_slice.ensures c.as_slice-needs.ensures.value c.in_ok-needs.ensures.same)
     c.in_ok-slots_of-2.ensures
 
 pub returns-clause-tlv : goal.returns-clause-tlv
 returns-clause-tlv c = slots_of_same in_tlv c.args.needs.now _ c.in_ok-slots_of-3.field-0
-    (same_few c.args.needs.now c.as_slice.result.now c.in_ok-needs.needs.items c.as_slice-needs.result.now c.as_slice.ensures c.as_slice-needs.ensures.value c.in_ok-needs.ensures)
+    (same_few c.args.needs.now c.as_slice.result.now c.in_ok-needs.needs.items c.as_slice-needs.result.now c.as_slice.ensures c.as_slice-needs.ensures.value c.in_ok-needs.ensures.same)
     c.in_ok-slots_of-3.ensures
