@@ -4,6 +4,8 @@
 #[cfg(test)]
 mod instructions;
 #[cfg(test)]
+mod load_commands;
+#[cfg(test)]
 mod messages;
 #[cfg(test)]
 mod numbers;
