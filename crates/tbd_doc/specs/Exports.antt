@@ -21,8 +21,12 @@ symbols_under key fields = filter is_symbol (texts_under (value_of key fields))
 unfoldable pub prefixed_under : List ℕ → List ℕ → List Field → List (List ℕ)
 prefixed_under prefix key fields = map (λ name. prefix ++ name) (texts_under (value_of key fields))
 
+-- the install names of the libraries that an item re-exports
+unfoldable pub library_names : List Field → List (List ℕ)
+library_names fields = texts_under (value_of (codes "libraries") fields)
+
 -- what an item exports weakly, and all that it exports
-abbrev pub weak_names : List Field → List (List ℕ)
+unfoldable pub weak_names : List Field → List (List ℕ)
 weak_names fields = symbols_under (codes "weak-symbols") fields
 
 unfoldable pub exported_names : List Field → List (List ℕ)

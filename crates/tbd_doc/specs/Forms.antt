@@ -4,7 +4,7 @@ use Rattle.std.specs.List.{list_any, list_all}
 use Rattle.std.specs.Str.{bytes_eq}
 use Rattle.mo_cmd.specs.Numbers.{version_of}
 use Rattle.tbd_yaml.specs.Tree.{Tree, scalar, list, map}
-use Rattle.tbd_doc.specs.Nodes.{Field, items_of, fields_of, value_of, text_of, texts_under}
+use Rattle.tbd_doc.specs.Nodes.{Field, items_of, fields_of, value_of, text_of, text_under, texts_under}
 use Rattle.tbd_doc.specs.declared.forms.ItemKind.{ItemKind}
 use Rattle.tbd_doc.specs.declared.forms.ItemKind.TheVariants.{Reexport, Export}
 
@@ -27,18 +27,18 @@ abbrev pub has_nul : List ℕ → Bool
 has_nul text = list_any (λ byte. byte == 0) text
 
 -- an install name, which has to be there
-abbrev pub is_install : Option Tree → Bool
-is_install (Some (scalar text)) = not (has_nul text)
-is_install (Some (list items)) = false
-is_install (Some (map pairs)) = false
+abbrev pub is_install : Option (List ℕ) → Bool
 is_install None = false
+is_install (Some text) = not (has_nul text)
 
 -- a version X, X.Y or X.Y.Z, up to 65535.255.255, where it is there
+abbrev pub is_version_text : Option (List ℕ) → Bool
+is_version_text None = false
+is_version_text (Some text) = is_some (version_of text)
+
 abbrev pub is_version : Option Tree → Bool
 is_version None = true
-is_version (Some (scalar text)) = is_some (version_of text)
-is_version (Some (list items)) = false
-is_version (Some (map pairs)) = false
+is_version (Some node) = is_version_text (text_of node)
 
 -- a list of scalars, where it is there
 abbrev pub are_texts : Option Tree → Bool
@@ -77,7 +77,7 @@ are_items kind (Some node) = is_list node && list_all (is_item kind) (items_of n
 -- a document's keys have values of their forms
 unfoldable pub is_well_formed : List Field → Bool
 is_well_formed fields =
-    are_texts_at (codes "targets") fields && is_install (value_of (codes "install-name") fields)
+    are_texts_at (codes "targets") fields && is_install (text_under (codes "install-name") fields)
     && is_version (value_of (codes "current-version") fields) && is_version (value_of (codes "compatibility-version") fields)
     && are_items Reexport (value_of (codes "reexported-libraries") fields)
     && are_items Export (value_of (codes "exports") fields) && are_items Export (value_of (codes "reexports") fields)

@@ -1,7 +1,7 @@
 -- The nodes of a document's tree: the items of lists, and the values under the keys of maps.
 use Rattle.std.specs.Prelude.{ℕ, Bool, List, [], ◌∷◌, Option, Some, None, if◌then◌else◌}
 use Rattle.std.specs.List.{find, filter_map}
-use Rattle.std.specs.Option.{option_map}
+use Rattle.std.specs.Option.{option_and_then, option_map}
 use Rattle.std.specs.Str.{bytes_eq}
 use Rattle.tbd_yaml.specs.declared.file.YamlEvent.{YamlEvent}
 use Rattle.tbd_yaml.specs.declared.file.YamlEvent.TheVariants as event
@@ -41,6 +41,10 @@ abbrev pub text_of : Tree → Option (List ℕ)
 text_of (scalar text) = Some text
 text_of (list items) = None
 text_of (map pairs) = None
+
+-- the text under a key, where it is a scalar
+unfoldable pub text_under : List ℕ → List Field → Option (List ℕ)
+text_under key fields = option_and_then text_of (value_of key fields)
 
 -- the scalars among the items of a list
 abbrev pub texts_of : Tree → List (List ℕ)

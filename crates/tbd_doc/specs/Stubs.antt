@@ -2,7 +2,6 @@
 use Rattle.std.specs.Prelude.{ℕ, ◌+◌, ◌==◌, ◌&&◌, Bool, false, List, [], ◌∷◌, codes, unwrap_or, All, Option, Some, None, Result, Ok, Err, if◌then◌else◌}
 use Rattle.std.specs.List.{flat_map, AllByRecursion}
 use Rattle.std.specs.List.Sorted.{IsStrictlySortedBy}
-use Rattle.std.specs.Option.{option_and_then}
 use Rattle.std.specs.Ordering.{nat_cmp, on}
 use Rattle.std.specs.Cmp.Lexicographic.{slice_cmp}
 use Rattle.std.specs.Str.{bytes_eq}
@@ -16,9 +15,9 @@ use Rattle.tbd_doc.specs.declared.fault.StubFault.TheVariants.{NotTbd4, NoTarget
 use Rattle.tbd_doc.specs.declared.stub.Export.{Export}
 use Rattle.tbd_doc.specs.declared.stub.Stub.{Stub}
 use Rattle.tbd_doc.specs.declared.stub.StubFile.{StubFile}
-use Rattle.tbd_doc.specs.Nodes.{Field, fields_of, value_of, text_of, texts_under, tree_of}
+use Rattle.tbd_doc.specs.Nodes.{Field, fields_of, value_of, text_under, tree_of}
 use Rattle.tbd_doc.specs.Forms.{is_well_formed, has_text}
-use Rattle.tbd_doc.specs.Exports.{counted, exporting, exported_names, weak_names, exports_of}
+use Rattle.tbd_doc.specs.Exports.{counted, exporting, library_names, exported_names, weak_names, exports_of}
 
 -- a fault that documents may have
 abbrev pub IsStubFault : StubFault → Type 0
@@ -37,10 +36,6 @@ IsWholeStub stub = AreInOrder stub.exports
 -- a stub library whose documents each have their exports in order
 abbrev pub IsWhole : StubFile → Type 0
 IsWhole file = All IsWholeStub file.docs
-
--- the text under a key, where it is a scalar
-unfoldable pub text_under : List ℕ → List Field → Option (List ℕ)
-text_under key fields = option_and_then text_of (value_of key fields)
 
 abbrev pub version_in : Option (List ℕ) → Option ℕ
 version_in None = Some 65536
@@ -71,7 +66,7 @@ stub_of target fields = record {
   install = unwrap_or (text_under (codes "install-name") fields) [];
   current = version_under (codes "current-version") fields;
   compatible = version_under (codes "compatibility-version") fields;
-  reexports = flat_map (λ item. texts_under (value_of (codes "libraries") item)) (counted target (codes "reexported-libraries") fields);
+  reexports = flat_map library_names (counted target (codes "reexported-libraries") fields);
   exports = exports_of (flat_map exported_names (exporting target fields)) (flat_map weak_names (exporting target fields));
 }
 

@@ -3,8 +3,10 @@
 
 mod fault;
 mod forms;
+mod names;
 mod nodes;
 mod stub;
+mod texts;
 
 pub use fault::StubFault;
 pub use stub::{Export, ExportList, Stub, StubFile, StubList};

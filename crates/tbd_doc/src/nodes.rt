@@ -117,6 +117,14 @@ pub fn is_map(events: &[YamlEvent], at: usize) -> bool
     matches!(first_event(events, at), YamlEvent::BeginMap)
 }
 
+/// Whether a scalar stands at a place.
+pub fn is_scalar(events: &[YamlEvent], at: usize) -> bool
+    requires { IsNode events.now at }
+    ensures { result ≡ forms.is_scalar (tree_at events.now at) }
+{
+    matches!(first_event(events, at), YamlEvent::Scalar(_))
+}
+
 /// The text at a place, if a scalar stands there.
 
 pub fn text(events: &[YamlEvent], at: usize) -> Option<&Bytes>

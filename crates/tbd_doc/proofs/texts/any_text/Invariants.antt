@@ -1,0 +1,8 @@
+use Rattle.std.specs.Str.{bytes_eq}
+use Rattle.tbd_doc.specs.inner.Texts.{text_passes}
+use Rattle.tbd_doc.specs.inner.Places.{tree_at}
+use Rattle.tbd_doc.proofs.LoopLemmas.{IsMissing}
+use Rattle.tbd_doc.proofs.texts.any_text.Given as goal
+
+abbrev pub invariant-loop-place : goal.invariant-loop-place
+invariant-loop-place l = IsMissing (λ place. text_passes (bytes_eq l.wanted) (tree_at l.events place)) l.places l.place-index
