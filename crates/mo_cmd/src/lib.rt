@@ -21,6 +21,7 @@ pub use laws::{
     words_are_consumed,
 };
 pub use name_list::read_list;
+pub use numbers::version;
 pub use options::{CommandOption, Field};
 pub use parts::Rows;
 pub use paths::paths_for;

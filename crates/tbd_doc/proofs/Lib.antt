@@ -1,3 +1,4 @@
 pub mod WalkLemmas
 pub mod SearchLemmas
 pub mod LoopLemmas
+pub mod NameLemmas

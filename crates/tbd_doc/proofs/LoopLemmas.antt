@@ -5,7 +5,7 @@ use Rattle.std.specs.List.{list_all, list_any, flat_map, filter_map}
 use Rattle.std.proofs.lemmas.List.{drop_all, drop_more, take_all, take_more, flat_map_more}
 use Rattle.tbd_yaml.specs.Tree.{Tree, scalar, list, map as map_of}
 use Rattle.std.specs.Option.{option_map}
-use Rattle.tbd_doc.specs.Forms.{is_list, is_scalar, are_texts}
+use Rattle.tbd_doc.specs.Forms.{is_list, are_all}
 use Rattle.tbd_doc.specs.Nodes.{text_of, texts_under, items_of}
 use Rattle.tbd_doc.specs.inner.Texts.{text_passes, text_list}
 
@@ -70,12 +70,12 @@ any_text_there node test (x ∷ xs) = step (node x) (map node xs) (list_any (λ 
 
 -- The value of a key.
 
-pub texts_test : (node : ℕ → Tree) (value : Option ℕ) (at : ℕ) (places seen : List ℕ) (result : Bool) → value ≡ Some at → is_list (node at) ≡ true → map node places ≡ items_of (node at) → seen ≡ places
-    → result ≡ list_all (λ place. is_scalar (node place)) seen → result ≡ are_texts (option_map node value)
-texts_test node value at places seen result is test items same all =
-    let whole : result ≡ list_all is_scalar (items_of (node at)) =
-    all ∙ all_there node is_scalar seen ∙ ap (λ xs. list_all is_scalar (map node xs)) same ∙ ap (list_all is_scalar) items in
-    rw (is, test) whole
+pub all_test : (node : ℕ → Tree) (test : Tree → Bool) (value : Option ℕ) (at : ℕ) (places seen : List ℕ) (result : Bool) → value ≡ Some at → is_list (node at) ≡ true → map node places ≡ items_of (node at) → seen ≡ places
+    → result ≡ list_all (λ place. test (node place)) seen → result ≡ are_all test (option_map node value)
+all_test node test value at places seen result is here items same all =
+    let whole : result ≡ list_all test (items_of (node at)) =
+    all ∙ all_there node test seen ∙ ap (λ xs. list_all test (map node xs)) same ∙ ap (list_all test) items in
+    rw (is, here) whole
 
 pub any_test : (node : ℕ → Tree) (test : List ℕ → Bool) (value : Option ℕ) (at : ℕ) (places seen : List ℕ) (result : Bool) → value ≡ Some at → map node places ≡ items_of (node at) → seen ≡ places
     → result ≡ list_any (λ place. text_passes test (node place)) seen → result ≡ list_any test (texts_under (option_map node value))

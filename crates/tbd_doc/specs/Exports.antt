@@ -29,14 +29,20 @@ library_names fields = texts_under (value_of (codes "libraries") fields)
 unfoldable pub weak_names : List Field → List (List ℕ)
 weak_names fields = symbols_under (codes "weak-symbols") fields
 
-unfoldable pub exported_names : List Field → List (List ℕ)
-exported_names fields =
+abbrev pub symbol_names : List Field → List (List ℕ)
+symbol_names fields =
     symbols_under (codes "symbols") fields ++ symbols_under (codes "weak-symbols") fields
     ++ symbols_under (codes "thread-local-symbols") fields
-    ++ prefixed_under (codes "_OBJC_CLASS_$_") (codes "objc-classes") fields
+
+abbrev pub class_names : List Field → List (List ℕ)
+class_names fields =
+    prefixed_under (codes "_OBJC_CLASS_$_") (codes "objc-classes") fields
     ++ prefixed_under (codes "_OBJC_METACLASS_$_") (codes "objc-classes") fields
     ++ prefixed_under (codes "_OBJC_EHTYPE_$_") (codes "objc-eh-types") fields
     ++ prefixed_under (codes "_OBJC_IVAR_$_") (codes "objc-ivars") fields
+
+unfoldable pub exported_names : List Field → List (List ℕ)
+exported_names fields = symbol_names fields ++ class_names fields
 
 -- the fields of the items under a key that count for a target
 abbrev pub counts : List ℕ → List Field → Bool

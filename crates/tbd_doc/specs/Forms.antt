@@ -40,10 +40,14 @@ abbrev pub is_version : Option Tree → Bool
 is_version None = true
 is_version (Some node) = is_version_text (text_of node)
 
+-- a list whose items pass a test, where it is there
+abbrev pub are_all : (Tree → Bool) → Option Tree → Bool
+are_all test None = true
+are_all test (Some node) = is_list node && list_all test (items_of node)
+
 -- a list of scalars, where it is there
 abbrev pub are_texts : Option Tree → Bool
-are_texts None = true
-are_texts (Some node) = is_list node && list_all is_scalar (items_of node)
+are_texts value = are_all is_scalar value
 
 abbrev pub are_texts_at : List ℕ → List Field → Bool
 are_texts_at key fields = are_texts (value_of key fields)
@@ -55,12 +59,18 @@ is_reexport fields =
     && not (list_any has_nul (texts_under (value_of (codes "libraries") fields)))
 
 -- an item of exports
-unfoldable pub is_export : List Field → Bool
-is_export fields =
-    are_texts_at (codes "targets") fields && are_texts_at (codes "symbols") fields
-    && are_texts_at (codes "weak-symbols") fields && are_texts_at (codes "thread-local-symbols") fields
-    && are_texts_at (codes "objc-classes") fields && are_texts_at (codes "objc-eh-types") fields
+unfoldable pub have_symbols : List Field → Bool
+have_symbols fields =
+    are_texts_at (codes "symbols") fields && are_texts_at (codes "weak-symbols") fields
+    && are_texts_at (codes "thread-local-symbols") fields
+
+unfoldable pub have_classes : List Field → Bool
+have_classes fields =
+    are_texts_at (codes "objc-classes") fields && are_texts_at (codes "objc-eh-types") fields
     && are_texts_at (codes "objc-ivars") fields
+
+unfoldable pub is_export : List Field → Bool
+is_export fields = are_texts_at (codes "targets") fields && have_symbols fields && have_classes fields
 
 abbrev pub has_form : ItemKind → List Field → Bool
 has_form Reexport fields = is_reexport fields
@@ -71,16 +81,22 @@ is_item kind node = is_map node && has_form kind (fields_of node)
 
 -- a list of items of a kind, where it is there
 abbrev pub are_items : ItemKind → Option Tree → Bool
-are_items kind None = true
-are_items kind (Some node) = is_list node && list_all (is_item kind) (items_of node)
+are_items kind value = are_all (is_item kind) value
+
+abbrev pub have_versions : List Field → Bool
+have_versions fields =
+    is_version (value_of (codes "current-version") fields) && is_version (value_of (codes "compatibility-version") fields)
+
+abbrev pub have_items : List Field → Bool
+have_items fields =
+    are_items Reexport (value_of (codes "reexported-libraries") fields)
+    && are_items Export (value_of (codes "exports") fields) && are_items Export (value_of (codes "reexports") fields)
 
 -- a document's keys have values of their forms
 unfoldable pub is_well_formed : List Field → Bool
 is_well_formed fields =
-    are_texts_at (codes "targets") fields && is_install (text_under (codes "install-name") fields)
-    && is_version (value_of (codes "current-version") fields) && is_version (value_of (codes "compatibility-version") fields)
-    && are_items Reexport (value_of (codes "reexported-libraries") fields)
-    && are_items Export (value_of (codes "exports") fields) && are_items Export (value_of (codes "reexports") fields)
+    are_texts_at (codes "targets") fields && is_install (text_under (codes "install-name") fields) && have_versions fields
+    && have_items fields
 
 -- a list under a key has an item
 unfoldable pub has_text : List ℕ → List Field → List ℕ → Bool

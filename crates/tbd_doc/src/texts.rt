@@ -94,7 +94,11 @@ fn are_texts(alloc: Global, events: &[YamlEvent], value: Option<usize>) -> Resul
 }
 
 /// Whether a text of the list that the value of a key is has a NUL.
-pub fn hold_nul(alloc: Global, events: &[YamlEvent], value: Option<usize>) -> Result<bool, OutOfMemory>
+pub fn hold_nul(
+    alloc: Global,
+    events: &[YamlEvent],
+    value: Option<usize>,
+) -> Result<bool, OutOfMemory>
     requires { IfSome value (IsNode events.now) }
     ensures { IfOk result (λ test. test ≡ list_any forms.has_nul (texts_under (option_map (tree_at events.now) value))) }
 {

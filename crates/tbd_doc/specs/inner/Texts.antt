@@ -1,9 +1,10 @@
 -- What is read of an item, and of the scalars of a list, one by one.
 use Rattle.std.specs.Prelude.{ℕ, Bool, false, List, [], ◌∷◌, if◌then◌else◌}
+use Rattle.std.specs.Option.{option_to_list}
 use Rattle.tbd_yaml.specs.Tree.{Tree, scalar, list, map}
 use Rattle.tbd_doc.specs.declared.names.NameKind.{NameKind}
 use Rattle.tbd_doc.specs.declared.names.NameKind.TheVariants.{Library, Exported, Weak}
-use Rattle.tbd_doc.specs.Nodes.{Field}
+use Rattle.tbd_doc.specs.Nodes.{Field, text_of}
 use Rattle.tbd_doc.specs.Exports.{counts, library_names, exported_names, weak_names}
 
 -- a scalar whose text passes a test
@@ -14,9 +15,7 @@ text_passes test (map pairs) = false
 
 -- the text of a scalar, and of other nodes nothing
 abbrev pub text_list : Tree → List (List ℕ)
-text_list (scalar text) = text ∷ []
-text_list (list items) = []
-text_list (map pairs) = []
+text_list node = option_to_list (text_of node)
 
 -- the names of a kind that an item gives
 abbrev pub names_of : NameKind → List Field → List (List ℕ)
