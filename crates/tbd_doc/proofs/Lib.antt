@@ -2,3 +2,5 @@ pub mod WalkLemmas
 pub mod SearchLemmas
 pub mod LoopLemmas
 pub mod NameLemmas
+pub mod OrderLemmas
+pub mod StubLemmas

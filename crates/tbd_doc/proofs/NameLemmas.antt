@@ -61,7 +61,7 @@ pub texts_gathered : (node : ℕ → Tree) (g : List (List ℕ) → List (List �
 texts_gathered node g both none at found places seen start more there items same gathered =
     gathered
     ∙ ap (λ xs. start ++ xs) (texts_there node g both none seen ∙ ap (λ ps. g (filter_map text_of (map node ps))) same
-      ∙ ap (λ ts. g (filter_map text_of ts)) items ∙ ap (λ value. g (texts_under value)) there)
+    ∙ ap (λ ts. g (filter_map text_of ts)) items ∙ ap (λ value. g (texts_under value)) there)
 
 pub libraries_gathered : (node : ℕ → Tree) (at : ℕ) (fields : List Field) (places seen : List ℕ) (start more : List (List ℕ)) → Some (node at) ≡ value_of (codes "libraries") fields → map node places ≡ items_of (node at) → seen ≡ places
     → more ≡ start ++ flat_map (λ place. text_list (node place)) seen → more ≡ start ++ library_names fields
@@ -98,6 +98,6 @@ unfolding counted
 counted_gathered node kind at target key fields places seen start more there items same gathered =
     gathered
     ∙ ap (λ xs. start ++ xs) (counted_there node kind target seen
-      ∙ ap (λ ps. flat_map (names_of kind) (filter (counts target) (map fields_of (map node ps)))) same
-      ∙ ap (λ ts. flat_map (names_of kind) (filter (counts target) (map fields_of ts))) items
-      ∙ ap (λ value. flat_map (names_of kind) (filter (counts target) (items_under value))) there)
+    ∙ ap (λ ps. flat_map (names_of kind) (filter (counts target) (map fields_of (map node ps)))) same
+    ∙ ap (λ ts. flat_map (names_of kind) (filter (counts target) (map fields_of ts))) items
+    ∙ ap (λ value. flat_map (names_of kind) (filter (counts target) (items_under value))) there)

@@ -1,8 +1,9 @@
 -- The names that a document exports (TBD v4), and their order.
-use Rattle.std.specs.Prelude.{ℕ, ◌≡◌, ◌++◌, Bool, not, List, [], ◌∷◌, map, filter, codes, nat_eq, Option, Some, None}
+use Rattle.std.specs.Prelude.{ℕ, ◌≡◌, ◌++◌, Bool, not, IsTrue, List, [], ◌∷◌, map, filter, Contains, codes, nat_eq, Option, Some, None}
 use Rattle.std.specs.List.{list_any, starts_with, flat_map}
 use Rattle.std.specs.Str.{bytes_eq}
-use Rattle.std.specs.Ordering.{nat_cmp, match_ordering}
+use Rattle.std.specs.List.Sorted.{IsStrictlySortedBy}
+use Rattle.std.specs.Ordering.{nat_cmp, match_ordering, on}
 use Rattle.std.specs.Cmp.Lexicographic.{slice_cmp}
 use Rattle.tbd_yaml.specs.Tree.{Tree}
 use Rattle.tbd_doc.specs.declared.stub.Export.{Export}
@@ -69,6 +70,23 @@ abbrev pub in_order : List (List ℕ) → List (List ℕ)
 in_order [] = []
 in_order (name ∷ names) = with_name name (in_order names)
 
--- the exports of some names, weak where the name is among the weak ones
+-- the export of a name, weak where the name is among the weak ones
+abbrev pub export_among : List (List ℕ) → List ℕ → Export
+export_among weak name = record { name = name; weak = list_any (bytes_eq name) weak }
+
+-- the exports of some names
 unfoldable pub exports_of : List (List ℕ) → List (List ℕ) → List Export
-exports_of names weak = map (λ name. record { name = name; weak = list_any (bytes_eq name) weak }) (in_order names)
+exports_of names weak = map (export_among weak) (in_order names)
+
+-- the exports of a library stand in the order of their names, each once
+abbrev pub AreInOrder : List Export → Type 0
+AreInOrder exports = IsStrictlySortedBy (on (λ export. export.name) (slice_cmp nat_cmp)) exports
+
+-- What the exports of some names are: they stand in order, each name is exported, and each export is of a name, weak
+-- just where the name is among the weak ones.
+pub record AreExports (names weak : List (List ℕ)) (exports : List Export) : Type 0 where
+  pub order : AreInOrder exports
+  pub all : (name : List ℕ) → Contains names name → (export : Export) × Contains exports export × (export.name ≡ name)
+  pub only : (export : Export) → Contains exports export → Contains names export.name
+  pub strong : (export : Export) → Contains exports export → IsTrue export.weak → Contains weak export.name
+  pub weakly : (export : Export) → Contains exports export → Contains weak export.name → IsTrue export.weak

@@ -1,9 +1,6 @@
 -- What documents say as a stub library (TBD v4), and the first document at fault.
 use Rattle.std.specs.Prelude.{ℕ, ◌+◌, ◌==◌, ◌&&◌, Bool, false, List, [], ◌∷◌, codes, unwrap_or, All, Option, Some, None, Result, Ok, Err, if◌then◌else◌}
 use Rattle.std.specs.List.{flat_map, AllByRecursion}
-use Rattle.std.specs.List.Sorted.{IsStrictlySortedBy}
-use Rattle.std.specs.Ordering.{nat_cmp, on}
-use Rattle.std.specs.Cmp.Lexicographic.{slice_cmp}
 use Rattle.std.specs.Str.{bytes_eq}
 use Rattle.mo_cmd.specs.Numbers.{version_of}
 use Rattle.mo_types.specs.Gives.{◌>>=◌}
@@ -17,7 +14,7 @@ use Rattle.tbd_doc.specs.declared.stub.Stub.{Stub}
 use Rattle.tbd_doc.specs.declared.stub.StubFile.{StubFile}
 use Rattle.tbd_doc.specs.Nodes.{Field, fields_of, value_of, text_under, tree_of}
 use Rattle.tbd_doc.specs.Forms.{is_well_formed, has_text}
-use Rattle.tbd_doc.specs.Exports.{counted, exporting, library_names, exported_names, weak_names, exports_of}
+use Rattle.tbd_doc.specs.Exports.{counted, exporting, library_names, exported_names, weak_names, exports_of, AreInOrder}
 
 -- a fault that documents may have
 abbrev pub IsStubFault : StubFault → Type 0
@@ -26,10 +23,6 @@ IsStubFault NoTarget = Unit {0}
 IsStubFault (BadKey doc) = Unit {0}
 IsStubFault OutOfMemory = ⊥
 
--- the exports of a library stand in the order of their names, each once
-abbrev pub AreInOrder : List Export → Type 0
-AreInOrder exports = IsStrictlySortedBy (on (λ export. export.name) (slice_cmp nat_cmp)) exports
-
 abbrev pub IsWholeStub : Stub → Type 0
 IsWholeStub stub = AreInOrder stub.exports
 
@@ -37,13 +30,14 @@ IsWholeStub stub = AreInOrder stub.exports
 abbrev pub IsWhole : StubFile → Type 0
 IsWhole file = All IsWholeStub file.docs
 
-abbrev pub version_in : Option (List ℕ) → Option ℕ
-version_in None = Some 65536
-version_in (Some text) = version_of text
+abbrev pub text_or_empty : Option (List ℕ) → List ℕ
+text_or_empty None = []
+text_or_empty (Some text) = text
 
--- the version under a key, in 16, 8 and 8 bits; where there is none, it is 1
-unfoldable pub version_under : List ℕ → List Field → ℕ
-version_under key fields = unwrap_or (version_in (text_under key fields)) 0
+-- a version in 16, 8 and 8 bits; where there is none, it is 1
+abbrev pub version_or_one : Option (List ℕ) → ℕ
+version_or_one None = 65536
+version_or_one (Some text) = unwrap_or (version_of text) 0
 
 abbrev pub is_text : Option (List ℕ) → List ℕ → Bool
 is_text None text = false
@@ -53,21 +47,31 @@ is_text (Some found) text = bytes_eq found text
 unfoldable pub is_tbd4 : List ℕ → List Field → Bool
 is_tbd4 tag fields = bytes_eq tag (codes "!tapi-tbd") && is_text (text_under (codes "tbd-version") fields) (codes "4")
 
+abbrev pub holds_target : List ℕ → List Field → Bool
+holds_target target fields = has_text (codes "targets") fields target
+
 -- the target that a document is for: arm64 before arm64e
 unfoldable pub target_of : List Field → Option (List ℕ)
 target_of fields =
-    if has_text (codes "targets") fields (codes "arm64-macos") then Some (codes "arm64-macos")
-    else if has_text (codes "targets") fields (codes "arm64e-macos") then Some (codes "arm64e-macos")
+    if holds_target (codes "arm64-macos") fields then Some (codes "arm64-macos")
+    else if holds_target (codes "arm64e-macos") fields then Some (codes "arm64e-macos")
     else None
+
+-- the libraries that a document re-exports for a target, and what it exports itself
+unfoldable pub libraries_of : List ℕ → List Field → List (List ℕ)
+libraries_of target fields = flat_map library_names (counted target (codes "reexported-libraries") fields)
+
+unfoldable pub exports_for : List ℕ → List Field → List Export
+exports_for target fields = exports_of (flat_map exported_names (exporting target fields)) (flat_map weak_names (exporting target fields))
 
 -- what a document says for a target
 unfoldable pub stub_of : List ℕ → List Field → Stub
 stub_of target fields = record {
-  install = unwrap_or (text_under (codes "install-name") fields) [];
-  current = version_under (codes "current-version") fields;
-  compatible = version_under (codes "compatibility-version") fields;
-  reexports = flat_map library_names (counted target (codes "reexported-libraries") fields);
-  exports = exports_of (flat_map exported_names (exporting target fields)) (flat_map weak_names (exporting target fields));
+  install = text_or_empty (text_under (codes "install-name") fields);
+  current = version_or_one (text_under (codes "current-version") fields);
+  compatible = version_or_one (text_under (codes "compatibility-version") fields);
+  reexports = libraries_of target fields;
+  exports = exports_for target fields;
 }
 
 -- Of a document by its number what it says for its target, nothing where it is passed over, or its fault: the first
