@@ -1,13 +1,13 @@
 -- Loops over the places of nodes.
-use Rattle.std.proofs.Common.{◌≡◌, ℕ, ◌+◌, ◌<◌, ◌≤◌, List, [], ◌∷◌, ◌++◌, Option, Some, None, Bool, true, false, length, get_or, take, drop, map, filter, refl, sym, ap, ◌∙◌, append-nil, append_assoc}
+use Rattle.std.proofs.Common.{◌≡◌, ℕ, ◌+◌, ◌<◌, ◌≤◌, List, [], ◌∷◌, Option, Some, Bool, true, false, length, get_or, drop, map, refl, sym, ap, ◌∙◌}
 use Rattle.std.specs.Prelude.{◌&&◌, ◌||◌}
-use Rattle.std.specs.List.{list_all, list_any, flat_map, filter_map}
-use Rattle.std.proofs.lemmas.List.{drop_all, drop_more, take_all, take_more, flat_map_more}
+use Rattle.std.specs.List.{list_all, list_any, filter_map}
+use Rattle.std.proofs.lemmas.List.{drop_all, drop_more}
 use Rattle.tbd_yaml.specs.Tree.{Tree, scalar, list, map as map_of}
 use Rattle.std.specs.Option.{option_map}
 use Rattle.tbd_doc.specs.Forms.{is_list, are_all}
 use Rattle.tbd_doc.specs.Nodes.{text_of, texts_under, items_of}
-use Rattle.tbd_doc.specs.inner.Texts.{text_passes, text_list}
+use Rattle.tbd_doc.specs.inner.Texts.{text_passes}
 
 -- Whether all elements pass a test.
 

@@ -1,16 +1,15 @@
 -- Names in order, and the exports of names.
-use Rattle.std.proofs.Common.{◌≡◌, ℕ, ◌+◌, ◌<◌, ◌≤◌, ◌⊎◌, ◌++◌, Bool, true, false, List, [], ◌∷◌, length, take, map, get_or, refl, sym, ap, subst, ◌∙◌, inl, inr, arith, Contains, IsPermutation}
-use Rattle.std.specs.Prelude.{IsTrue, nat_eq}
-use Rattle.std.specs.Bool.{Decides}
+use Rattle.std.proofs.Common.{◌≡◌, ℕ, ◌<◌, ◌≤◌, ◌⊎◌, Bool, true, false, List, [], ◌∷◌, length, map, get_or, refl, sym, ap, subst, ◌∙◌, inl, inr, arith, Contains, IsPermutation}
+use Rattle.std.specs.Prelude.{nat_eq}
 use Rattle.std.specs.List.{dedup, list_any, AllByRecursion, HoldsAt}
 use Rattle.std.specs.List.Sorted.{IsStrictlySortedBy, IsSorted, IsNonDecreasingBy, IsPartitionPoint}
 use Rattle.std.specs.declared.cmp.Ordering.{Ordering}
 use Rattle.std.specs.declared.cmp.Ordering.TheVariants.{Less, Equal, Greater}
-use Rattle.std.specs.Ordering.{nat_cmp, match_ordering, on, is_eq, ordering_index, ordering_reverse}
+use Rattle.std.specs.Ordering.{nat_cmp, match_ordering, is_eq, ordering_index, ordering_reverse}
 use Rattle.std.specs.Cmp.{both_ways}
 use Rattle.std.specs.Cmp.Lexicographic.{slice_cmp, pointwise, nat_list_cmp_total, nat_list_eq_equiv, texts_ties}
 use Rattle.std.specs.Str.{bytes_eq}
-use Rattle.std.proofs.lemmas.Bool.{cases_lt, true≢false}
+use Rattle.std.proofs.lemmas.Bool.{cases_lt}
 use Rattle.std.proofs.lemmas.Cmp.{tied_itself}
 use Rattle.std.proofs.lemmas.Slice.Eq.{bytes_eq-Decides}
 use Rattle.std.proofs.lemmas.List.Kept.{IsStrictlySortedBy-dedup, Contains-dedup, Contains-from_dedup}
@@ -159,3 +158,39 @@ exports_made old_names old_weak names weak seen_names seen_weak exports in_names
 
 pub weak_rises : (old weak seen : List (List ℕ)) → weak ≡ in_order old → seen ≡ weak → IsStrictlySortedBy below seen
 weak_rises old weak seen is same = subst (IsStrictlySortedBy below) (sym (same ∙ is)) (order_rises old)
+
+risen : (weak names : List (List ℕ)) → IsStrictlySortedBy below names → AreInOrder (map (export_among weak) names)
+unfolding IsStrictlySortedBy
+risen weak [] rises = tt
+risen weak (name ∷ names) rises = (all_map (export_among weak) (λ export. below name export.name ≡ Less) names rises.0, risen weak names rises.1)
+
+pub exports_in_order : (names weak : List (List ℕ)) → AreInOrder (exports_of names weak)
+unfolding exports_of
+exports_in_order names weak = risen weak (in_order names) (order_rises names)
+
+from_exports : (names weak : List (List ℕ)) (export : Export) → Contains (exports_of names weak) export → (name : List ℕ) × In name names × (export_among weak name ≡ export)
+unfolding exports_of
+from_exports names weak export h =
+    let there = from_map (export_among weak) (in_order names) export (in_from_Contains (map (export_among weak) (in_order names)) export h) in
+    (there.0, from_order names there.0 there.1, there.2)
+
+to_exports : (names weak : List (List ℕ)) (name : List ℕ) → Contains names name → Contains (exports_of names weak) (export_among weak name)
+unfolding exports_of
+to_exports names weak name h =
+    Contains_from_in (map (export_among weak) (in_order names)) (export_among weak name)
+    (in_map (export_among weak) (in_order names) name (to_order names name (in_from_Contains names name h)))
+
+pub exports_are : (names weak : List (List ℕ)) → AreExports names weak (exports_of names weak)
+exports_are names weak = record {
+  order = exports_in_order names weak;
+  all = λ name h. (export_among weak name, to_exports names weak name h, refl);
+  only = λ export h. let there = from_exports names weak export h in subst (λ (e : Export). Contains names e.name) there.2 (Contains_from_in names there.0 there.1);
+  strong = λ export h is.
+      let there = from_exports names weak export h in
+      let found = any_true (bytes_eq there.0) weak (ap (λ (e : Export). e.weak) there.2 ∙ is) in
+      subst (λ (e : Export). Contains weak e.name) there.2 (subst (Contains weak) (sym (same_text there.0 found.0 found.2)) (Contains_from_in weak found.0 found.1));
+  weakly = λ export h is.
+      let there = from_exports names weak export h in
+      sym (ap (λ (e : Export). e.weak) there.2)
+      ∙ any_from_in (bytes_eq there.0) weak export.name (in_from_Contains weak export.name is) (itself there.0 export.name (ap (λ (e : Export). e.name) there.2));
+}

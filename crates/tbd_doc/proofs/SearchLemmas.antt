@@ -1,18 +1,14 @@
 -- The searches through a walk.
-use Rattle.std.proofs.Common.{◌≡◌, ℕ, zero, suc, ◌+◌, ◌-◌, ◌<◌, ◌≤◌, List, [], ◌∷◌, ◌++◌, Bool, true, false, cond, length, get_or, take, drop, map, Option, Some, None, refl, sym, ap, ◌∙◌, subst, append_assoc, append-nil, arith, add-one, drop-cons, eqb}
+use Rattle.std.proofs.Common.{◌≡◌, ℕ, zero, suc, ◌+◌, ◌-◌, ◌<◌, ◌≤◌, List, [], ◌∷◌, ◌++◌, Bool, true, false, length, get_or, drop, map, Some, None, refl, sym, ap, ◌∙◌, append_assoc, append-nil, arith}
 use Rattle.std.specs.Prelude.{All, ◌==◌, ◌&&◌, ◌||◌, if◌then◌else◌, slice_get}
-use Rattle.std.specs.List.{find}
-use Rattle.std.specs.Option.{option_map}
 use Rattle.std.specs.Str.{bytes_eq}
 use Rattle.std.proofs.lemmas.Bool.{false≢true}
 use Rattle.std.proofs.lemmas.List.{drop_all, drop_more}
 use Rattle.std.proofs.lemmas.Option.{get_or_from_slice_get}
-use Rattle.std.proofs.lemmas.List.Elements.{All-nil}
-use Rattle.std.proofs.lemmas.Grind.{common_steps}
 use Rattle.tbd_yaml.specs.declared.file.YamlEvent.{YamlEvent}
 use Rattle.tbd_yaml.specs.declared.file.YamlEvent.TheVariants as event
-use Rattle.tbd_yaml.specs.Tree.{Tree, scalar, list, map as map_of, events_of, tree_events, pair_events}
-use Rattle.tbd_doc.specs.Nodes.{Field, items_of, fields_of, text_of, value_of}
+use Rattle.tbd_yaml.specs.Tree.{Tree, scalar, list, map as map_of, events_of}
+use Rattle.tbd_doc.specs.Nodes.{Field, items_of, fields_of, value_of}
 use Rattle.tbd_doc.specs.Forms.{is_list, is_map}
 use Rattle.tbd_doc.specs.inner.Places.{tree_at, IsNode, field_at, key_of, key_in, nodes_from, depth_after, is_end, is_node, first_event}
 use Rattle.tbd_doc.proofs.WalkLemmas.{items_found, fields_found, nodes_found}

@@ -1,5 +1,5 @@
 -- A walk is put together to its tree, and the nodes of a block stand at the places that a search for them finds.
-use Rattle.std.proofs.Common.{◌≡◌, ℕ, zero, suc, ◌+◌, ◌-◌, ◌<◌, ◌≤◌, List, [], ◌∷◌, ◌++◌, Bool, true, false, length, drop, map as each, refl, sym, ap, ◌∙◌, subst, append_assoc, append-nil, arith, length-append, add_assoc, eqb}
+use Rattle.std.proofs.Common.{◌≡◌, ℕ, suc, ◌+◌, ◌-◌, List, [], ◌∷◌, ◌++◌, true, false, length, drop, map as each, refl, sym, ap, ◌∙◌, subst, append_assoc, append-nil, arith, length-append, eqb}
 use Rattle.std.specs.List.{AllByRecursion}
 use Rattle.std.specs.Prelude.{All, ◌||◌}
 use Rattle.std.proofs.Math.Seq.{drop-append_seam}
@@ -9,10 +9,10 @@ use Rattle.std.proofs.lemmas.List.{drop-drop}
 use Rattle.std.proofs.lemmas.List.Elements.{All-from_recursion}
 use Rattle.tbd_yaml.specs.declared.file.YamlEvent.{YamlEvent}
 use Rattle.tbd_yaml.specs.declared.file.YamlEvent.TheVariants as event
-use Rattle.tbd_yaml.specs.Tree.{Tree, scalar, list, map, Trees, no_trees, tree, Pairs, no_pairs, pair, events_of, tree_events, pair_events, IsWalk}
-use Rattle.tbd_doc.specs.Nodes.{Field, Opened, with_node, keyed, with_event, blocks_of, first_node, tree_of, items_in, fields_in, items_of, fields_of}
+use Rattle.tbd_yaml.specs.Tree.{Tree, scalar, list, map, Trees, no_trees, tree, Pairs, no_pairs, pair, events_of, tree_events, pair_events}
+use Rattle.tbd_doc.specs.Nodes.{Field, Opened, with_node, with_event, blocks_of, first_node, tree_of, items_in, fields_in, items_of, fields_of}
 use Rattle.tbd_doc.specs.Forms.{is_list, is_map}
-use Rattle.tbd_doc.specs.inner.Places.{tree_at, IsNode, field_at, key_in, nodes_from, depth_after, is_end, is_node}
+use Rattle.tbd_doc.specs.inner.Places.{tree_at, IsNode, field_at, key_in, nodes_from}
 
 -- An event, and what stands behind it.
 

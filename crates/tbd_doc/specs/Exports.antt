@@ -1,6 +1,6 @@
 -- The names that a document exports (TBD v4), and their order.
-use Rattle.std.specs.Prelude.{ℕ, ◌≡◌, ◌++◌, Bool, not, IsTrue, List, [], ◌∷◌, map, filter, Contains, codes, nat_eq, Option, Some, None}
-use Rattle.std.specs.List.{list_any, starts_with, flat_map}
+use Rattle.std.specs.Prelude.{ℕ, ◌≡◌, ◌++◌, Bool, true, not, List, [], ◌∷◌, map, filter, Contains, codes, nat_eq, Option, Some, None}
+use Rattle.std.specs.List.{list_any, starts_with}
 use Rattle.std.specs.Str.{bytes_eq}
 use Rattle.std.specs.List.Sorted.{IsStrictlySortedBy}
 use Rattle.std.specs.Ordering.{nat_cmp, match_ordering, on}
@@ -88,5 +88,5 @@ pub record AreExports (names weak : List (List ℕ)) (exports : List Export) : T
   pub order : AreInOrder exports
   pub all : (name : List ℕ) → Contains names name → (export : Export) × Contains exports export × (export.name ≡ name)
   pub only : (export : Export) → Contains exports export → Contains names export.name
-  pub strong : (export : Export) → Contains exports export → IsTrue export.weak → Contains weak export.name
-  pub weakly : (export : Export) → Contains exports export → Contains weak export.name → IsTrue export.weak
+  pub strong : (export : Export) → Contains exports export → export.weak ≡ true → Contains weak export.name
+  pub weakly : (export : Export) → Contains exports export → Contains weak export.name → export.weak ≡ true

@@ -4,7 +4,7 @@ use Rattle.std.specs.List.{flat_map, AllByRecursion}
 use Rattle.std.specs.Str.{bytes_eq}
 use Rattle.mo_cmd.specs.Numbers.{version_of}
 use Rattle.mo_types.specs.Gives.{◌>>=◌}
-use Rattle.tbd_yaml.specs.Tree.{Tree, HasTree}
+use Rattle.tbd_yaml.specs.Tree.{HasTree}
 use Rattle.tbd_yaml.specs.declared.file.YamlDoc.{YamlDoc}
 use Rattle.tbd_yaml.specs.declared.file.YamlFile.{YamlFile}
 use Rattle.tbd_doc.specs.declared.fault.StubFault.{StubFault}
@@ -12,7 +12,7 @@ use Rattle.tbd_doc.specs.declared.fault.StubFault.TheVariants.{NotTbd4, NoTarget
 use Rattle.tbd_doc.specs.declared.stub.Export.{Export}
 use Rattle.tbd_doc.specs.declared.stub.Stub.{Stub}
 use Rattle.tbd_doc.specs.declared.stub.StubFile.{StubFile}
-use Rattle.tbd_doc.specs.Nodes.{Field, fields_of, value_of, text_under, tree_of}
+use Rattle.tbd_doc.specs.Nodes.{Field, fields_of, text_under, tree_of}
 use Rattle.tbd_doc.specs.Forms.{is_well_formed, has_text}
 use Rattle.tbd_doc.specs.Exports.{counted, exporting, library_names, exported_names, weak_names, exports_of, AreInOrder}
 

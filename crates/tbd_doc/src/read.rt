@@ -139,7 +139,6 @@ fn exports_for(
     exports_of(alloc, names, weak)
 }
 
-#[tactic(auto, unfolding(crate::specs::Stubs::stub_of))]
 fn stub_of(
     alloc: Global,
     events: &[YamlEvent],
@@ -181,6 +180,7 @@ fn stub_for(
     Ok(Some(stub_of(alloc, events, fields, target)?))
 }
 
+#[tactic(auto, unfolding(crate::specs::Stubs::stub_at))]
 fn stub_in(
     alloc: Global,
     number: u32,
@@ -198,7 +198,6 @@ fn stub_in(
     stub_for(alloc, number, events, fields, target)
 }
 
-#[tactic(auto, using(crate::proofs::StubLemmas::whole_node))]
 fn stub_at(alloc: Global, number: u32, doc: &YamlDoc) -> Result<Option<Stub>, StubFault>
     requires { HasTree doc.now }
     ensures { Gives IsStubFault result (spec.stub_at number doc.now.tag (fields_of (tree_of doc.now.events))) }

@@ -1,10 +1,9 @@
 -- The nodes of a walk by the places of their first events.
-use Rattle.std.specs.Prelude.{ℕ, ◌+◌, ◌-◌, ◌≡◌, ◌==◌, ◌&&◌, Bool, true, false, List, [], ◌∷◌, ◌++◌, drop, map, All, Option, Some, None, if◌then◌else◌}
-use Rattle.std.specs.Option.{option_map}
+use Rattle.std.specs.Prelude.{ℕ, ◌+◌, ◌-◌, ◌≡◌, ◌==◌, ◌&&◌, Bool, true, false, List, [], ◌∷◌, ◌++◌, drop, if◌then◌else◌}
 use Rattle.tbd_yaml.specs.declared.file.YamlEvent.{YamlEvent}
 use Rattle.tbd_yaml.specs.declared.file.YamlEvent.TheVariants as event
 use Rattle.tbd_yaml.specs.Tree.{Tree, scalar, list, map as map_of, events_of}
-use Rattle.tbd_doc.specs.Nodes.{Field, items_of, fields_of, tree_of}
+use Rattle.tbd_doc.specs.Nodes.{Field, tree_of}
 
 -- the tree at a place
 abbrev pub tree_at : List YamlEvent → ℕ → Tree

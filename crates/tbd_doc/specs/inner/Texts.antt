@@ -1,5 +1,5 @@
 -- What is read of an item, and of the scalars of a list, one by one.
-use Rattle.std.specs.Prelude.{ℕ, Bool, false, List, [], ◌∷◌, if◌then◌else◌}
+use Rattle.std.specs.Prelude.{ℕ, Bool, false, List, [], if◌then◌else◌}
 use Rattle.std.specs.Option.{option_to_list}
 use Rattle.tbd_yaml.specs.Tree.{Tree, scalar, list, map}
 use Rattle.tbd_doc.specs.declared.names.NameKind.{NameKind}

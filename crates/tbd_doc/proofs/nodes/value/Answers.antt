@@ -1,4 +1,4 @@
-use Rattle.std.proofs.Common.{◌≡◌, ap, sym, refl, ◌∙◌}
+use Rattle.std.proofs.Common.{ap, sym, refl, ◌∙◌}
 use Rattle.std.specs.Str.{bytes_eq}
 use Rattle.tbd_doc.proofs.SearchLemmas.{look_finds, look_goes_on}
 use Rattle.tbd_doc.proofs.nodes.value.Goals as goal
