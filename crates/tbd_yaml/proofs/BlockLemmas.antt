@@ -1,5 +1,6 @@
 -- Open blocks.
-use Rattle.std.proofs.Common.{◌≡◌, ℕ, ◌+◌, ◌<◌, ◌≤◌, List, [], ◌∷◌, ◌++◌, length, map, reverse, Bool, true, false, Result, Ok, Err, refl, sym, ap, ◌∙◌, arith, tests, subst, drop, ◌&&◌, append_assoc, append-nil}
+use Rattle.std.proofs.Common.{◌≡◌, ℕ, ◌+◌, ◌<◌, ◌≤◌, List, [], ◌∷◌, ◌++◌, length, map, reverse, Bool, true, false, Result, Ok, Err, refl, sym, ap, ◌∙◌, arith, subst, drop, ◌&&◌, append_assoc, append-nil}
+use Rattle.std.proofs.lemmas.Bool.{lt-ltb, le-ltb}
 use Rattle.std.specs.Prelude.{nat_lt}
 use Rattle.std.proofs.lemmas.List.{reverse-append, drop-drop, length-drop}
 use Rattle.mo_types.specs.Gives.{Gives}
@@ -22,18 +23,12 @@ pub record IsClosing (line column : ℕ) (item : Bool) (all : List Block) (first
 pub close_starts : (line column : ℕ) (item : Bool) (all : List Block) (first : List YamlEvent) → IsClosing line column item all first all first
 close_starts line column item all first = record { same = refl }
 
-below_true : (a b : ℕ) → a < b → nat_lt a b ≡ true
-below_true a b below = grind (arith, tests)
-
-below_false : (a b : ℕ) → b ≤ a → nat_lt a b ≡ false
-below_false a b above = grind (arith, tests)
-
 pub close_goes_on : (line column : ℕ) (item : Bool) (all blocks outer : List Block) (first events more : List YamlEvent) (block : Block)
     → IsClosing line column item all first blocks events → blocks ≡ block ∷ outer → column ≤ block.column → goes_on column item block ≡ false → more ≡ events ++ event.End ∷ []
     → IsClosing line column item all first outer more
 close_goes_on line column item all blocks outer first events more block closing is within other pushed = record {
   same =
-      let low : nat_lt block.column column ≡ false = below_false block.column column within in
+      let low : nat_lt block.column column ≡ false = le-ltb block.column column within in
       let e : closed_to line column item (block ∷ outer) events ≡ closed_to line column item outer (events ++ event.End ∷ []) = rw (low, other) refl in
       ap (closed_to line column item outer) pushed ∙ sym e ∙ ap (λ blocks. closed_to line column item blocks events) (sym is) ∙ closing.same;
 }
@@ -42,7 +37,7 @@ pub close_stops : (line column : ℕ) (item : Bool) (all blocks outer kept : Lis
     → IsClosing line column item all first blocks events → blocks ≡ block ∷ outer → column ≤ block.column → goes_on column item block ≡ true → kept ≡ block ∷ outer
     → closed_to line column item all first ≡ Ok (kept, events)
 close_stops line column item all blocks outer kept first events block closing is within same pushed =
-    let low : nat_lt block.column column ≡ false = below_false block.column column within in
+    let low : nat_lt block.column column ≡ false = le-ltb block.column column within in
     let e : closed_to line column item (block ∷ outer) events ≡ Ok (block ∷ outer, events) = rw (low, same) refl in
     sym closing.same ∙ ap (λ blocks. closed_to line column item blocks events) is ∙ e ∙ ap (λ blocks. Ok (blocks, events)) (sym pushed)
 
@@ -50,7 +45,7 @@ pub close_fails : (line column : ℕ) (item : Bool) (all blocks outer : List Blo
     → IsClosing line column item all first blocks events → blocks ≡ block ∷ outer → block.column < column
     → closed_to line column item all first ≡ Err (At line rule.Indent)
 close_fails line column item all blocks outer first events block closing is below =
-    let low : nat_lt block.column column ≡ true = below_true block.column column below in
+    let low : nat_lt block.column column ≡ true = lt-ltb block.column column below in
     let e : closed_to line column item (block ∷ outer) events ≡ Err (At line rule.Indent) = rw low refl in
     sym closing.same ∙ ap (λ blocks. closed_to line column item blocks events) is ∙ e
 

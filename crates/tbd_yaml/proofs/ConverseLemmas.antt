@@ -1,5 +1,6 @@
 -- What is in the grammar is read: a line in its place in the grammar is read there, where what follows it is.
 use Rattle.std.proofs.Common.{◌≡◌, ℕ, ◌+◌, ◌≤◌, List, [], ◌∷◌, ◌++◌, length, drop, map, Bool, true, false, ◌&&◌, ◌||◌, ◌==◌, not, Option, Some, None, Result, Ok, Err, refl, sym, ap, ◌∙◌, subst, arith, tests, append_assoc, append-nil, take}
+use Rattle.std.proofs.lemmas.Bool.{eq-eqb, eqb-true, and_right}
 use Rattle.std.specs.Prelude.{nat_lt, slice_index, is_none, if◌then◌else◌}
 use Rattle.std.specs.Str.{is_utf8}
 use Rattle.mo_types.specs.Gives.{◌>>=◌}
@@ -27,7 +28,7 @@ use Rattle.tbd_yaml.specs.File.{with_doc, with_mark, with_block_line, flow_in, w
 use Rattle.tbd_yaml.specs.Tree.{Tree, Trees, Pairs, events_of, tree_events, pair_events}
 use Rattle.tbd_yaml.specs.Grammar.{IsPassed, IsBlockLine, content, stands_below, IsItems, next_line, a_comma, an_item, a_bracket, IsValue, a_scalar, a_flow_list, IsBelow, nothing, pass_below, a_block, IsBlock, a_map, a_list, IsPairs, a_pair, IsPairValue, value_here, value_below, IsMorePairs, no_more_pairs, pass_pairs, more_pairs, IsEntries, an_entry, IsEntry, entry_value, entry_map, IsMoreEntries, no_more_entries, pass_entries, more_entries, Document, AreDocuments, the_last_line, the_end, pass_line, a_document, doc_of, HasDocuments, AreDocumentsOf}
 use Rattle.tbd_yaml.proofs.SoundLemmas.{bind_ok, unless_ok, when_ok, ok_same, by_test, both_true}
-use Rattle.tbd_yaml.proofs.GrammarLemmas.{Lines, parent, is_equal, same_stands}
+use Rattle.tbd_yaml.proofs.GrammarLemmas.{Lines, parent, same_stands}
 use Rattle.tbd_yaml.proofs.TreeLemmas.{one_tree}
 
 -- Answers of tests
@@ -46,10 +47,6 @@ on_ok {A = A} r f x y is e = ap (λ (r : Result A YamlFault). r >>= f) is ∙ e
 on_both : {A B C : Type 0} (r : Result A YamlFault) (f : A → B) (g : B → Result C YamlFault) (y : C) → (r >>= λ x. g (f x)) ≡ Ok y → ((r >>= λ x. Ok (f x)) >>= g) ≡ Ok y
 on_both (Ok x) f g y is = is
 on_both (Err e) f g y is = absurd (cc)
-
-never_both : (a : Bool) → (a && false) ≡ false
-never_both true = refl
-never_both false = refl
 
 -- Readings of lines
 
@@ -86,7 +83,7 @@ past_step whole awaits blocks events step tail lines reads = same_reads whole aw
 
 dot_first : (byte : ℕ) (bytes : List ℕ) → is_end (byte ∷ bytes) ≡ true → byte ≡ 0x2e
 unfolding is_end
-dot_first byte bytes is = let e : (0x2e == byte) ≡ true = both_true (0x2e == byte) _ (both_true _ _ is) in sym (is_equal 0x2e byte e)
+dot_first byte bytes is = let e : (0x2e == byte) ≡ true = both_true (0x2e == byte) _ (both_true _ _ is) in sym (eqb-true 0x2e byte e)
 
 empty_no_end : is_end [] ≡ true → ⊥
 unfolding is_end
@@ -215,9 +212,6 @@ abbrev Above : ℕ → Bool → List Block → Type 0
 Above column key_list [] = Unit {0}
 Above column key_list (block ∷ outer) = IsAbove column key_list block
 
-is_same : (x y : ℕ) → x ≡ y → (x == y) ≡ true
-is_same x y is = grind (arith, tests)
-
 no_item : (in_map item : Bool) (fault : YamlFault) (one other : Result Body YamlFault) (next : Body) → in_map ≡ true → (if in_map then (if item then Err fault else one) else other) ≡ Ok next → item ≡ false
 no_item true item fault one other next is entry = (unless_ok item fault one next entry).0
 no_item false item fault one other next is entry = absurd (cc)
@@ -229,7 +223,7 @@ unfolding with_entry
 refuses_by false block outer number column text events kept next item is_a_map at is entry = refl
 refuses_by true block outer number column text events kept next item is_a_map at is entry =
     let found = unless_ok (nat_lt block.column column) (At number rule.Indent) (if goes_on column true block then Ok (block ∷ outer, events) else closed_to number column true outer (events ++ event.End ∷ [])) kept is in
-    let goes : goes_on column true block ≡ true = ap (λ (test : Bool). test && true) (is_same block.column column at) in
+    let goes : goes_on column true block ≡ true = ap (λ (test : Bool). test && true) (eq-eqb block.column column at) in
     let stays : Ok (block ∷ outer, events) ≡ Ok kept =
     sym (by_true (goes_on column true block) (Ok (block ∷ outer, events)) (closed_to number column true outer (events ++ event.End ∷ [])) (Ok (block ∷ outer, events)) goes refl) ∙ found.1 in
     let top : is_map kept.0 ≡ true = ap (λ (kept : List Block × List YamlEvent). is_map kept.0) (sym (ok_same (block ∷ outer, events) kept stays)) ∙ is_a_map in
@@ -268,7 +262,7 @@ closes (level {column = stands} {key_list = key_list} {outer = block} at key is_
     record {
       above = ap (λ (stands : ℕ). nat_lt stands column) (sym at) ∙ found.0;
       apart = level_left (stands == column) (is_item text) key_list key
-          (λ same. map_refuses block outer number column text events kept next is_a_map (at ∙ is_equal stands column same) is entry);
+          (λ same. map_refuses block outer number column text events kept next is_a_map (at ∙ eqb-true stands column same) is entry);
     }
 
 closes_any : (outer : List Block) (stands : ℕ) (key_list : Bool) (number column : ℕ) (text : List ℕ) (events : List YamlEvent) (kept : List Block × List YamlEvent) (next : Body) → Above stands key_list outer
@@ -331,7 +325,7 @@ not_begun : (blocks : List Block) (number column : ℕ) (text : List ℕ) (event
 not_begun [] number column text events kept next top is entry = absurd (cc)
 not_begun (block ∷ outer) number column text events kept next top is entry =
     let found = unless_ok (nat_lt block.column column) (At number rule.Indent) (if goes_on column (is_item text) block then Ok (block ∷ outer, events) else closed_to number column (is_item text) outer (events ++ event.End ∷ [])) kept is in
-    neither (nat_lt block.column column) (block.column == column) (is_item text) found.0 (λ same. map_refuses block outer number column text events kept next top (is_equal block.column column same) is entry)
+    neither (nat_lt block.column column) (block.column == column) (is_item text) found.0 (λ same. map_refuses block outer number column text events kept next top (eqb-true block.column column same) is entry)
 
 like_nothing : (blocks : List Block) (events : List YamlEvent) → MapTop blocks → IsLike (body_of false blocks (events ++ event.Scalar [] ∷ [])) (body_of true blocks events)
 unfolding whole_events placed
@@ -367,7 +361,7 @@ unfolding ends with_next flow_of
 items_read (next_line {wants = wants} {line = line} {lines = lines} utf8 items) whole blocks events reads place others flow count =
     let given : FlowList = record { opened = place.opened; wants = wants } in
     let body = flow_body blocks events (Some given) in
-    goes_to line lines count (reading_of whole body) whole.file (never_both (is_end line && is_utf8 line)) utf8
+    goes_to line lines count (reading_of whole body) whole.file (and_right (is_end line && is_utf8 line) false refl) utf8
     (on_both (with_flow (record { opened = place.opened; line = count + 1 }) wants true line body) (λ body. reading_of whole body) (λ reading. read_on (count + 1) reading lines) whole.file
     (items_read items whole blocks events reads (record { opened = place.opened; line = count + 1 }) events (Some given) (count + 1)))
 items_read (a_comma items) whole blocks events reads place others flow count = items_read items whole blocks events reads place others flow count
@@ -483,7 +477,7 @@ stay_reads whole block outer events line lines is at goes reads =
     (by_false (nat_lt block.column (spaces line)) (Err (At (count + 1) rule.Indent)) (if goes_on (spaces line) (is_item (content line)) block then Ok (block ∷ outer, events) else closed_to (count + 1) (spaces line) (is_item (content line)) outer (events ++ event.End ∷ []))
     (Ok (block ∷ outer, events)) (not_less (spaces line) block.column at)
     (by_true (goes_on (spaces line) (is_item (content line)) block) (Ok (block ∷ outer, events)) (closed_to (count + 1) (spaces line) (is_item (content line)) outer (events ++ event.End ∷ [])) (Ok (block ∷ outer, events))
-    (ap (λ (same : Bool). same && (is_item (content line) || not (is_key_list block.form))) (is_same block.column (spaces line) (sym at)) ∙ goes) refl)) refl in
+    (ap (λ (same : Bool). same && (is_item (content line) || not (is_key_list block.form))) (eq-eqb block.column (spaces line) (sym at)) ∙ goes) refl)) refl in
     ap (λ (made : Result Body YamlFault). (made >>= λ body. with_entry (count + 1) (spaces line) (content line) body) >>= λ body. read_on (count + 1) (reading_of whole body) lines) stays
     ∙ ap (λ (column : ℕ). with_entry (count + 1) column (content line) body >>= λ body. read_on (count + 1) (reading_of whole body) lines) at ∙ reads count)
 
@@ -526,7 +520,7 @@ above_map [] column stands = tt
 above_map (block ∷ outer) column stands = higher (lower_by (nat_lt block.column column) (block.column == column) stands)
 
 above_by : (same : Bool) (block : Block) (column : ℕ) → (block.column == column) ≡ same → is_map_form block.form ≡ true → (nat_lt block.column column || (same && true)) ≡ true → IsAbove column (is_key_list (if same then form.KeyList else form.List)) block
-above_by true block column is top stands = level (is_equal block.column column is) refl top
+above_by true block column is top stands = level (eqb-true block.column column is) refl top
 above_by false block column is top stands = higher (lower_by (nat_lt block.column column) true stands)
 
 above_list : (blocks : List Block) (column : ℕ) → MapTop blocks → stands_below (parent blocks) column true ≡ true → Above column (is_key_list (list_form column blocks)) blocks

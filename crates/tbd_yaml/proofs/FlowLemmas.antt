@@ -1,5 +1,6 @@
 -- Flow lists, token by token.
 use Rattle.std.proofs.Common.{◌≡◌, ℕ, zero, suc, ◌+◌, ◌-◌, ◌<◌, ◌≤◌, ◌==◌, ◌&&◌, ◌||◌, List, [], ◌∷◌, length, take, drop, get_or, Bool, true, false, Option, Result, Ok, Err, refl, sym, ap, ◌∙◌, subst, add-one, arith, tests}
+use Rattle.std.proofs.lemmas.Bool.{eq-eqb, ne_eqb}
 use Rattle.std.proofs.lemmas.List.{at_drop_more, at_drop_all, drop-drop, length-drop, get_or-drop, drop_more}
 use Rattle.mo_types.specs.Gives.{◌>>=◌, Gives}
 use Rattle.std.specs.Prelude.{nat_lt, if◌then◌else◌}
@@ -17,7 +18,7 @@ use Rattle.tbd_yaml.specs.Lines.{blanks, is_ended, trimmed}
 use Rattle.tbd_yaml.specs.Flow.{Lexed, lexed, mark, quoted_token, plain_token, forbidden_token, tokens_from, with_token, with_tokens, settled, new_state, flow_of}
 use Rattle.tbd_yaml.specs.inner.Tokens.{IsLexeme, IsFirst}
 
-gives_same : {A : Type 0} (result given : Result A YamlFault) → result ≡ given → Gives IsYamlFault result given
+pub gives_same : {A : Type 0} (result given : Result A YamlFault) → result ≡ given → Gives IsYamlFault result given
 gives_same (Ok x) given is = sym is
 gives_same (Err e) given is = λ _. sym is
 
@@ -120,12 +121,6 @@ pub ruleset nexts = (no_token, comment_token, first_token)
 
 -- Tokens at a place
 
-equal_true : (x y : ℕ) → x ≡ y → (x == y) ≡ true
-equal_true x y is = grind (arith, tests)
-
-equal_false : (x y : ℕ) → (x ≡ y → ⊥) → (x == y) ≡ false
-equal_false x y other = grind (arith, tests)
-
 as_lexed : (line : List ℕ) (at : ℕ) (lexeme : Lexeme) (one other : Lexed) → one ≡ other → IsLexeme line at lexeme other → IsLexeme line at lexeme one
 as_lexed line at lexeme one other is lexeme_is = subst (IsLexeme line at lexeme) (sym is) lexeme_is
 
@@ -142,15 +137,15 @@ pub lex_comma : (line : List ℕ) (at byte : ℕ) (lexeme : Lexeme) → at < len
     → IsLexeme line at lexeme (lexed byte (drop (at + 1) line))
 unfolding lexed
 lex_comma line at byte lexeme more comma is =
-    let t : (byte == 0x2c) ≡ true = equal_true byte 0x2c comma in
+    let t : (byte == 0x2c) ≡ true = eq-eqb byte 0x2c comma in
     as_lexed line at lexeme (lexed byte (drop (at + 1) line)) (mark token.Comma) (rw t refl) (as_mark line at token.Comma lexeme more is)
 
 pub lex_close : (line rest : List ℕ) (at byte : ℕ) (ended : Bool) (lexeme : Lexeme) → at < length line → rest ≡ drop (at + 1) line → (byte ≡ 0x2c → ⊥) → byte ≡ 0x5d → ended ≡ is_ended rest
     → lexeme ≡ record { token = token.Close ended; next = at + 1; spaced = false } → IsLexeme line at lexeme (lexed byte (drop (at + 1) line))
 unfolding lexed
 lex_close line rest at byte ended lexeme more rest_is other close ended_is is =
-    let t : (byte == 0x2c) ≡ false = equal_false byte 0x2c other in
-    let u : (byte == 0x5d) ≡ true = equal_true byte 0x5d close in
+    let t : (byte == 0x2c) ≡ false = ne_eqb byte 0x2c other in
+    let u : (byte == 0x5d) ≡ true = eq-eqb byte 0x5d close in
     let e : is_ended (drop (at + 1) line) ≡ ended = ap is_ended (sym rest_is) ∙ sym ended_is in
     as_lexed line at lexeme (lexed byte (drop (at + 1) line)) (mark (token.Close ended)) (rw (t, u) (ap (λ ended. mark (token.Close ended)) e)) (as_mark line at (token.Close ended) lexeme more is)
 
@@ -162,8 +157,8 @@ pub lex_colon : (line text : List ℕ) (at byte : ℕ) (lexeme : Lexeme) → at 
     → lexeme ≡ record { token = token.Colon; next = at + 1; spaced = false } → IsLexeme line at lexeme (lexed byte (drop (at + 1) line))
 unfolding lexed
 lex_colon line text at byte lexeme more byte_is text_is other another end is =
-    let t : (byte == 0x2c) ≡ false = equal_false byte 0x2c other in
-    let u : (byte == 0x5d) ≡ false = equal_false byte 0x5d another in
+    let t : (byte == 0x2c) ≡ false = ne_eqb byte 0x2c other in
+    let u : (byte == 0x5d) ≡ false = ne_eqb byte 0x5d another in
     let e : is_key_end (byte ∷ drop (at + 1) line) ≡ true = ap is_key_end (whole line text at byte more byte_is text_is) ∙ end in
     as_lexed line at lexeme (lexed byte (drop (at + 1) line)) (mark token.Colon) (rw (t, u, e) refl) (as_mark line at token.Colon lexeme more is)
 
@@ -175,8 +170,8 @@ pub record IsInside (line : List ℕ) (at byte : ℕ) : Type 0 where
 
 pub inside : (line text : List ℕ) (at byte : ℕ) → at < length line → byte ≡ get_or line at 0 → text ≡ drop at line → (byte ≡ 0x2c → ⊥) → (byte ≡ 0x5d → ⊥) → is_key_end text ≡ false → IsInside line at byte
 inside line text at byte more byte_is text_is other another end = record {
-  comma = equal_false byte 0x2c other;
-  close = equal_false byte 0x5d another;
+  comma = ne_eqb byte 0x2c other;
+  close = ne_eqb byte 0x5d another;
   colon = ap is_key_end (whole line text at byte more byte_is text_is) ∙ end;
 }
 

@@ -1,5 +1,6 @@
 -- What is read is in the grammar: with what may follow a line, the line stands in the grammar's place for it.
-use Rattle.std.proofs.Common.{◌≡◌, ℕ, ◌+◌, ◌≤◌, List, [], ◌∷◌, ◌++◌, length, drop, map, Bool, true, false, ◌&&◌, ◌||◌, ◌==◌, not, Option, Some, None, Ok, Err, refl, sym, ap, ◌∙◌, subst, arith, tests, append_assoc, append-nil}
+use Rattle.std.proofs.Common.{◌≡◌, ℕ, ◌+◌, ◌≤◌, List, [], ◌∷◌, ◌++◌, length, drop, map, Bool, true, false, ◌&&◌, ◌||◌, ◌==◌, not, Option, Some, None, Ok, Err, refl, sym, ap, ◌∙◌, subst, arith, append_assoc, append-nil}
+use Rattle.std.proofs.lemmas.Bool.{eqb-true}
 use Rattle.std.specs.Prelude.{nat_lt, is_none, if◌then◌else◌}
 use Rattle.std.specs.Str.{is_utf8}
 use Rattle.mo_types.specs.Gives.{◌>>=◌}
@@ -388,9 +389,6 @@ record IsTop (column : ℕ) (left : List Block × List YamlEvent) : Type 0 where
   pub top : left.0 ≡ block ∷ outer
   pub stands : block.column ≡ column
 
-pub is_equal : (x y : ℕ) → (x == y) ≡ true → x ≡ y
-is_equal x y is = grind (arith, tests)
-
 second_true : (a b : Bool) → (a && b) ≡ true → b ≡ true
 second_true true b is = is
 second_true false b is = absurd (cc)
@@ -404,7 +402,7 @@ closed_top (block ∷ outer) line column item events kept is =
       block = block;
       outer = outer;
       top = ap (λ (kept : List Block × List YamlEvent). kept.0) (sym (ok_same (block ∷ outer, events) kept e));
-      stands = is_equal block.column column (both_true (block.column == column) (item || not (is_key_list block.form)) goes);
+      stands = eqb-true block.column column (both_true (block.column == column) (item || not (is_key_list block.form)) goes);
     })
     (λ _ e. closed_top outer line column item (events ++ event.End ∷ []) kept e)
 

@@ -1,5 +1,6 @@
 -- Plain scalars and keys, by their places in a line.
 use Rattle.std.proofs.Common.{◌≡◌, ℕ, ◌+◌, ◌-◌, ◌<◌, ◌≤◌, List, [], length, take, drop, get_or, Bool, true, false, ◌&&◌, Option, Some, None, Result, Ok, Err, refl, sym, ap, ◌∙◌, subst, arith, tests}
+use Rattle.tbd_yaml.proofs.FlowLemmas.{gives_same}
 use Rattle.std.proofs.lemmas.List.{at_drop_more, at_drop_all, drop-drop, take-take, length-take}
 use Rattle.tbd_yaml.specs.Characters.{is_blank}
 use Rattle.std.specs.Prelude.{nat_lt, if◌then◌else◌}
@@ -118,10 +119,6 @@ pub ruleset keys = (twice, keyed_behind, plain_keyed, plain_unkeyed, nothing_key
 
 -- Scalars
 
-same_gives : {A : Type 0} (result given : Result A YamlFault) → result ≡ given → Gives IsYamlFault result given
-same_gives (Ok x) given is = sym is
-same_gives (Err e) given is = λ _. sym is
-
 pub no_scalar : (line : ℕ) (text : List ℕ) → is_empty text ≡ true → scalar_of line text ≡ Ok []
 unfolding scalar_of
 no_scalar line text empty = rw empty refl
@@ -133,7 +130,7 @@ scalar_begins line text result some gives = subst (Gives IsYamlFault result) (sy
 pub scalar_quoted : (number : ℕ) (line : List ℕ) (at byte : ℕ) (result : Result (List ℕ) YamlFault) (quoted : Option Quoted) → is_quote byte ≡ true → quoted ≡ quoted_of byte (drop (at + 1) line)
     → result ≡ quoted_alone number quoted → Gives IsYamlFault result (scalar_begun number byte (drop at line))
 scalar_quoted number line at byte result quoted quote is result_is =
-    same_gives result (scalar_begun number byte (drop at line)) (result_is ∙ ap (quoted_alone number) (is ∙ ap (quoted_of byte) (sym (drop-drop 1 at line))) ∙ sym (rw quote refl))
+    gives_same result (scalar_begun number byte (drop at line)) (result_is ∙ ap (quoted_alone number) (is ∙ ap (quoted_of byte) (sym (drop-drop 1 at line))) ∙ sym (rw quote refl))
 
 pub scalar_forbidden : (number : ℕ) (text : List ℕ) (byte : ℕ) → is_quote byte ≡ false → is_forbidden byte ≡ true → scalar_begun number byte text ≡ Err (At number rule.Scalar)
 scalar_forbidden number text byte other forbidden = rw (other, forbidden) refl

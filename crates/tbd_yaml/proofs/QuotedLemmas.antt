@@ -1,5 +1,6 @@
 -- Quoted scalars, unit by unit.
-use Rattle.std.proofs.Common.{◌≡◌, ℕ, zero, suc, ◌+◌, ◌-◌, ◌<◌, ◌≤◌, ◌==◌, ◌&&◌, List, [], ◌∷◌, ◌++◌, length, take, drop, get_or, Bool, true, false, Option, Some, None, refl, sym, ap, ◌∙◌, subst, IfSome, arith, tests, append_assoc, append-nil}
+use Rattle.std.proofs.Common.{◌≡◌, ℕ, zero, suc, ◌+◌, ◌-◌, ◌<◌, ◌≤◌, ◌==◌, ◌&&◌, List, [], ◌∷◌, ◌++◌, length, take, drop, get_or, Bool, true, false, Option, Some, None, refl, sym, ap, ◌∙◌, subst, IfSome, arith, append_assoc, append-nil}
+use Rattle.std.proofs.lemmas.Bool.{eqb-true}
 use Rattle.std.proofs.lemmas.List.{at_drop_more, at_drop_all, drop-drop, take_more, length-drop}
 use Rattle.tbd_yaml.specs.declared.units.QuotedUnit.{QuotedUnit}
 use Rattle.tbd_yaml.specs.declared.units.QuotedUnit.TheVariants.{Closing, Meant, Unknown}
@@ -79,9 +80,6 @@ both_true : (a b : Bool) → (a && b) ≡ true → (a ≡ true) × (b ≡ true)
 both_true true b is = (refl, is)
 both_true false b is = absurd (cc)
 
-is_equal : (x y : ℕ) → (x == y) ≡ true → x ≡ y
-is_equal x y is = grind (arith, tests)
-
 longer_by : (quote byte : ℕ) (text : List ℕ) (span : Span) (unit : QuotedUnit) → IsSpanning quote text span → span.size < length text → byte ≡ get_or text span.size 0
     → unit ≡ unit_of quote (get_or text span.size 0) (drop (span.size + 1) text) → IsUnit (1 + length (drop (span.size + 1) text)) unit
     → (longer : Span) → Some longer ≡ with_unit span byte unit → IsSpanning quote text longer
@@ -93,8 +91,8 @@ longer_by quote byte text span (Meant meant size) spanning more at is unit longe
       read = λ plain.
           let first : ((span.plain && size == 1) ≡ true) × ((meant == byte) ≡ true) = both_true (span.plain && size == 1) (meant == byte) plain in
           let second : (span.plain ≡ true) × ((size == 1) ≡ true) = both_true span.plain (size == 1) first.0 in
-          let one : size ≡ 1 = is_equal size 1 second.1 in
-          let same : meant ≡ get_or text span.size 0 = is_equal meant byte first.1 ∙ at in
+          let one : size ≡ 1 = eqb-true size 1 second.1 in
+          let same : meant ≡ get_or text span.size 0 = eqb-true meant byte first.1 ∙ at in
           let front : take (span.size + size) text ≡ take span.size text ++ meant ∷ [] =
           ap (λ (n : ℕ). take (span.size + n) text) one ∙ take_more text span.size 0 more ∙ ap (λ (b : ℕ). take span.size text ++ b ∷ []) (sym same) in
           ap (λ front. texts front (quoted_from quote 0 (drop (span.size + size) text))) front

@@ -1,5 +1,6 @@
 -- Lines of a text, one by one.
-use Rattle.std.proofs.Common.{◌≡◌, ℕ, ◌+◌, ◌-◌, ◌<◌, ◌≤◌, ◌==◌, ◌++◌, ◌∷◌, [], List, length, map, take, drop, get_or, Bool, true, false, eqb, All, Some, None, Result, Ok, Err, refl, sym, ap, ◌∙◌, subst, arith, tests, add-one, drop-cons}
+use Rattle.std.proofs.Common.{◌≡◌, ℕ, ◌+◌, ◌-◌, ◌<◌, ◌≤◌, ◌==◌, ◌++◌, ◌∷◌, [], List, length, map, take, drop, get_or, Bool, true, false, eqb, All, Some, None, Result, Ok, Err, refl, sym, ap, ◌∙◌, subst, arith, add-one, drop-cons}
+use Rattle.std.proofs.lemmas.Bool.{eq-eqb, ne_eqb, false_from_ne_true}
 use Rattle.std.proofs.lemmas.List.{take-append-drop, take_all, get_or-take, length-take-le, drop-drop, drop_all, take-take, length-drop}
 use Rattle.std.proofs.lemmas.List.Elements.{All-from_get_or}
 use Rattle.std.proofs.lemmas.List.Splits.{slice_split_none, slice_split_at, length-slice_split}
@@ -16,22 +17,16 @@ use Rattle.tbd_yaml.specs.File.{IsYamlFault, read_on, with_next, ends, finished,
 
 -- Carriage returns
 
-equal_true : (x y : ℕ) → x ≡ y → (x == y) ≡ true
-equal_true x y is = grind (arith, tests)
-
-equal_false : (x y : ℕ) → (x ≡ y → ⊥) → (x == y) ≡ false
-equal_false x y other = grind (arith, tests)
-
 pub return_goes : (line : List ℕ) (size : ℕ) → size ≡ length line - 1 → get_or line size 0 ≡ 0x0d → take size line ≡ without_return line
 unfolding without_return
 return_goes line size is byte =
-    let t : (get_or line (length line - 1) 0 == 0x0d) ≡ true = equal_true (get_or line (length line - 1) 0) 0x0d (ap (λ (n : ℕ). get_or line n 0) (sym is) ∙ byte) in
+    let t : (get_or line (length line - 1) 0 == 0x0d) ≡ true = eq-eqb (get_or line (length line - 1) 0) 0x0d (ap (λ (n : ℕ). get_or line n 0) (sym is) ∙ byte) in
     ap (λ (n : ℕ). take n line) is ∙ sym (rw t refl)
 
 pub other_stays : (line : List ℕ) → (get_or line (length line - 1) 0 ≡ 0x0d → ⊥) → take (length line) line ≡ without_return line
 unfolding without_return
 other_stays line other =
-    let t : (get_or line (length line - 1) 0 == 0x0d) ≡ false = equal_false (get_or line (length line - 1) 0) 0x0d other in
+    let t : (get_or line (length line - 1) 0 == 0x0d) ≡ false = ne_eqb (get_or line (length line - 1) 0) 0x0d other in
     take_all (length line) line (omega arith) ∙ sym (rw t refl)
 
 pub nothing_stays : (line : List ℕ) → length line ≤ 0 → take (length line) line ≡ without_return line
@@ -45,10 +40,6 @@ pub ruleset returns = (return_goes, other_stays, nothing_stays)
 
 abbrev is_line_end : ℕ → Bool
 is_line_end byte = eqb byte 0x0a
-
-false_unless : (test : Bool) → (test ≡ true → ⊥) → test ≡ false
-false_unless true never = absurd (never refl)
-false_unless false never = refl
 
 abbrev IsInner : ℕ → Type 0
 IsInner byte = is_line_end byte ≡ false
@@ -69,7 +60,7 @@ pub last_line : (text : List ℕ) (size taken : ℕ) → 0 < length text → IsF
     → take size text ∷ lines_of (drop taken text) ≡ lines_of text
 unfolding lines_of
 last_line text size taken some none line all =
-    let split : slice_split is_line_end text ≡ text ∷ [] = slice_split_none is_line_end text (All-from_get_or IsInner text 0 (λ at within. false_unless (is_line_end (get_or text at 0)) (none at (omega arith) within))) in
+    let split : slice_split is_line_end text ≡ text ∷ [] = slice_split_none is_line_end text (All-from_get_or IsInner text 0 (λ at within. false_from_ne_true (is_line_end (get_or text at 0)) (none at (omega arith) within))) in
     let rest : drop taken text ≡ [] = drop_all taken text (omega arith) in
     ap (λ rest. take size text ∷ lines_of rest) rest ∙ ap (λ line. line ∷ []) line ∙ sym (ap (λ lines. map without_return (whole_lines lines)) split ∙ ap (map without_return) (not_empty text some))
 
@@ -83,7 +74,7 @@ next_line text end size taken found line small behind =
     ap (λ rest. take end text ++ rest) (rw (drop-cons text end 0, add-one) refl) ∙ take-append-drop end text in
     let inner : All IsInner (take end text) = All-from_get_or IsInner (take end text) 0 (λ at within.
     let early : at < end = omega arith in
-    subst IsInner (sym (get_or-take end text at 0 early)) (false_unless (is_line_end (get_or text at 0)) (found.0.before at (omega arith) early))) in
+    subst IsInner (sym (get_or-take end text at 0 early)) (false_from_ne_true (is_line_end (get_or text at 0)) (found.0.before at (omega arith) early))) in
     let split : slice_split is_line_end text ≡ take end text ∷ slice_split is_line_end (drop (end + 1) text) =
     sym (ap (slice_split is_line_end) whole) ∙ slice_split_at is_line_end (take end text) (get_or text end 0) (drop (end + 1) text) inner found.1 in
     let count : length (slice_split is_line_end (drop (end + 1) text)) ≡ count_by is_line_end (drop (end + 1) text) + 1 = length-slice_split is_line_end (drop (end + 1) text) in
@@ -158,6 +149,6 @@ pub utf8_so : (text : List ℕ) → IsUtf8 text → true ≡ is_utf8 text
 utf8_so text is = sym (is_utf8-from_IsUtf8 text is)
 
 pub utf8_not : (text : List ℕ) → (IsUtf8 text → ⊥) → false ≡ is_utf8 text
-utf8_not text never = sym (false_unless (is_utf8 text) (λ holds. never (IsUtf8-from_is_utf8 text holds)))
+utf8_not text never = sym (false_from_ne_true (is_utf8 text) (λ holds. never (IsUtf8-from_is_utf8 text holds)))
 
 pub ruleset utf8 = (utf8_so, utf8_not)

@@ -7,3 +7,4 @@ pub mod Blocks
 pub mod File
 pub mod Tree
 pub mod Grammar
+pub mod FaultText

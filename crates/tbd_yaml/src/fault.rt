@@ -44,13 +44,18 @@ impl<T: Drop> From<AllocFailed<T>> for YamlFault {
 }
 
 impl fmt::Display for YamlFault {
+    ghost use Rattle.std.specs.Prelude.{Some};
+    ghost use Rattle.tbd_yaml.specs.FaultText.{yaml_fault_text};
+
+    ghost output = { λ fault. Some (yaml_fault_text fault) };
+
     fn fmt<W: fmt::Write>(&self, f: &mut fmt::Formatter<W>) -> fmt::Result {
         match self {
             YamlFault::At { line, rule } => {
                 let name = rule.as_str();
                 write!(f, "line {line}: {name}")
             }
-            YamlFault::OutOfMemory => f.write_str("out of memory"),
+            YamlFault::OutOfMemory => write!(f, "out of memory"),
         }
     }
 }
