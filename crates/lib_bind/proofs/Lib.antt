@@ -1,3 +1,4 @@
+pub mod CheckedLemmas
 pub mod FillLemmas
 pub mod IndexLemmas
 pub mod LawLemmas

@@ -1,6 +1,7 @@
 //! The libraries of a link, what they re-export, and which of them provides a name.
 #![tactic(auto)]
 
+mod checks;
 mod fill;
 mod index;
 mod laws;
@@ -10,6 +11,7 @@ mod named;
 mod provider;
 mod reach;
 
+pub use checks::{are_libraries, are_links};
 pub use laws::{
     a_library_reaches_what_paths_lead_to, a_provider_is_the_first,
     without_a_provider_nothing_provides,
