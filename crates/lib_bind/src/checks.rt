@@ -5,6 +5,9 @@ ghost use Rattle.lib_bind.specs.inner.Checked.{IsNext};
 
 use crate::library::{Library, NumberList};
 
+// The most libraries whose ordinals aren't special ones (`loader.h`: BIND_SPECIAL_DYLIB).
+const MOST: usize = 240;
+
 // Whether all numbers are below one.
 fn are_below(numbers: &[usize], end: usize) -> bool
     ensures { IsTrue result ↔ ((number : ℕ) → Contains numbers.now number → number < end) }
@@ -48,7 +51,7 @@ fn is_next(documents: usize, libraries: &[Library], at: usize) -> bool
 pub fn are_libraries(documents: usize, libraries: &[Library]) -> bool
     ensures { IsTrue result ↔ AreLibraries documents libraries.now }
 {
-    if libraries.len() > 240 {
+    if libraries.len() > MOST {
         return false;
     }
     for at in 0..libraries.len() {

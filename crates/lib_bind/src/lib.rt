@@ -10,6 +10,8 @@ mod library;
 mod named;
 mod provider;
 mod reach;
+#[cfg(test)]
+mod tests;
 
 pub use checks::{are_libraries, are_links};
 pub use laws::{
