@@ -7,7 +7,8 @@ use Rattle.std.specs.Option.{option_map}
 use Rattle.mo_strings.specs.Strings.{first_nul}
 use Rattle.mo_strings.proofs.TableLemmas.{nul_first, nul_later}
 use Rattle.mo_ar.specs.Text.{part}
-use Rattle.mo_ar.specs.inner.Hash.{AreMarks, BASIS, hash, hash_on, mixed, tail_hash, tail_with}
+use Rattle.mo_ar.specs.inner.Hash.{AreMarks, BASIS, hash_on, long_hash, mixed, stepped, tail_hash, tail_with, words_hash}
+use Rattle.mo_bytes.specs.Number.{number}
 
 -- the bytes from an index on are in the hash
 pub record IsMixing (before : ℕ) (bytes : List ℕ) (at hash : ℕ) : Type 0 where
@@ -159,10 +160,10 @@ tail_stops (b ∷ bs) zero is within = nul_there b bs (nat_eq b 0) is refl
 tail_stops (b ∷ bs) (suc n) is within = tail_stops bs n (not_nul b bs n is (nat_eq b 0) refl).1 (omega arith)
 
 -- the hash of a string is that of what stands before its NUL
-tail_is : (xs : List ℕ) (n : ℕ) → first_nul xs ≡ Some n → n < length xs → tail_hash xs ≡ hash (take n xs)
+tail_is : (xs : List ℕ) (n : ℕ) → first_nul xs ≡ Some n → n < length xs → tail_hash xs ≡ long_hash (take n xs)
 tail_is xs n is within = tail_splits xs n n is within (omega arith) ∙ ap (λ h. hash_on h (take n xs)) (tail_stops xs n is within)
 
-pub from_mark : (strings marks : List ℕ) (at size mark near result : ℕ) → first_nul (drop at strings) ≡ Some size → at + size < length strings → AreMarks strings marks → mark < length marks → at + near ≡ 64 * mark → near ≤ size → result ≡ hash_on (get_or marks mark 0) (take near (drop at strings)) → result ≡ hash (part strings at size)
+pub from_mark : (strings marks : List ℕ) (at size mark near result : ℕ) → first_nul (drop at strings) ≡ Some size → at + size < length strings → AreMarks strings marks → mark < length marks → at + near ≡ 64 * mark → near ≤ size → result ≡ hash_on (get_or marks mark 0) (take near (drop at strings)) → result ≡ long_hash (part strings at size)
 from_mark strings marks at size mark near result ends within are room place low is =
     let rest : List ℕ = drop at strings in
     let inside : size < length (drop at strings) = let l : length (drop at strings) ≡ length strings - at = length-drop at strings in omega (arith, l, within) in
@@ -171,3 +172,20 @@ from_mark strings marks at size mark near result ends within are room place low 
     is ∙ ap (λ h. hash_on h (take near (drop at strings))) known ∙ sym (tail_splits (drop at strings) near size ends inside low) ∙ tail_is (drop at strings) size ends inside
 
 pub ruleset joins = (from_mark)
+
+-- ---- the hash of a name's words
+
+pub no_words : (name : List ℕ) → words_hash 0 name ≡ length name
+unfolding words_hash
+no_words name = refl
+
+pub one_word_more : (name : List ℕ) (n m hash new : ℕ) → hash ≡ words_hash n name → m ≡ n + 1 → new ≡ stepped hash (number 8 name (8 * n)) → new ≡ words_hash m name
+unfolding words_hash
+one_word_more name n m hash new so_far next is =
+    let e : m ≡ suc n = omega arith in
+    is ∙ ap (λ (h : ℕ). stepped h (number 8 name (8 * n))) so_far ∙ sym (ap (λ (k : ℕ). words_hash k name) e)
+
+pub all_words : (name : List ℕ) (n hash : ℕ) → hash ≡ words_hash n name → length name / 8 ≤ n → n ≤ length name / 8 → hash ≡ words_hash (length name / 8) name
+all_words name n hash is low high = let e : n ≡ length name / 8 = omega arith in is ∙ ap (λ (k : ℕ). words_hash k name) e
+
+pub ruleset words = (no_words, one_word_more, all_words)

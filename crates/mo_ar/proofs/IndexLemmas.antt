@@ -1,88 +1,89 @@
--- The chains of the index.
-use Rattle.std.proofs.Common.{◌≡◌, ℕ, ◌+◌, ◌<◌, ◌≤◌, List, ◌∷◌, length, map, drop, get_or, slice_get, true, false, Bool, inl, inr, subst, Option, Some, None, IfSome, refl, sym, ap, ◌∙◌, arith, add-one, drop-cons}
-use Rattle.std.proofs.lemmas.List.{drop_all, drop-map, length-map, get_or-map, get_or-set_same, get_or-set_other}
+-- The nodes of the index.
+use Rattle.std.proofs.Common.{◌≡◌, ◌≢◌, ℕ, zero, suc, ◌+◌, ◌-◌, ◌<◌, ◌≤◌, List, [], ◌∷◌, ◌++◌, length, map, drop, get_or, min, true, false, Bool, inl, inr, subst, Option, Some, None, IfSome, refl, sym, ap, ◌∙◌, arith, add-one, drop-cons, length-append}
+use Rattle.std.specs.Prelude.{All}
+use Rattle.std.specs.List.{AllPairs}
+use Rattle.std.proofs.lemmas.List.{drop-map, drop_all, get_or-append_right, get_or-set_same, get_or-set_other, length-map}
+use Rattle.std.proofs.lemmas.List.Elements.{All-push, All-set, at_read}
 use Rattle.std.proofs.Math.ListN.{set, length-set}
-use Rattle.std.proofs.lemmas.Bool.{cases_eq}
-use Rattle.std.proofs.lemmas.Option.{slice_get_cases, slice_get-get_or}
+use Rattle.std.proofs.lemmas.Bool.{cases_eq, cases_lt}
 use Rattle.std.proofs.lemmas.Slice.Eq.{bytes_eq-Decides}
 use Rattle.std.specs.Str.{bytes_eq}
-use Rattle.mo_ar.specs.inner.Index.{BeginsAt, IsChained, IsHead, IsIndex, IsEntry, IsLinked, StandsAt, bucket, name_at, offers_of}
+use Rattle.mo_ar.specs.inner.Index.{AreChained, AreNexts, AreNodes, BeginsAt, IsEntry, IsIndex, IsNodeOf, IsOther, StandsAt, bucket, lowered, node_name, offer_of, offers_of}
 use Rattle.mo_ar.specs.Offers.{first_offer, lesser}
-use Rattle.mo_ar.specs.inner.Index.{offer_of}
 use Rattle.mo_ar.specs.Text.{part}
+use Rattle.mo_ar.specs.declared.index.Node.{Node}
 use Rattle.mo_ar.specs.declared.offers.Entry.{Entry}
 use Rattle.mo_ar.specs.declared.offers.Offer.{Offer}
-
--- a search has come from one index to another
-pub record IsFinding (m : ℕ) (offers : List Offer) (name : List ℕ) (from at : ℕ) : Type 0 where
-  pub same : first_offer name (drop at offers) ≡ first_offer name (drop from offers)
-  pub after : from ≤ at
-  pub begins : BeginsAt m offers name at
-
-pub find_starts : (m : ℕ) (offers : List Offer) (name : List ℕ) (from : ℕ) → BeginsAt m offers name from → IsFinding m offers name from from
-find_starts m offers name from begins = record { same = refl; after = omega arith; begins = begins }
-
--- the offers from an index on begin with the one there
-there : (offers : List Offer) (i : ℕ) (x : Offer) → i < length offers → slice_get offers i ≡ Some x → get_or offers i x ≡ x → (offer : Offer) × (drop i offers ≡ offer ∷ drop (i + 1) offers) × (name_at offers i ≡ offer.name)
-unfolding name_at
-there offers i x within found is =
-    let e : drop i offers ≡ x ∷ drop (i + 1) offers = rw (drop-cons offers i x, is, add-one) refl in
-    (x, e, rw found refl)
-
-from_there : (offers : List Offer) (i : ℕ) → i < length offers → (offer : Offer) × (drop i offers ≡ offer ∷ drop (i + 1) offers) × (name_at offers i ≡ offer.name)
-from_there offers i within =
-    elim (slice_get_cases offers i).1 [
-      | inl p ↦ there offers i p.0 within p.2 p.3
-      | inr q ↦ absurd (omega (arith, q.0))
-    ]
-
--- another name is passed over
-pub passed_over : (offers : List Offer) (name : List ℕ) (i : ℕ) → i < length offers → bytes_eq (name_at offers i) name ≡ false → first_offer name (drop i offers) ≡ first_offer name (drop (i + 1) offers)
-unfolding first_offer
-passed_over offers name i within other =
-    let t : (offer : Offer) × (drop i offers ≡ offer ∷ drop (i + 1) offers) × (name_at offers i ≡ offer.name) = from_there offers i within in
-    let o : bytes_eq t.0.name name ≡ false = rw t.2 at other in
-    let e : first_offer name (t.0 ∷ drop (i + 1) offers) ≡ first_offer name (drop (i + 1) offers) = rw o refl in
-    ap (first_offer name) t.1 ∙ e
-
-pub find_goes_on : (m : ℕ) (offers : List Offer) (nexts bests name : List ℕ) (from at : ℕ) → IsFinding m offers name from at → IsChained m offers from nexts bests → at < length offers → bytes_eq (name_at offers at) name ≡ false → IsFinding m offers name from (get_or nexts at 0)
-find_goes_on m offers nexts bests name from at finding chained within other =
-    let linked : IsLinked m offers at (get_or nexts at 0) (get_or bests at 0) = chained.linked at finding.after within in
-    record {
-      same = linked.skips name (sym (finding.begins.bucket_of within)) ∙ sym (passed_over offers name at within other) ∙ finding.same;
-      after = let a : from ≤ at = finding.after in let b : at < get_or nexts at 0 = linked.onward in omega arith;
-      begins = record { within = linked.within; bucket_of = λ inside. linked.bucket_on inside ∙ finding.begins.bucket_of within };
-    }
-
-pub find_ends : (m : ℕ) (offers : List Offer) (name : List ℕ) (from at : ℕ) → IsFinding m offers name from at → length offers ≤ at → None ≡ first_offer name (drop from offers)
-unfolding first_offer
-find_ends m offers name from at finding past =
-    let none : first_offer name (drop at offers) ≡ None = rw (drop_all at offers past) refl in
-    sym none ∙ finding.same
 
 same_name : (a b : List ℕ) → bytes_eq a b ≡ true → a ≡ b
 same_name a b is = (bytes_eq-Decides a b).0 is
 
-pub find_finds : (m : ℕ) (offers : List Offer) (nexts bests name : List ℕ) (from at : ℕ) → IsFinding m offers name from at → IsChained m offers from nexts bests → at < length offers → bytes_eq (name_at offers at) name ≡ true → Some (get_or bests at 0) ≡ first_offer name (drop from offers)
-find_finds m offers nexts bests name from at finding chained within same =
-    let linked : IsLinked m offers at (get_or nexts at 0) (get_or bests at 0) = chained.linked at finding.after within in
-    linked.least ∙ ap (λ (n : List ℕ). first_offer n (drop at offers)) (same_name (name_at offers at) name same) ∙ finding.same
+other_name : (a b : List ℕ) → bytes_eq a b ≡ false → a ≢ b
+other_name a b is same = let t : bytes_eq a b ≡ true = (bytes_eq-Decides a b).1 same in cc
 
-pub as_many : (strings : List ℕ) (entries : List Entry) → length (offers_of strings entries) ≡ length entries
-as_many strings entries = length-map entries (offer_of strings)
+not_true : (b : Bool) → (b ≡ true → ⊥) → b ≡ false
+not_true true never = absurd (never refl)
+not_true false never = refl
 
--- the name of an entry is that of its offer
-pub name_of_entry : (strings : List ℕ) (entries : List Entry) (i : ℕ) (d : Entry) → i < length entries → name_at (offers_of strings entries) i ≡ part strings (get_or entries i d).at (get_or entries i d).size
-unfolding name_at
-name_of_entry strings entries i d within =
-    let few : i < length (offers_of strings entries) = rw (as_many strings entries) within in
-    let e : slice_get (offers_of strings entries) i ≡ Some (offer_of strings (get_or entries i d)) =
-    slice_get-get_or (offers_of strings entries) i (offer_of strings d) few ∙ ap Some (get_or-map (offer_of strings) entries i d (offer_of strings d) within) in
-    rw e refl
+-- what one offer more in front says of a name
+first_same : (name : List ℕ) (offer : Offer) (offers : List Offer) → offer.name ≡ name → first_offer name (offer ∷ offers) ≡ Some (lesser offer.member (first_offer name offers))
+unfolding first_offer
+first_same name offer offers same = let t : bytes_eq offer.name name ≡ true = (bytes_eq-Decides offer.name name).1 same in rw t refl
 
-pub ruleset finds = (find_starts, find_goes_on, find_ends, find_finds, as_many)
+first_other : (name : List ℕ) (offer : Offer) (offers : List Offer) → offer.name ≢ name → first_offer name (offer ∷ offers) ≡ first_offer name offers
+unfolding first_offer
+first_other name offer offers other = let f : bytes_eq offer.name name ≡ false = not_true (bytes_eq offer.name name) (λ t. other (same_name offer.name name t)) in rw f refl
 
-pub ruleset names = (name_of_entry)
+any_default : {X : Type 0} (xs : List X) (i : ℕ) (d e : X) → i < length xs → get_or xs i d ≡ get_or xs i e
+any_default xs i d e within = at_read xs (λ x. x ≡ get_or xs i e) i (get_or xs i e) within (itself xs i e) refl d
+  where
+    itself : {X : Type 0} (xs : List X) (i : ℕ) (e : X) → get_or xs i e ≡ get_or xs i (get_or xs i e)
+    itself [] i e = refl
+    itself (x ∷ xs) zero e = refl
+    itself (x ∷ xs) (suc i) e = itself xs i e
+
+-- ---- the search along a bucket
+
+-- nodes of a name stand before a place, counted from 1, at which is one of its bucket
+pub record IsSought (strings : List ℕ) (m : ℕ) (nodes : List Node) (name : List ℕ) (at : ℕ) : Type 0 where
+  pub within : at ≤ length nodes
+  pub here : (d : Node) → 0 < at → bucket m (node_name strings (get_or nodes (at - 1) d)) ≡ bucket m name
+  pub left : (k : ℕ) (d : Node) → k < length nodes → node_name strings (get_or nodes k d) ≡ name → k < at
+
+pub find_starts : (strings : List ℕ) (m : ℕ) (nodes : List Node) (name : List ℕ) (from : ℕ) → BeginsAt strings m nodes (bucket m name) (length nodes) from → IsSought strings m nodes name from
+find_starts strings m nodes name from begins = record {
+  within = begins.within;
+  here = begins.here;
+  left = λ k d low same. begins.last k d low (ap (bucket m) same);
+}
+
+pub find_goes_on : (strings : List ℕ) (m : ℕ) (nodes : List Node) (name : List ℕ) (at : ℕ) (e : Node) → IsSought strings m nodes name at → AreNexts strings m nodes → 0 < at → bytes_eq (node_name strings (get_or nodes (at - 1) e)) name ≡ false → IsSought strings m nodes name (get_or nodes (at - 1) e).next
+find_goes_on strings m nodes name at e sought nexts some other = record {
+  within = omega (arith, begins.within, sought.within);
+  here = λ d low. begins.here d low ∙ sought.here e some;
+  left = λ k d low same.
+      elim (cases_eq k (at - 1)) [
+        | inl is ↦ absurd (other_name (node_name strings (get_or nodes (at - 1) e)) name other (ap (node_name strings) (any_default nodes (at - 1) e d inside) ∙ subst (λ (j : ℕ). node_name strings (get_or nodes j d) ≡ name) is same))
+        | inr apart ↦ begins.last k d (omega (arith, sought.left k d low same)) (ap (bucket m) same ∙ sym (sought.here e some))
+      ];
+}
+  where
+    inside : at - 1 < length nodes
+    inside = omega (arith, sought.within)
+
+    begins : BeginsAt strings m nodes (bucket m (node_name strings (get_or nodes (at - 1) e))) (at - 1) (get_or nodes (at - 1) e).next
+    begins = nexts.each (at - 1) e inside
+
+pub find_ends : (strings : List ℕ) (m : ℕ) (nodes : List Node) (name : List ℕ) (at : ℕ) → IsSought strings m nodes name at → at ≤ 0 → All (IsOther strings name) nodes
+find_ends strings m nodes name at sought low = λ k d inside same. absurd (omega (arith, sought.left k d inside same))
+
+pub find_finds : (strings : List ℕ) (m : ℕ) (nodes : List Node) (name : List ℕ) (at : ℕ) (e : Node) → IsSought strings m nodes name at → 0 < at → bytes_eq (node_name strings (get_or nodes (at - 1) e)) name ≡ true → IsNodeOf strings nodes name (at - 1)
+find_finds strings m nodes name at e sought some same = record {
+  within = omega (arith, sought.within);
+  named = λ d. ap (node_name strings) (any_default nodes (at - 1) d e (omega (arith, sought.within))) ∙ same_name (node_name strings (get_or nodes (at - 1) e)) name same;
+}
+
+pub ruleset finds = (find_starts, find_goes_on, find_ends, find_finds)
 
 some_size : (a b : ℕ) → Some a ≡ Some b → a ≡ b
 some_size a b e = cc
@@ -97,173 +98,267 @@ name_there strings name entry place is stands same =
 
 pub ruleset places = (name_there)
 
-entry_there : (entries : List Entry) (i : ℕ) (d : Entry) → i < length entries → drop i entries ≡ get_or entries i d ∷ drop (i + 1) entries
-entry_there entries i d within = rw (drop-cons entries i d, add-one) refl
+-- ---- one offer more, of a name that has a node
 
--- the least number that the offers from an index on give the name there
-best_there : (strings : List ℕ) (entries : List Entry) (i : ℕ) (d : Entry) → i < length entries → first_offer (part strings (get_or entries i d).at (get_or entries i d).size) (drop i (offers_of strings entries)) ≡ Some (lesser (get_or entries i d).member (first_offer (part strings (get_or entries i d).at (get_or entries i d).size) (drop (i + 1) (offers_of strings entries))))
-unfolding first_offer
-best_there strings entries i d within =
-    let name : List ℕ = part strings (get_or entries i d).at (get_or entries i d).size in
-    let e : drop i (offers_of strings entries) ≡ offer_of strings (get_or entries i d) ∷ drop (i + 1) (offers_of strings entries) =
-    drop-map (offer_of strings) i entries ∙ ap (map (offer_of strings)) (entry_there entries i d within) ∙ ap (λ (os : List Offer). offer_of strings (get_or entries i d) ∷ os) (sym (drop-map (offer_of strings) (i + 1) entries)) in
-    let same : bytes_eq (part strings (get_or entries i d).at (get_or entries i d).size) (part strings (get_or entries i d).at (get_or entries i d).size) ≡ true =
-    (bytes_eq-Decides (part strings (get_or entries i d).at (get_or entries i d).size) (part strings (get_or entries i d).at (get_or entries i d).size)).1 refl in
-    ap (first_offer (part strings (get_or entries i d).at (get_or entries i d).size)) e ∙ rw same refl
+-- what the new number leaves of each node as it was
+kept : {A : Type 0} (f : Node → A) (nodes : List Node) (at member j : ℕ) (e d : Node) → ((node : Node) → f (lowered member node) ≡ f node) → at < length nodes → f (get_or (set nodes at (lowered member (get_or nodes at e))) j d) ≡ f (get_or nodes j d)
+kept f nodes at member j e d keeps within = elim (cases_eq j at) [
+  | inl same ↦
+      ap (λ (k : ℕ). f (get_or (set nodes at (lowered member (get_or nodes at e))) k d)) same
+      ∙ ap f (get_or-set_same nodes at (lowered member (get_or nodes at e)) d within)
+      ∙ keeps (get_or nodes at e) ∙ ap f (any_default nodes at e d within) ∙ ap (λ (k : ℕ). f (get_or nodes k d)) (sym same)
+  | inr other ↦ ap f (get_or-set_other nodes at j (lowered member (get_or nodes at e)) d other)
+]
 
--- the head of a bucket among the offers after an index
-pub head_of : (m : ℕ) (offers : List Offer) (heads nexts bests name : List ℕ) (at b : ℕ) → IsIndex m offers (at + 1) heads nexts bests → b ≡ bucket m name → b < m → BeginsAt m offers name (get_or heads b 0)
-head_of m offers heads nexts bests name at b is same within =
-    let head : IsHead m offers (at + 1) b (get_or heads b 0) = is.heads_are b within in
-    record { within = head.within; bucket_of = λ inside. head.bucket_of inside ∙ same }
+begins_kept : (strings : List ℕ) (m : ℕ) (nodes new : List Node) (b bound at : ℕ) → ((j : ℕ) (d : Node) → node_name strings (get_or new j d) ≡ node_name strings (get_or nodes j d)) → BeginsAt strings m nodes b bound at → BeginsAt strings m new b bound at
+begins_kept strings m nodes new b bound at names begins = record {
+  within = begins.within;
+  here = λ d low. ap (bucket m) (names (at - 1) d) ∙ begins.here d low;
+  last = λ k d low is. begins.last k d low (ap (bucket m) (sym (names k d)) ∙ is);
+}
 
-pub chained_after : (m : ℕ) (offers : List Offer) (heads nexts bests name : List ℕ) (at b : ℕ) → IsIndex m offers (at + 1) heads nexts bests → b ≡ bucket m name → b < m → IsChained m offers (get_or heads b 0) nexts bests
-chained_after m offers heads nexts bests name at b is same within =
-    let head : IsHead m offers (at + 1) b (get_or heads b 0) = is.heads_are b within in
-    record {
-      next_count = is.chained.next_count;
-      best_count = is.chained.best_count;
-      linked = λ i after inside. let a : at + 1 ≤ get_or heads b 0 = head.after in is.chained.linked i (omega arith) inside;
+lowered_name : (strings : List ℕ) (member : ℕ) (node : Node) → node_name strings (lowered member node) ≡ node_name strings node
+unfolding node_name
+lowered_name strings member node = refl
+
+chained_kept : (strings heads : List ℕ) (nodes : List Node) (at member : ℕ) (e : Node) → at < length nodes → AreChained strings heads nodes → AreChained strings heads (set nodes at (lowered member (get_or nodes at e)))
+chained_kept strings heads nodes at member e within chained = record {
+  some = chained.some;
+  heads_are = λ b low. subst (λ (n : ℕ). BeginsAt strings (length heads) new b n (get_or heads b 0)) (sym long) (begins_kept strings (length heads) nodes new b (length nodes) (get_or heads b 0) names (chained.heads_are b low));
+  nexts_are =
+      record {
+        each = λ k d low.
+            let inside : k < length nodes = subst (λ (n : ℕ). k < n) long low in
+            let old : BeginsAt strings (length heads) new (bucket (length heads) (node_name strings (get_or nodes k d))) k (get_or nodes k d).next =
+            begins_kept strings (length heads) nodes new (bucket (length heads) (node_name strings (get_or nodes k d))) k (get_or nodes k d).next names (chained.nexts_are.each k d inside) in
+            subst (λ (n : ℕ). BeginsAt strings (length heads) new (bucket (length heads) (node_name strings (get_or new k d))) k n) (sym (kept (λ (x : Node). x.next) nodes at member k e d (λ node. refl) within))
+            (subst (λ (name : List ℕ). BeginsAt strings (length heads) new (bucket (length heads) name) k (get_or nodes k d).next) (sym (names k d)) old);
+      };
+  entries = All-set (λ node. IsEntry strings node.entry) nodes at (lowered member (get_or nodes at e)) (let old = chained.entries at e within in record { within = old.within; ends = old.ends }) chained.entries;
+}
+  where
+    new : List Node
+    new = set nodes at (lowered member (get_or nodes at e))
+
+    long : length new ≡ length nodes
+    long = length-set nodes at (lowered member (get_or nodes at e))
+
+    names : (j : ℕ) (d : Node) → node_name strings (get_or new j d) ≡ node_name strings (get_or nodes j d)
+    names j d = kept (node_name strings) nodes at member j e d (lowered_name strings member) within
+
+-- two nodes with one name are one
+one_node : (strings : List ℕ) (nodes : List Node) (j k : ℕ) (d : Node) → AllPairs (λ a b. node_name strings a ≢ node_name strings b) nodes → j < length nodes → k < length nodes → (j ≡ k → ⊥) → node_name strings (get_or nodes j d) ≢ node_name strings (get_or nodes k d)
+one_node strings nodes j k d once low high other same = elim (cases_lt j k) [
+  | inl less ↦ once j k d less high same
+  | inr more ↦ once k j d (omega arith) low (sym same)
+]
+
+named_kept : (strings : List ℕ) (offer : Offer) (offers : List Offer) (nodes : List Node) (at : ℕ) (e : Node) → at < length nodes → node_name strings (get_or nodes at e) ≡ offer.name → AreNodes strings offers nodes → AreNodes strings (offer ∷ offers) (set nodes at (lowered offer.member (get_or nodes at e)))
+named_kept strings offer offers nodes at e within is named = record {
+  bests = λ j d low.
+      let inside : j < length nodes = subst (λ (n : ℕ). j < n) long low in
+      elim (cases_eq j at) [
+        | inl same ↦
+            let there : get_or new j d ≡ lowered offer.member (get_or nodes at e) = ap (λ (k : ℕ). get_or new k d) same ∙ get_or-set_same nodes at (lowered offer.member (get_or nodes at e)) d within in
+            subst (λ (x : Node). first_offer (node_name strings x) (offer ∷ offers) ≡ Some x.entry.member) (sym there) here
+        | inr other ↦
+            let there : get_or new j d ≡ get_or nodes j d = get_or-set_other nodes at j (lowered offer.member (get_or nodes at e)) d other in
+            subst (λ (x : Node). first_offer (node_name strings x) (offer ∷ offers) ≡ Some x.entry.member) (sym there)
+            (first_other (node_name strings (get_or nodes j d)) offer offers (λ same. one_node strings nodes j at d named.once inside within other (sym same ∙ sym is ∙ ap (node_name strings) (any_default nodes at e d within)))
+            ∙ named.bests j d inside)
+      ];
+  once = λ i j d low high same. named.once i j d low (subst (λ (n : ℕ). j < n) long high) (sym (names i d) ∙ same ∙ names j d);
+  all = λ name others.
+      first_other name offer offers (λ same. others at e (subst (λ (n : ℕ). at < n) (sym long) within) (names at e ∙ is ∙ same))
+      ∙ named.all name (λ j d low same. others j d (subst (λ (n : ℕ). j < n) (sym long) low) (names j d ∙ same));
+}
+  where
+    new : List Node
+    new = set nodes at (lowered offer.member (get_or nodes at e))
+
+    long : length new ≡ length nodes
+    long = length-set nodes at (lowered offer.member (get_or nodes at e))
+
+    names : (j : ℕ) (d : Node) → node_name strings (get_or new j d) ≡ node_name strings (get_or nodes j d)
+    names j d = kept (node_name strings) nodes at offer.member j e d (lowered_name strings offer.member) within
+
+    here : first_offer (node_name strings (lowered offer.member (get_or nodes at e))) (offer ∷ offers) ≡ Some (min offer.member (get_or nodes at e).entry.member)
+    here =
+        ap (λ (n : List ℕ). first_offer n (offer ∷ offers)) (lowered_name strings offer.member (get_or nodes at e))
+        ∙ first_same (node_name strings (get_or nodes at e)) offer offers (sym is)
+        ∙ ap (λ (o : Option ℕ). Some (lesser offer.member o)) (named.bests at e within)
+
+-- ---- one offer more, of a name that has no node yet
+
+old_node : (nodes : List Node) (x : Node) (k : ℕ) (d : Node) → k < length nodes → get_or (nodes ++ x ∷ []) k d ≡ get_or nodes k d
+old_node [] x k d within = absurd (omega arith)
+old_node (y ∷ nodes) x zero d within = refl
+old_node (y ∷ nodes) x (suc k) d within = old_node nodes x k d (omega arith)
+
+new_node : (nodes : List Node) (x : Node) (k : ℕ) (d : Node) → k ≡ length nodes → get_or (nodes ++ x ∷ []) k d ≡ x
+new_node nodes x k d is =
+    let e : k - length nodes ≡ 0 = omega arith in
+    get_or-append_right nodes (x ∷ []) (length nodes) k d refl (omega arith) ∙ ap (λ (j : ℕ). get_or (x ∷ []) j d) e
+
+begins_after : (strings : List ℕ) (m : ℕ) (nodes : List Node) (x : Node) (b bound at : ℕ) → bound ≤ length nodes → BeginsAt strings m nodes b bound at → BeginsAt strings m (nodes ++ x ∷ []) b bound at
+begins_after strings m nodes x b bound at few begins = record {
+  within = begins.within;
+  here = λ d some. ap (λ (y : Node). bucket m (node_name strings y)) (old_node nodes x (at - 1) d (omega (arith, begins.within))) ∙ begins.here d some;
+  last = λ k d low is. begins.last k d low (ap (λ (y : Node). bucket m (node_name strings y)) (sym (old_node nodes x k d (omega arith))) ∙ is);
+}
+
+chained_more : (strings heads : List ℕ) (nodes : List Node) (x : Node) (b : ℕ) → b < length heads → bucket (length heads) (node_name strings x) ≡ b → x.next ≡ get_or heads b 0 → IsEntry strings x.entry → AreChained strings heads nodes → AreChained strings (set heads b (length nodes + 1)) (nodes ++ x ∷ [])
+chained_more strings heads nodes x b inside is leads entry chained = record {
+  some = subst (λ (n : ℕ). 0 < n) (sym long) chained.some;
+  heads_are = λ c low. subst (λ (n : ℕ). BeginsAt strings n (nodes ++ x ∷ []) c (length (nodes ++ x ∷ [])) (get_or (set heads b (length nodes + 1)) c 0)) (sym long) (head_at c (subst (λ (n : ℕ). c < n) long low));
+  nexts_are = subst (λ (n : ℕ). AreNexts strings n (nodes ++ x ∷ [])) (sym long) (record { each = λ k d low. next_at k d (subst (λ (n : ℕ). k < n) many low) });
+  entries = All-push (λ node. IsEntry strings node.entry) nodes x chained.entries entry;
+}
+  where
+    m : ℕ
+    m = length heads
+
+    long : length (set heads b (length nodes + 1)) ≡ length heads
+    long = length-set heads b (length nodes + 1)
+
+    many : length (nodes ++ x ∷ []) ≡ length nodes + 1
+    many = length-append nodes (x ∷ [])
+
+    head_here : (c : ℕ) → c ≡ b → BeginsAt strings (length heads) (nodes ++ x ∷ []) c (length nodes + 1) (length nodes + 1)
+    head_here c e = record {
+      within = omega arith;
+      here = λ d some. ap (λ (y : Node). bucket (length heads) (node_name strings y)) (new_node nodes x (length nodes + 1 - 1) d (omega arith)) ∙ is ∙ sym e;
+      last = λ k d low same. low;
     }
 
-best_is : (strings : List ℕ) (entries : List Entry) (m : ℕ) (heads nexts bests name : List ℕ) (at b best : ℕ) (d : Entry) (rest : Option ℕ) → IsIndex m (offers_of strings entries) (at + 1) heads nexts bests → at < length entries → name ≡ part strings (get_or entries at d).at (get_or entries at d).size → b ≡ bucket m name → b < m → rest ≡ first_offer name (drop (get_or heads b 0) (offers_of strings entries)) → best ≡ lesser (get_or entries at d).member rest → Some best ≡ first_offer (name_at (offers_of strings entries) at) (drop at (offers_of strings entries))
-best_is strings entries m heads nexts bests name at b best d rest is within read same inside found least =
-    let head : IsHead m (offers_of strings entries) (at + 1) b (get_or heads b 0) = is.heads_are b inside in
-    let t : first_offer name (drop at (offers_of strings entries)) ≡ Some (lesser (get_or entries at d).member (first_offer name (drop (at + 1) (offers_of strings entries)))) =
-    subst (λ (n : List ℕ). first_offer n (drop at (offers_of strings entries)) ≡ Some (lesser (get_or entries at d).member (first_offer n (drop (at + 1) (offers_of strings entries))))) (sym read) (best_there strings entries at d within) in
-    let named : name_at (offers_of strings entries) at ≡ name = name_of_entry strings entries at d within ∙ sym read in
-    let known : rest ≡ first_offer name (drop (at + 1) (offers_of strings entries)) = found ∙ head.skips name (sym same) in
-    ap Some least ∙ ap (λ (r : Option ℕ). Some (lesser (get_or entries at d).member r)) known ∙ sym t ∙ ap (λ (n : List ℕ). first_offer n (drop at (offers_of strings entries))) (sym named)
+    head_there : (c : ℕ) → c < length heads → (c ≡ b → ⊥) → BeginsAt strings (length heads) (nodes ++ x ∷ []) c (length nodes + 1) (get_or heads c 0)
+    head_there c low other =
+        let old : BeginsAt strings (length heads) nodes c (length nodes) (get_or heads c 0) = chained.heads_are c low in
+        let after : BeginsAt strings (length heads) (nodes ++ x ∷ []) c (length nodes) (get_or heads c 0) = begins_after strings (length heads) nodes x c (length nodes) (get_or heads c 0) (omega arith) old in
+        record {
+          within = omega (arith, old.within);
+          here = after.here;
+          last = λ k d less same. elim (cases_eq k (length nodes)) [
+            | inl e ↦ absurd (other (sym same ∙ ap (λ (y : Node). bucket (length heads) (node_name strings y)) (new_node nodes x k d e) ∙ is))
+            | inr apart ↦ after.last k d (omega arith) same
+          ];
+        }
 
-not_true : (b : Bool) → (b ≡ true → ⊥) → b ≡ false
-not_true true never = absurd (never refl)
-not_true false never = refl
-
-other_name : (m : ℕ) (offers : List Offer) (name : List ℕ) (at b c : ℕ) → b ≡ bucket m (name_at offers at) → (c ≡ b → ⊥) → bucket m name ≡ c → bytes_eq (name_at offers at) name ≡ false
-other_name m offers name at b c same other is =
-    not_true (bytes_eq (name_at offers at) name)
-    (λ equal. other (sym is ∙ ap (bucket m) (sym (same_name (name_at offers at) name equal)) ∙ sym same))
-
--- the heads after an offer was put in front of its bucket
-head_put : (m : ℕ) (offers : List Offer) (heads nexts bests : List ℕ) (at b c : ℕ) → IsIndex m offers (at + 1) heads nexts bests → at < length offers → b ≡ bucket m (name_at offers at) → b < m → c ≡ b → IsHead m offers at c (get_or (set heads b at) c 0)
-head_put m offers heads nexts bests at b c is within same inside e =
-    let room : b < length heads = rw is.buckets inside in
-    let h : get_or (set heads b at) c 0 ≡ at = ap (λ (x : ℕ). get_or (set heads b at) x 0) e ∙ get_or-set_same heads b at 0 room in
-    let begins : IsHead m offers at c at = record {
-      after = omega arith;
-      within = omega arith;
-      bucket_of = λ low. sym same ∙ sym e;
-      skips = λ name eq. refl;
-    } in
-    rw h begins
-
-head_kept : (m : ℕ) (offers : List Offer) (heads nexts bests : List ℕ) (at b c : ℕ) → IsIndex m offers (at + 1) heads nexts bests → at < length offers → b ≡ bucket m (name_at offers at) → c < m → (c ≡ b → ⊥) → IsHead m offers at c (get_or (set heads b at) c 0)
-head_kept m offers heads nexts bests at b c is within same low other =
-    let h : get_or (set heads b at) c 0 ≡ get_or heads c 0 = get_or-set_other heads b c at 0 other in
-    let old : IsHead m offers (at + 1) c (get_or heads c 0) = is.heads_are c low in
-    let after : at + 1 ≤ get_or heads c 0 = old.after in
-    let kept : IsHead m offers at c (get_or heads c 0) = record {
-      after = omega arith;
-      within = old.within;
-      bucket_of = old.bucket_of;
-      skips = λ name eq. old.skips name eq ∙ sym (passed_over offers name at within (other_name m offers name at b c same other eq));
-    } in
-    rw h kept
-
-head_after : (m : ℕ) (offers : List Offer) (heads nexts bests : List ℕ) (at b c : ℕ) → IsIndex m offers (at + 1) heads nexts bests → at < length offers → b ≡ bucket m (name_at offers at) → b < m → c < m → IsHead m offers at c (get_or (set heads b at) c 0)
-head_after m offers heads nexts bests at b c is within same inside low =
-    elim (cases_eq c b) [
-      | inl e ↦ head_put m offers heads nexts bests at b c is within same inside e
-      | inr other ↦ head_kept m offers heads nexts bests at b c is within same low other
+    head_at : (c : ℕ) → c < length heads → BeginsAt strings (length heads) (nodes ++ x ∷ []) c (length (nodes ++ x ∷ [])) (get_or (set heads b (length nodes + 1)) c 0)
+    head_at c low = elim (cases_eq c b) [
+      | inl e ↦
+          let h : get_or (set heads b (length nodes + 1)) c 0 ≡ length nodes + 1 = ap (λ (j : ℕ). get_or (set heads b (length nodes + 1)) j 0) e ∙ get_or-set_same heads b (length nodes + 1) 0 inside in
+          rw (many, h) (head_here c e)
+      | inr other ↦
+          let h : get_or (set heads b (length nodes + 1)) c 0 ≡ get_or heads c 0 = get_or-set_other heads b c (length nodes + 1) 0 other in
+          rw (many, h) (head_there c low other)
     ]
 
-link_put : (m : ℕ) (offers : List Offer) (heads nexts bests : List ℕ) (at b best i : ℕ) → IsIndex m offers (at + 1) heads nexts bests → at < length offers → b ≡ bucket m (name_at offers at) → b < m → Some best ≡ first_offer (name_at offers at) (drop at offers) → i ≡ at → IsLinked m offers i (get_or (set nexts at (get_or heads b 0)) i 0) (get_or (set bests at best) i 0)
-link_put m offers heads nexts bests at b best i is within same inside least e =
-    let head : IsHead m offers (at + 1) b (get_or heads b 0) = is.heads_are b inside in
-    let after : at + 1 ≤ get_or heads b 0 = head.after in
-    let next_room : at < length nexts = rw is.chained.next_count within in
-    let best_room : at < length bests = rw is.chained.best_count within in
-    let h : get_or (set nexts at (get_or heads b 0)) i 0 ≡ get_or heads b 0 =
-    ap (λ (x : ℕ). get_or (set nexts at (get_or heads b 0)) x 0) e ∙ get_or-set_same nexts at (get_or heads b 0) 0 next_room in
-    let k : get_or (set bests at best) i 0 ≡ best =
-    ap (λ (x : ℕ). get_or (set bests at best) x 0) e ∙ get_or-set_same bests at best 0 best_room in
-    let linked : IsLinked m offers at (get_or heads b 0) best = record {
-      onward = omega arith;
-      within = head.within;
-      bucket_on = λ low. head.bucket_of low ∙ same;
-      skips = λ name eq. head.skips name (eq ∙ sym same);
-      least = least;
-    } in
-    rw (h, k) (subst (λ (x : ℕ). IsLinked m offers x (get_or heads b 0) best) (sym e) linked)
-
-link_kept : (m : ℕ) (offers : List Offer) (heads nexts bests : List ℕ) (at b best i : ℕ) → IsIndex m offers (at + 1) heads nexts bests → at ≤ i → i < length offers → (i ≡ at → ⊥) → IsLinked m offers i (get_or (set nexts at (get_or heads b 0)) i 0) (get_or (set bests at best) i 0)
-link_kept m offers heads nexts bests at b best i is after low other =
-    let h : get_or (set nexts at (get_or heads b 0)) i 0 ≡ get_or nexts i 0 = get_or-set_other nexts at i (get_or heads b 0) 0 other in
-    let k : get_or (set bests at best) i 0 ≡ get_or bests i 0 = get_or-set_other bests at i best 0 other in
-    rw (h, k) (is.chained.linked i (omega arith) low)
-
-link_after : (m : ℕ) (offers : List Offer) (heads nexts bests : List ℕ) (at b best i : ℕ) → IsIndex m offers (at + 1) heads nexts bests → at < length offers → b ≡ bucket m (name_at offers at) → b < m → Some best ≡ first_offer (name_at offers at) (drop at offers) → at ≤ i → i < length offers → IsLinked m offers i (get_or (set nexts at (get_or heads b 0)) i 0) (get_or (set bests at best) i 0)
-link_after m offers heads nexts bests at b best i is within same inside least after low =
-    elim (cases_eq i at) [
-      | inl e ↦ link_put m offers heads nexts bests at b best i is within same inside least e
-      | inr other ↦ link_kept m offers heads nexts bests at b best i is after low other
+    next_at : (k : ℕ) (d : Node) → k < length nodes + 1 → BeginsAt strings (length heads) (nodes ++ x ∷ []) (bucket (length heads) (node_name strings (get_or (nodes ++ x ∷ []) k d))) k (get_or (nodes ++ x ∷ []) k d).next
+    next_at k d low = elim (cases_eq k (length nodes)) [
+      | inl e ↦
+          let old : BeginsAt strings (length heads) nodes b (length nodes) (get_or heads b 0) = chained.heads_are b inside in
+          let after : BeginsAt strings (length heads) (nodes ++ x ∷ []) b (length nodes) (get_or heads b 0) = begins_after strings (length heads) nodes x b (length nodes) (get_or heads b 0) (omega arith) old in
+          let here : BeginsAt strings (length heads) (nodes ++ x ∷ []) (bucket (length heads) (node_name strings x)) k x.next =
+          subst (λ (n : ℕ). BeginsAt strings (length heads) (nodes ++ x ∷ []) (bucket (length heads) (node_name strings x)) k n) (sym leads)
+          (subst (λ (n : ℕ). BeginsAt strings (length heads) (nodes ++ x ∷ []) (bucket (length heads) (node_name strings x)) n (get_or heads b 0)) (sym e)
+          (subst (λ (n : ℕ). BeginsAt strings (length heads) (nodes ++ x ∷ []) n (length nodes) (get_or heads b 0)) (sym is) after)) in
+          subst (λ (y : Node). BeginsAt strings (length heads) (nodes ++ x ∷ []) (bucket (length heads) (node_name strings y)) k y.next) (sym (new_node nodes x k d e)) here
+      | inr apart ↦
+          let old : BeginsAt strings (length heads) nodes (bucket (length heads) (node_name strings (get_or nodes k d))) k (get_or nodes k d).next = chained.nexts_are.each k d (omega arith) in
+          subst (λ (y : Node). BeginsAt strings (length heads) (nodes ++ x ∷ []) (bucket (length heads) (node_name strings y)) k y.next) (sym (old_node nodes x k d (omega arith)))
+          (begins_after strings (length heads) nodes x (bucket (length heads) (node_name strings (get_or nodes k d))) k (get_or nodes k d).next (omega arith) old)
     ]
 
-pub put_in_front : (m : ℕ) (offers : List Offer) (heads nexts bests : List ℕ) (at b best : ℕ) → IsIndex m offers (at + 1) heads nexts bests → at < length offers → b ≡ bucket m (name_at offers at) → b < m → Some best ≡ first_offer (name_at offers at) (drop at offers) → IsIndex m offers at (set heads b at) (set nexts at (get_or heads b 0)) (set bests at best)
-put_in_front m offers heads nexts bests at b best is within same inside least = record {
-  buckets = length-set heads b at ∙ is.buckets;
-  some = is.some;
-  heads_are = λ c low. head_after m offers heads nexts bests at b c is within same inside low;
-  chained =
-      record {
-        next_count = length-set nexts at (get_or heads b 0) ∙ is.chained.next_count;
-        best_count = length-set bests at best ∙ is.chained.best_count;
-        linked = λ i after low. link_after m offers heads nexts bests at b best i is within same inside least after low;
-      };
+named_more : (strings : List ℕ) (offer : Offer) (offers : List Offer) (nodes : List Node) (x : Node) → node_name strings x ≡ offer.name → x.entry.member ≡ offer.member → All (IsOther strings offer.name) nodes → AreNodes strings offers nodes → AreNodes strings (offer ∷ offers) (nodes ++ x ∷ [])
+named_more strings offer offers nodes x is numbered others named = record {
+  bests = All-push (λ node. first_offer (node_name strings node) (offer ∷ offers) ≡ Some node.entry.member) nodes x
+      (λ j d low. first_other (node_name strings (get_or nodes j d)) offer offers (λ same. others j d low (sym same)) ∙ named.bests j d low)
+      here;
+  once = λ i j d low high. elim (cases_eq j (length nodes)) [
+    | inl e ↦
+        let inside : i < length nodes = omega arith in
+        λ same. others i d inside (sym (ap (node_name strings) (old_node nodes x i d inside)) ∙ same ∙ ap (node_name strings) (new_node nodes x j d e) ∙ is)
+    | inr apart ↦
+        let many : length (nodes ++ x ∷ []) ≡ length nodes + 1 = length-append nodes (x ∷ []) in
+        let inside : j < length nodes = omega arith in
+        λ same. named.once i j d low inside (sym (ap (node_name strings) (old_node nodes x i d (omega arith))) ∙ same ∙ ap (node_name strings) (old_node nodes x j d inside))
+  ];
+  all = λ name rest.
+      let many : length (nodes ++ x ∷ []) ≡ length nodes + 1 = length-append nodes (x ∷ []) in
+      first_other name offer offers (λ same. rest (length nodes) x (omega arith) (ap (node_name strings) (new_node nodes x (length nodes) x refl) ∙ is ∙ same))
+      ∙ named.all name (λ j d low same. rest j d (omega arith) (ap (node_name strings) (old_node nodes x j d low) ∙ same));
 }
+  where
+    here : first_offer (node_name strings x) (offer ∷ offers) ≡ Some x.entry.member
+    here =
+        first_same (node_name strings x) offer offers (sym is)
+        ∙ ap (λ (n : List ℕ). Some (lesser offer.member (first_offer n offers))) is
+        ∙ ap (λ (o : Option ℕ). Some (lesser offer.member o)) (named.all offer.name others)
+        ∙ ap Some (sym numbered)
 
-pub put_done : (strings : List ℕ) (entries : List Entry) (heads nexts bests name : List ℕ) (at b best : ℕ) (d : Entry) (rest : Option ℕ) → IsIndex (length heads) (offers_of strings entries) (at + 1) heads nexts bests → at < length entries → name ≡ part strings (get_or entries at d).at (get_or entries at d).size → b ≡ bucket (length heads) name → b < length heads → rest ≡ first_offer name (drop (get_or heads b 0) (offers_of strings entries)) → best ≡ lesser (get_or entries at d).member rest → IsIndex (length heads) (offers_of strings entries) at (set heads b at) (set nexts at (get_or heads b 0)) (set bests at best)
-put_done strings entries heads nexts bests name at b best d rest is within read same inside found least =
-    let named : name_at (offers_of strings entries) at ≡ name = name_of_entry strings entries at d within ∙ sym read in
-    put_in_front (length heads) (offers_of strings entries) heads nexts bests at b best is
-    (rw (as_many strings entries) within)
-    (same ∙ ap (bucket (length heads)) (sym named))
-    inside
-    (best_is strings entries (length heads) heads nexts bests name at b best d rest is within read same inside found least)
+-- ---- the offers from an index on
 
--- a look-up begins at the head of the name's bucket
-pub looks_from_head : (m : ℕ) (offers : List Offer) (heads nexts bests name : List ℕ) (b : ℕ) → IsIndex m offers 0 heads nexts bests → b ≡ bucket m name → b < m → BeginsAt m offers name (get_or heads b 0)
-looks_from_head m offers heads nexts bests name b is same within =
-    let head : IsHead m offers 0 b (get_or heads b 0) = is.heads_are b within in
-    record { within = head.within; bucket_of = λ inside. head.bucket_of inside ∙ same }
+offers_there : (strings : List ℕ) (entries : List Entry) (i : ℕ) (d : Entry) → i < length entries → drop i (offers_of strings entries) ≡ offer_of strings (get_or entries i d) ∷ drop (i + 1) (offers_of strings entries)
+offers_there strings entries i d within =
+    let there : drop i entries ≡ get_or entries i d ∷ drop (i + 1) entries = rw (drop-cons entries i d, add-one) refl in
+    drop-map (offer_of strings) i entries ∙ ap (map (offer_of strings)) there ∙ ap (λ (os : List Offer). offer_of strings (get_or entries i d) ∷ os) (sym (drop-map (offer_of strings) (i + 1) entries))
 
-pub chained_from_head : (m : ℕ) (offers : List Offer) (heads nexts bests : List ℕ) (b : ℕ) → IsIndex m offers 0 heads nexts bests → b < m → IsChained m offers (get_or heads b 0) nexts bests
-chained_from_head m offers heads nexts bests b is within = record {
-  next_count = is.chained.next_count;
-  best_count = is.chained.best_count;
-  linked = λ i after inside. is.chained.linked i (omega arith) inside;
-}
+names_is : (strings : List ℕ) (node : Node) → node_name strings node ≡ part strings node.entry.at node.entry.size
+unfolding node_name
+names_is strings node = refl
 
-pub finds_all : (m : ℕ) (offers : List Offer) (heads nexts bests name : List ℕ) (b : ℕ) → IsIndex m offers 0 heads nexts bests → b ≡ bucket m name → b < m → first_offer name (drop (get_or heads b 0) offers) ≡ first_offer name offers
-finds_all m offers heads nexts bests name b is same within =
-    let head : IsHead m offers 0 b (get_or heads b 0) = is.heads_are b within in
-    head.skips name (sym same)
+pub put_known : (strings : List ℕ) (entries : List Entry) (heads name : List ℕ) (nodes new : List Node) (at known : ℕ) (d : Entry) (e : Node) → IsIndex strings (drop (at + 1) (offers_of strings entries)) heads nodes → at < length entries → name ≡ part strings (get_or entries at d).at (get_or entries at d).size → IsNodeOf strings nodes name known → new ≡ set nodes known (lowered (get_or entries at d).member (get_or nodes known e)) → IsIndex strings (drop at (offers_of strings entries)) heads new
+put_known strings entries heads name nodes new at known d e index within read is made =
+    rw (made, offers_there strings entries at d within) (record {
+      chained = chained_kept strings heads nodes known (get_or entries at d).member e is.within index.chained;
+      named = named_kept strings (offer_of strings (get_or entries at d)) (drop (at + 1) (offers_of strings entries)) nodes known e is.within (is.named e ∙ read) index.named;
+    })
 
-empty_bucket : (m : ℕ) (offers : List Offer) (b : ℕ) → IsHead m offers (length offers) b (length offers)
-empty_bucket m offers b =
-    record { after = omega arith; within = omega arith; bucket_of = λ low. absurd (omega arith); skips = λ name eq. refl }
+pub put_new : (strings : List ℕ) (entries : List Entry) (heads name new_heads : List ℕ) (nodes new : List Node) (at b : ℕ) (d : Entry) (x : Node) → IsIndex strings (drop (at + 1) (offers_of strings entries)) heads nodes → All (IsEntry strings) entries → at < length entries → name ≡ part strings (get_or entries at d).at (get_or entries at d).size → b ≡ bucket (length heads) name → b < length heads → All (IsOther strings name) nodes → x ≡ record { entry = get_or entries at d; next = get_or heads b 0 } → new ≡ nodes ++ x ∷ [] → new_heads ≡ set heads b (length nodes + 1) → IsIndex strings (drop at (offers_of strings entries)) new_heads new
+put_new strings entries heads name new_heads nodes new at b d x index are within read same inside others is pushed noted =
+    let named : node_name strings x ≡ part strings (get_or entries at d).at (get_or entries at d).size = names_is strings x ∙ ap (λ (y : Node). part strings y.entry.at y.entry.size) is in
+    rw (pushed, noted, offers_there strings entries at d within) (record {
+      chained = chained_more strings heads nodes x b inside (ap (bucket (length heads)) (named ∙ sym read) ∙ sym same) (ap (λ (y : Node). y.next) is) (subst (λ (y : Entry). IsEntry strings y) (ap (λ (y : Node). y.entry) (sym is)) (are at d within)) index.chained;
+      named = named_more strings (offer_of strings (get_or entries at d)) (drop (at + 1) (offers_of strings entries)) nodes x named (ap (λ (y : Node). y.entry.member) is)
+          (subst (λ (n : List ℕ). All (IsOther strings n) nodes) read others) index.named;
+    })
+
+-- ---- the whole index
 
 -- no offer is indexed yet
-pub index_starts : (m : ℕ) (offers : List Offer) (heads nexts bests : List ℕ) → length heads ≡ m → 0 < m → length nexts ≡ length offers → length bests ≡ length offers → ((b : ℕ) → b < m → get_or heads b 0 ≡ length offers) → IsIndex m offers (length offers) heads nexts bests
-index_starts m offers heads nexts bests buckets some next_count best_count empty = record {
-  buckets = buckets;
-  some = some;
-  heads_are = λ b low. rw (empty b low) (empty_bucket m offers b);
-  chained = record { next_count = next_count; best_count = best_count; linked = λ i after low. absurd (omega arith) };
-}
+pub index_starts : (strings : List ℕ) (offers : List Offer) (heads : List ℕ) (nodes : List Node) (at : ℕ) → 0 < length heads → ((b : ℕ) → b < length heads → get_or heads b 0 ≡ 0) → nodes ≡ [] → length offers ≤ at → IsIndex strings (drop at offers) heads nodes
+unfolding first_offer
+index_starts strings offers heads nodes at some empty none past = rw (none, drop_all at offers past) (record {
+  chained =
+      record {
+        some = some;
+        heads_are = λ b low. rw (empty b low) (record { within = omega arith; here = λ d more. absurd (omega arith); last = λ k d less is. absurd (omega arith) });
+        nexts_are = record { each = λ k d low. absurd (omega arith) };
+        entries = λ k d low. absurd (omega arith);
+      };
+  named =
+      record {
+        bests = λ k d low. absurd (omega arith);
+        once = λ i j d low high. absurd (omega arith);
+        all = λ name others. refl;
+      };
+})
 
-pub ruleset puts = (head_of, chained_after, as_many)
+pub as_many : (strings : List ℕ) (entries : List Entry) → length (offers_of strings entries) ≡ length entries
+as_many strings entries = length-map entries (offer_of strings)
 
-pub ruleset looks = (looks_from_head, chained_from_head, finds_all)
+pub head_begins : (strings heads name : List ℕ) (nodes : List Node) (b : ℕ) → AreChained strings heads nodes → b ≡ bucket (length heads) name → b < length heads → BeginsAt strings (length heads) nodes (bucket (length heads) name) (length nodes) (get_or heads b 0)
+head_begins strings heads name nodes b chained same inside = subst (λ (c : ℕ). BeginsAt strings (length heads) nodes c (length nodes) (get_or heads b 0)) same (chained.heads_are b inside)
+
+pub found_best : (strings name : List ℕ) (offers : List Offer) (nodes : List Node) (at : ℕ) (node : Node) → AreNodes strings offers nodes → IsNodeOf strings nodes name at → node ≡ get_or nodes at node → Some node.entry.member ≡ first_offer name offers
+found_best strings name offers nodes at node named is there =
+    let best : first_offer (node_name strings node) offers ≡ Some node.entry.member = subst (λ (x : Node). first_offer (node_name strings x) offers ≡ Some x.entry.member) (sym there) (named.bests at node is.within) in
+    sym best ∙ ap (λ (n : List ℕ). first_offer n offers) (ap (node_name strings) there ∙ is.named node)
+
+pub found_none : (strings name : List ℕ) (offers : List Offer) (nodes : List Node) → AreNodes strings offers nodes → All (IsOther strings name) nodes → None ≡ first_offer name offers
+found_none strings name offers nodes named others = sym (named.all name others)
+
+pub ruleset looks = (head_begins, found_best, found_none)
 
 pub ruleset builds = (index_starts, as_many)

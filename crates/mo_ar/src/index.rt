@@ -1,20 +1,34 @@
 //! The index of offers by name.
 
-ghost use Rattle.std.specs.Prelude.{◌≡◌, ◌+◌, ◌*◌, ◌%◌, ◌^◌, ◌<◌, ◌≤◌, length, All, IfOk, IfSome, drop};
+ghost use Rattle.std.specs.Prelude.{◌≡◌, ◌+◌, ◌^◌, ◌<◌, ◌≤◌, List, length, All, IfNone, IfOk, IfSome, OnOk, drop, slice_set, slice_index_or};
 ghost use Rattle.std.specs.Str.{bytes_eq};
 ghost use Rattle.mo_ar.specs.inner.Index as index;
 ghost use Rattle.mo_ar.specs.inner.Hash.{AreMarks};
-ghost use Rattle.mo_ar.specs.inner.Index.{BeginsAt, IsChained, IsIndex, IsIndexOf, StandsAt, offers_of};
-ghost use Rattle.mo_ar.specs.Offers as offers;
+ghost use Rattle.mo_ar.specs.inner.Index.{AreChained, AreNexts, AreNodes, BeginsAt, IsEntry, IsIndex, IsIndexOf, IsNodeOf, IsOther, StandsAt, offers_of};
 ghost use Rattle.mo_ar.specs.Offers.{first_offer};
-ghost use Rattle.mo_ar.specs.inner.Index.{IsEntry};
-ghost use Rattle.mo_ar.specs.inner.Index.{offer_of};
 ghost use Rattle.mo_ar.specs.Text.{part};
+ghost use Rattle.mo_ar.specs.declared.index.Node.{Node};
+ghost use Rattle.mo_ar.specs.declared.offers.Offer.{Offer};
 
-use crate::hash::{hash, hash_at, marks_of};
+use crate::hash::{LONG, hash, hash_at, marks_of};
 use crate::offers::Entry;
 use mo_types::OutOfMemory;
 use std::alloc::Global;
+
+/// A name that is offered, with the least number of a member for it.
+#[derive(Clone, Copy, Debug, PartialEq, Eq)]
+pub struct Node {
+    entry: Entry,
+    // The node before it in its bucket, counted from 1, or 0.
+    next: u32,
+}
+
+/// The names that are offered, each once, and of each bucket of names the last one, counted from 1.
+#[derive(Debug, Drop)]
+pub struct Index {
+    heads: Vec<u32>,
+    nodes: Vec<Node>,
+}
 
 // The bucket of a name, of some buckets.
 #[tactic(auto, unfolding(crate::specs::inner::Index::bucket))]
@@ -23,7 +37,7 @@ fn bucket(name: &[u8], count: usize) -> usize
     ensures exact { result ≡ index.bucket count name.now }
     ensures within { result < count }
 {
-    hash(name) as usize % count
+    (hash(name) >> 32) as usize % count
 }
 
 // The bucket of an entry's name, of some buckets.
@@ -35,11 +49,8 @@ fn bucket_at(strings: &[u8], marks: &[u64], entry: Entry, count: usize) -> usize
     ensures exact { result ≡ index.bucket count (part strings.now entry.at entry.size) }
     ensures within { result < count }
 {
-    hash_at(strings, marks, entry.at as usize, entry.size as usize) as usize % count
+    (hash_at(strings, marks, entry.at as usize, entry.size as usize) >> 32) as usize % count
 }
-
-// Names of at most so many bytes are hashed without marks.
-const LONG: u32 = 128;
 
 /// The name of an entry.
 pub fn name_of(strings: &[u8], entry: Entry) -> &[u8]
@@ -62,107 +73,95 @@ fn is_named(strings: &[u8], entry: Entry, name: &[u8], place: Option<u32>) -> bo
     name_of(strings, entry) == name
 }
 
-// Whether the offer at an index has a name.
-#[tactic(auto, using(crate::proofs::IndexLemmas::names))]
-fn is_name(strings: &[u8], entries: &[Entry], at: usize, name: &[u8], place: Option<u32>) -> bool
-    requires entries { All (IsEntry strings.now) entries.now }
-    requires index { at < length entries.now }
-    requires place { IfSome place (StandsAt strings.now name.now) }
-    ensures { result ≡ bytes_eq (index.name_at (offers_of strings.now entries.now) at) name.now }
-{
-    is_named(strings, entries[at], name, place)
-}
-
-// The least number of a member that the offers from an index on give a name, where the bucket of the name goes
-// on at that index.
+// The index of the node of a name, which is in the bucket that begins at `from`, counted from 1.
 #[tactic(auto, using(crate::proofs::IndexLemmas::finds))]
 fn find(
     strings: &[u8],
-    entries: &[Entry],
-    nexts: &[u32],
-    bests: &[u32],
+    nodes: &[Node],
     name: &[u8],
     place: Option<u32>,
     count: usize,
     from: usize,
-) -> Option<u32>
-    requires entries { All (IsEntry strings.now) entries.now }
-    requires chained { IsChained count (offers_of strings.now entries.now) from nexts.now bests.now }
+) -> Option<usize>
+    requires entries { All (λ node. IsEntry strings.now node.entry) nodes.now }
+    requires nexts { AreNexts strings.now count nodes.now }
     requires place { IfSome place (StandsAt strings.now name.now) }
-    requires begins { BeginsAt count (offers_of strings.now entries.now) name.now from }
-    ensures { result ≡ first_offer name.now (drop from (offers_of strings.now entries.now)) }
+    requires begins { BeginsAt strings.now count nodes.now (index.bucket count name.now) (length nodes.now) from }
+    ensures found { IfSome result (IsNodeOf strings.now nodes.now name.now) }
+    ensures none { IfNone result (All (IsOther strings.now name.now) nodes.now) }
 {
     let mut at = from;
-    while at < entries.len() {
-        if is_name(strings, entries, at, name, place) {
-            return Some(bests[at]);
+    while at > 0 {
+        let node = nodes[at - 1];
+        if is_named(strings, node.entry, name, place) {
+            return Some(at - 1);
         }
-        at = nexts[at] as usize;
+        at = node.next as usize;
     }
     None
 }
 
-fn lesser(member: u32, other: Option<u32>) -> u32
-    ensures { result ≡ offers.lesser member other }
+// Notes one member more for the name of a node.
+fn lower(nodes: &mut Vec<Node>, at: usize, member: u32)
+    requires { at < length nodes.old.items }
+    ensures len { length nodes.new.items ≡ length nodes.old.items }
+    ensures lowered { (d : Node) → nodes.new.items ≡ slice_set nodes.old.items at (index.lowered member (slice_index_or nodes.old.items at d)) }
 {
-    match other {
-        Some(other) => member.min(other),
-        None => member,
-    }
+    let node = nodes[at];
+    nodes[at] = Node {
+        entry: Entry {
+            at: node.entry.at,
+            size: node.entry.size,
+            member: member.min(node.entry.member),
+        },
+        next: node.next,
+    };
 }
 
-// Puts the offer at an index in front of its bucket.
-#[tactic(auto, using(crate::proofs::IndexLemmas::puts))]
+// Puts the offer at an index into the index of those behind it.
 fn put(
     strings: &[u8],
     marks: &[u64],
     entries: &[Entry],
     heads: &mut [u32],
-    nexts: &mut [u32],
-    bests: &mut [u32],
+    nodes: &mut Vec<Node>,
     at: usize,
-)
+) -> Result<(), OutOfMemory>
     requires entries { All (IsEntry strings.now) entries.now }
     requires marks { AreMarks strings.now marks.now }
     requires place { at < length entries.now }
-    requires few { length entries.now < 2 ^ 32 }
-    requires index { IsIndex (length heads.old) (offers_of strings.now entries.now) (at + 1) heads.old nexts.old bests.old }
-    ensures { IsIndex (length heads.old) (offers_of strings.now entries.now) at heads.new nexts.new bests.new }
+    requires few { length nodes.old.items + 1 < 2 ^ 32 }
+    requires index { IsIndex strings.now (drop (at + 1) (offers_of strings.now entries.now)) heads.old nodes.old.items }
+    ensures index { OnOk result (IsIndex strings.now (drop at (offers_of strings.now entries.now)) heads.new nodes.new.items) }
+    ensures few { OnOk result (length nodes.new.items ≤ length nodes.old.items + 1) }
 {
     let entry = entries[at];
     let name = name_of(strings, entry);
     let count = heads.len();
     let b = bucket_at(strings, marks, entry, count);
     let head = heads[b];
-    let place = Some(entry.at);
-    let rest = find(
+    match find(
         strings,
-        entries,
-        nexts,
-        bests,
+        nodes.as_slice(),
         name,
-        place,
+        Some(entry.at),
         count,
         head as usize,
-    );
-    bests[at] = lesser(entry.member, rest);
-    nexts[at] = head;
-    heads[b] = at as u32;
-}
-
-/// Chains of offers whose names fall into one bucket.
-#[derive(Debug, Drop)]
-pub struct Index {
-    heads: Vec<u32>,
-    nexts: Vec<u32>,
-    bests: Vec<u32>,
+    ) {
+        Some(known) => lower(nodes, known, entry.member),
+        None => {
+            nodes.push(Node { entry, next: head })?;
+            heads[b] = nodes.len() as u32;
+        }
+    }
+    Ok(())
 }
 
 // Marks for the hashes of names, if some name is long.
 fn marks_for(alloc: Global, strings: &[u8], entries: &[Entry]) -> Result<Vec<u64>, OutOfMemory>
     ensures { IfOk result (λ marks. AreMarks strings.now marks.items) }
 {
-    if entries.iter().any(|entry| entry.size > LONG) {
+    if entries.iter().any(|entry| entry.size as usize > LONG) {
         marks_of(alloc, strings)
     } else {
         Ok(Vec::new(alloc))
@@ -174,14 +173,12 @@ fn marks_for(alloc: Global, strings: &[u8], entries: &[Entry]) -> Result<Vec<u64
 pub fn index_of(alloc: Global, strings: &[u8], entries: &[Entry]) -> Result<Index, OutOfMemory>
     requires entries { All (IsEntry strings.now) entries.now }
     requires few { length entries.now < 2 ^ 32 }
-    ensures { IfOk result (IsIndexOf (offers_of strings.now entries.now)) }
+    ensures { IfOk result (IsIndexOf strings.now (offers_of strings.now entries.now)) }
 {
     let marks = marks_for(alloc, strings, entries)?;
-    let count = entries.len();
-    let mut heads = vec![in alloc; count as u32; count + 1]?;
-    let mut nexts = vec![in alloc; 0; count]?;
-    let mut bests = vec![in alloc; 0; count]?;
-    let mut at = count;
+    let mut heads = vec![in alloc; 0; 2 * entries.len() + 1]?;
+    let mut nodes = Vec::with_capacity(alloc, entries.len())?;
+    let mut at = entries.len();
     while at > 0 {
         at -= 1;
         put(
@@ -189,35 +186,24 @@ pub fn index_of(alloc: Global, strings: &[u8], entries: &[Entry]) -> Result<Inde
             marks.as_slice(),
             entries,
             heads.as_mut_slice(),
-            nexts.as_mut_slice(),
-            bests.as_mut_slice(),
+            &mut nodes,
             at,
-        );
+        )?;
     }
-    Ok(Index {
-        heads,
-        nexts,
-        bests,
-    })
+    Ok(Index { heads, nodes })
 }
 
 /// The least number of a member that is offered for a name.
 #[tactic(auto, using(crate::proofs::IndexLemmas::looks))]
-pub fn look_up(strings: &[u8], entries: &[Entry], index: &Index, name: &[u8]) -> Option<u32>
-    requires entries { All (IsEntry strings.now) entries.now }
-    requires index { IsIndexOf (offers_of strings.now entries.now) index.now }
-    ensures { result ≡ first_offer name.now (offers_of strings.now entries.now) }
+pub fn look_up(strings: &[u8], index: &Index, name: &[u8]) -> Option<u32>
+    requires { AreChained strings.now index.now.heads.items index.now.nodes.items }
+    ensures { (offers : List Offer) → AreNodes strings.now offers index.now.nodes.items → result ≡ first_offer name.now offers }
 {
     let heads = index.heads.as_slice();
+    let nodes = index.nodes.as_slice();
     let b = bucket(name, heads.len());
-    find(
-        strings,
-        entries,
-        index.nexts.as_slice(),
-        index.bests.as_slice(),
-        name,
-        None,
-        heads.len(),
-        heads[b] as usize,
-    )
+    match find(strings, nodes, name, None, heads.len(), heads[b] as usize) {
+        Some(at) => Some(nodes[at].entry.member),
+        None => None,
+    }
 }

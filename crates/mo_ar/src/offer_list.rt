@@ -86,11 +86,6 @@ impl OfferList {
         ensures least { IfSome result (IsLeastOffer name.now self.now) }
         ensures none { IfNone result (IsUnoffered name.now self.now) }
     {
-        look_up(
-            self.strings.as_slice(),
-            self.entries.as_slice(),
-            &self.index,
-            name,
-        )
+        look_up(self.strings.as_slice(), &self.index, name)
     }
 }

@@ -1,11 +1,12 @@
--- The index of offers by name: names of one bucket are chained, in the order of the offers.
-use Rattle.std.specs.Prelude.{ℕ, ◌+◌, ◌%◌, ◌≡◌, ◌≤◌, ◌<◌, List, [], length, map, drop, slice_index, slice_get, All, Some}
-use Rattle.std.specs.Option.{option_map_or}
+-- The index of offers by name: a node for each name that is offered, and those of one bucket of names chained.
+use Rattle.std.specs.Prelude.{ℕ, ◌+◌, ◌-◌, ◌/◌, ◌%◌, ◌^◌, ◌≡◌, ◌≢◌, ◌≤◌, ◌<◌, List, length, map, drop, min, slice_index, slice_index_or, All, Some, None}
+use Rattle.std.specs.List.{AllPairs}
 use Rattle.mo_ar.specs.Offers.{first_offer}
 use Rattle.mo_ar.specs.Text.{part}
 use Rattle.mo_ar.specs.inner.Hash.{hash}
 use Rattle.mo_strings.specs.Strings.{first_nul}
 use Rattle.mo_ar.specs.declared.index.Index.{Index}
+use Rattle.mo_ar.specs.declared.index.Node.{Node}
 use Rattle.mo_ar.specs.declared.offers.Entry.{Entry}
 use Rattle.mo_ar.specs.declared.offers.Offer.{Offer}
 
@@ -21,57 +22,64 @@ pub record IsEntry (strings : List ℕ) (entry : Entry) : Type 0 where
 abbrev pub offers_of : List ℕ → List Entry → List Offer
 offers_of strings entries = map (offer_of strings) entries
 
--- the bucket of a name, of m buckets
+-- the bucket of a name, of m buckets, by the upper half of its hash
 unfoldable pub bucket : ℕ → List ℕ → ℕ
-bucket m name = hash name % m
+bucket m name = hash name / 2 ^ 32 % m
 
 -- a name that stands at a place, if it is known to stand somewhere
 abbrev pub StandsAt : List ℕ → List ℕ → ℕ → Type 0
 StandsAt strings name at = (first_nul (drop at strings) ≡ Some (length name)) × (name ≡ part strings at (length name))
 
--- the name of the offer at an index
-unfoldable pub name_at : List Offer → ℕ → List ℕ
-name_at offers i = option_map_or (λ offer. offer.name) (slice_get offers i) []
+-- the name of a node
+unfoldable pub node_name : List ℕ → Node → List ℕ
+node_name strings node = part strings node.entry.at node.entry.size
 
--- The offer at an index: where its bucket goes on, with no name of the bucket in between, and the least number
--- of a member that it or a later offer gives its name.
-pub record IsLinked (m : ℕ) (offers : List Offer) (i next best : ℕ) : Type 0 where
-  pub onward : i < next
-  pub within : next ≤ length offers
-  pub bucket_on : next < length offers → bucket m (name_at offers next) ≡ bucket m (name_at offers i)
-  pub skips : (name : List ℕ) → bucket m name ≡ bucket m (name_at offers i) → first_offer name (drop next offers) ≡ first_offer name (drop (i + 1) offers)
-  pub least : Some best ≡ first_offer (name_at offers i) (drop i offers)
+-- a node with one member more for its name
+abbrev pub lowered : ℕ → Node → Node
+lowered member node = record { entry = record { at = node.entry.at; size = node.entry.size; member = min member node.entry.member }; next = node.next }
 
--- where a bucket begins among the offers from an index on
-pub record IsHead (m : ℕ) (offers : List Offer) (from b head : ℕ) : Type 0 where
-  pub after : from ≤ head
-  pub within : head ≤ length offers
-  pub bucket_of : head < length offers → bucket m (name_at offers head) ≡ b
-  pub skips : (name : List ℕ) → bucket m name ≡ b → first_offer name (drop head offers) ≡ first_offer name (drop from offers)
+-- Where a bucket begins among the first so many nodes: at the last of them that is in it, counted from 1, or at 0 where
+-- none is.
+pub record BeginsAt (strings : List ℕ) (m : ℕ) (nodes : List Node) (b bound at : ℕ) : Type 0 where
+  pub within : at ≤ bound
+  pub here : (d : Node) → 0 < at → bucket m (node_name strings (slice_index_or nodes (at - 1) d)) ≡ b
+  pub last : (k : ℕ) (d : Node) → k < bound → bucket m (node_name strings (slice_index_or nodes k d)) ≡ b → k < at
 
--- the offers from an index on are chained
-pub record IsChained (m : ℕ) (offers : List Offer) (from : ℕ) (nexts bests : List ℕ) : Type 0 where
-  pub next_count : length nexts ≡ length offers
-  pub best_count : length bests ≡ length offers
-  pub linked : (i : ℕ) → from ≤ i → i < length offers → IsLinked m offers i (slice_index nexts i) (slice_index bests i)
+-- each node leads to the one before it in its bucket
+pub record AreNexts (strings : List ℕ) (m : ℕ) (nodes : List Node) : Type 0 where
+  pub each : (k : ℕ) (d : Node) → k < length nodes → BeginsAt strings m nodes (bucket m (node_name strings (slice_index_or nodes k d))) k (slice_index_or nodes k d).next
 
--- an index is that of an offer in the bucket of a name, or the end
-pub record BeginsAt (m : ℕ) (offers : List Offer) (name : List ℕ) (at : ℕ) : Type 0 where
-  pub within : at ≤ length offers
-  pub bucket_of : at < length offers → bucket m (name_at offers at) ≡ bucket m name
+-- nodes whose names are parts of the strings, chained by buckets
+pub record AreChained (strings heads : List ℕ) (nodes : List Node) : Type 0 where
+  pub some : 0 < length heads
+  pub heads_are : (b : ℕ) → b < length heads → BeginsAt strings (length heads) nodes b (length nodes) (slice_index heads b)
+  pub nexts_are : AreNexts strings (length heads) nodes
+  pub entries : All (λ node. IsEntry strings node.entry) nodes
 
--- the index of the offers from an index on
-pub record IsIndex (m : ℕ) (offers : List Offer) (from : ℕ) (heads nexts bests : List ℕ) : Type 0 where
-  pub buckets : length heads ≡ m
-  pub some : 0 < m
-  pub heads_are : (b : ℕ) → b < m → IsHead m offers from b (slice_index heads b)
-  pub chained : IsChained m offers from nexts bests
+-- a node has another name
+abbrev pub IsOther : List ℕ → List ℕ → Node → Type 0
+IsOther strings name node = node_name strings node ≢ name
 
--- an index of these offers
-abbrev pub IsIndexOf : List Offer → Index → Type 0
-IsIndexOf offers index = IsIndex (length index.heads.items) offers 0 index.heads.items index.nexts.items index.bests.items
+-- the node at an index has a name
+pub record IsNodeOf (strings : List ℕ) (nodes : List Node) (name : List ℕ) (at : ℕ) : Type 0 where
+  pub within : at < length nodes
+  pub named : (d : Node) → node_name strings (slice_index_or nodes at d) ≡ name
+
+-- a node for each name that is offered, with the least number of a member for it
+pub record AreNodes (strings : List ℕ) (offers : List Offer) (nodes : List Node) : Type 0 where
+  pub bests : All (λ node. first_offer (node_name strings node) offers ≡ Some node.entry.member) nodes
+  pub once : AllPairs (λ a b. node_name strings a ≢ node_name strings b) nodes
+  pub all : (name : List ℕ) → All (IsOther strings name) nodes → first_offer name offers ≡ None
+
+-- the index of some offers
+pub record IsIndex (strings : List ℕ) (offers : List Offer) (heads : List ℕ) (nodes : List Node) : Type 0 where
+  pub chained : AreChained strings heads nodes
+  pub named : AreNodes strings offers nodes
+
+abbrev pub IsIndexOf : List ℕ → List Offer → Index → Type 0
+IsIndexOf strings offers index = IsIndex strings offers index.heads.items index.nodes.items
 
 -- an index of the offers of these entries, whose names are parts of the strings
 pub record IsIndexed (strings : List ℕ) (entries : List Entry) (index : Index) : Type 0 where
   pub parts : All (IsEntry strings) entries
-  pub index_of : IsIndexOf (offers_of strings entries) index
+  pub index_of : IsIndexOf strings (offers_of strings entries) index

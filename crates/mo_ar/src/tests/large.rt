@@ -3,6 +3,7 @@ use super::read;
 use crate::OfferList;
 use mo_types::{ObjFault, OutOfMemory, Which};
 use std::alloc::Global;
+use std::process::Abort;
 use std::test::Fail;
 
 const MEMBERS: u32 = 50_000;
@@ -84,8 +85,7 @@ fn finds_each(offers: &OfferList) -> bool {
     true
 }
 
-#[test]
-fn many_members_and_offers(rt: HostRuntime) -> Result<(), Fail> {
+fn many_members(rt: &(impl Abort + AllocGlobal)) -> Result<(), Fail> {
     let archive = read(rt.alloc(), large(rt.alloc())?)?;
     assert!(rt; archive.members.len() == MEMBERS as usize);
     assert!(rt; archive.offers.len() == OFFERS as usize);
@@ -175,8 +175,7 @@ fn finds_all(offers: &OfferList, names: &[u8]) -> bool {
 }
 
 // One long name for all pairs, all ends of it, and equally long names that begin with the same 1,032 bytes.
-#[test]
-fn names_that_share_their_bytes(rt: HostRuntime) -> Result<(), Fail> {
+fn long_names_are_told_apart(rt: &(impl Abort + AllocGlobal)) -> Result<(), Fail> {
     let alloc = rt.alloc();
     let name = vec![in alloc; b'a'; ENDS as usize]?;
     let mut long = name.clone()?;
@@ -192,4 +191,10 @@ fn names_that_share_their_bytes(rt: HostRuntime) -> Result<(), Fail> {
     let offers = offers_of(alloc, 20_000, 1_043, names.as_slice())?;
     assert!(rt; finds_all(&offers, names.as_slice()));
     Ok(())
+}
+
+#[test]
+fn many_members_offers_and_long_names(rt: HostRuntime) -> Result<(), Fail> {
+    many_members(&rt)?;
+    long_names_are_told_apart(&rt)
 }

@@ -1,16 +1,19 @@
--- The search goes on along the bucket, and ends where the bucket does.
+-- The search goes on along the bucket, to the node of the name or to the end.
 use Rattle.std.proofs.Common.{sym, ◌∙◌}
-use Rattle.mo_ar.specs.inner.Index.{offers_of}
-use Rattle.mo_ar.proofs.IndexLemmas.{as_many, find_ends, find_goes_on}
+use Rattle.mo_ar.specs.declared.index.Node.{Node}
+use Rattle.mo_ar.specs.inner.Index.{node_name}
+use Rattle.mo_ar.proofs.IndexLemmas.{find_finds, find_goes_on}
 use Rattle.mo_ar.proofs.index.find.Goals as goal
 
-pub loop-at-preserved : goal.loop-at-preserved
-loop-at-preserved c =
-    find_goes_on c.args.count (offers_of c.args.strings.now c.args.entries.now) c.args.nexts.now c.args.bests.now c.args.name.now c.args.from c.loop-at.at c.loop-at.invariant c.requires.chained
-    (rw (as_many c.args.strings.now c.args.entries.now) c.loop-at-test.true)
-    (sym c.is_name.ensures ∙ c.if-is_name.false)
+none : Node
+none = record { entry = record { at = 0; size = 0; member = 0 }; next = 0 }
 
-pub returns : goal.returns
-returns c =
-    find_ends c.args.count (offers_of c.args.strings.now c.args.entries.now) c.args.name.now c.args.from c.loop-at.at c.loop-at.invariant
-    (rw (as_many c.args.strings.now c.args.entries.now) c.loop-at-test.false)
+pub returns-then-is_named-clause-found : goal.returns-then-is_named-clause-found
+unfolding node_name none
+returns-then-is_named-clause-found c =
+    find_finds c.args.strings.now c.args.count c.args.nodes.now c.args.name.now c.loop-at.at none c.loop-at.invariant c.loop-at-test.true (sym c.is_named.ensures ∙ c.if-is_named.true)
+
+pub loop-at-preserved : goal.loop-at-preserved
+unfolding node_name none
+loop-at-preserved c =
+    find_goes_on c.args.strings.now c.args.count c.args.nodes.now c.args.name.now c.loop-at.at none c.loop-at.invariant c.requires.nexts c.loop-at-test.true (sym c.is_named.ensures ∙ c.if-is_named.false)
