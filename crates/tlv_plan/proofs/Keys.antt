@@ -13,7 +13,6 @@ use Rattle.list_lemmas.proofs.Members.{all_at, all_weaker}
 use Rattle.list_lemmas.proofs.Rising.{rising_at}
 use Rattle.list_lemmas.proofs.Ties.{tied_first, tied_second, same_number}
 use Rattle.mo_types.specs.declared.key.AtomKey.{AtomKey}
-use Rattle.mo_types.specs.declared.key.FileId.{FileId}
 use Rattle.mo_types.specs.Keys.{compare_files, compare_keys}
 use Rattle.mo_types.proofs.KeyOrder.{compare_keys_total}
 

@@ -3,7 +3,7 @@
 -- of them all, and an atom's offset in it counts from there.
 use Rattle.std.specs.Prelude.{ℕ, ◌+◌, ◌^◌, ◌==◌, ◌||◌, Bool, List, [], ◌∷◌, ◌++◌, map, max}
 use Rattle.std.specs.Ordering.{is_eq}
-use Rattle.std.specs.List.{filter, filter_map, find}
+use Rattle.std.specs.List.{filter, filter_map, find, flat_map}
 use Rattle.mo_bytes.specs.Rounding.{least_multiple}
 use Rattle.mo_types.specs.declared.atom.Atom.{Atom}
 use Rattle.mo_types.specs.declared.key.AtomKey.{AtomKey}
@@ -64,3 +64,7 @@ template_size kept sections = sections_end kept 0 (thread_local sections)
 -- offsets by atoms' keys
 abbrev pub offsets : List (Atom × ℕ) → List Offset
 offsets placed = map (λ p. record { atom = p.0.key; offset = p.1 }) placed
+
+-- the keys that sections list, section by section
+abbrev pub keys_of : List OutSection → List AtomKey
+keys_of sections = flat_map (λ section. section.atoms) sections

@@ -1,10 +1,11 @@
 //! What the definitions mean, each on a call that does nothing.
-ghost use Rattle.std.specs.Prelude.{◌≡◌, ℕ, ◌+◌, ◌*◌, ◌^◌, ◌≤◌, List, ◌∷◌, All, slice_get, Some};
+ghost use Rattle.std.specs.Prelude.{◌≡◌, ◌≢◌, ℕ, ◌+◌, ◌*◌, ◌^◌, ◌≤◌, List, ◌∷◌, All, Contains, slice_get, Some};
 ghost use Rattle.std.specs.List.{AllPairs};
 ghost use Rattle.mo_bytes.specs.Rounding.{IsLeastMultiple};
 ghost use Rattle.mo_types.specs.declared.atom.Atom.{Atom};
 ghost use Rattle.mo_types.specs.declared.out_section.OutSection.{OutSection};
-ghost use Rattle.tlv_plan.specs.Template.{aligned, greatest_align, template_stand, template_size};
+ghost use Rattle.mo_types.specs.declared.key.AtomKey.{AtomKey};
+ghost use Rattle.tlv_plan.specs.Template.{aligned, greatest_align, keys_of, offsets, template_stand, template_size, thread_local};
 
 /// Each atom's offset is a multiple of its alignment.
 #[tactic(auto, using(crate::proofs::Meaning::are_aligned))]
@@ -31,4 +32,10 @@ pub fn places_are_least()
 pub fn the_greatest_alignment_counts()
     ensures bound { (sections : List OutSection) → All (λ (section : OutSection). section.align ≤ greatest_align sections) sections }
     ensures one { (first : OutSection) (rest : List OutSection) → (k : ℕ) × (section : OutSection) × (slice_get (first ∷ rest) k ≡ Some section) × (section.align ≡ greatest_align (first ∷ rest)) }
+{}
+
+/// An atom has one offset, where the thread-local sections list no atom twice: what determines the template determines
+/// each offset in it.
+pub fn offsets_are_one()
+    ensures { (kept : List Atom) (sections : List OutSection) → AllPairs (λ a b. a ≢ b) (keys_of (thread_local sections)) → (atom : AtomKey) (a b : ℕ) → Contains (offsets (template_stand kept sections)) (record { atom = atom; offset = a }) → Contains (offsets (template_stand kept sections)) (record { atom = atom; offset = b }) → a ≡ b }
 {}

@@ -11,7 +11,8 @@ mod room;
 mod tests;
 
 pub use laws::{
-    atoms_stand_apart, offsets_are_aligned, places_are_least, the_greatest_alignment_counts,
+    atoms_stand_apart, offsets_are_aligned, offsets_are_one, places_are_least,
+    the_greatest_alignment_counts,
 };
 pub use lookup::offset_of;
 pub use parts::{Offset, OffsetList, Template};
