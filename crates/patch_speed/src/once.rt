@@ -1,0 +1,70 @@
+//! Atoms' bytes copied, and their fields written as they come.
+
+use arm64_insn::{put_branch, put_low12, put_page};
+use atom_cut::bytes_of;
+use byteorder::{ByteOrder, LittleEndian};
+use mo_types::{LoadedFile, RefKind};
+use patch::{Met, PlacedWork};
+
+// Copies the bytes of an atom, and answers where they are.
+fn copied<'a>(
+    image: &'a mut [u8],
+    files: &[LoadedFile],
+    item: &PlacedWork,
+) -> Option<&'a mut [u8]> {
+    let contents = bytes_of(&files.get(item.file)?.object, &item.atom);
+    let start = item.at as usize;
+    let bytes = image.get_mut(start..start.saturating_add(contents.len()))?;
+    if bytes.len() == contents.len() {
+        bytes.copy_from_slice(contents);
+    }
+    Some(bytes)
+}
+
+/// Copies the bytes of atoms to their places.
+pub fn copy_atoms(image: &mut [u8], files: &[LoadedFile], work: &[PlacedWork]) {
+    for item in work {
+        let _done = copied(image, files, item).is_some();
+    }
+}
+
+// The word with its field, or as it was where the value doesn't fit.
+fn word_of(word: u32, at: u64, met: &Met) -> u32 {
+    let new = match met.kind {
+        RefKind::Branch => put_branch(word, met.value.wrapping_sub(at).cast_signed()),
+        RefKind::Page => put_page(word, (met.value >> 12) as i64 - (at >> 12) as i64),
+        _ => put_low12(word, met.value),
+    };
+    new.unwrap_or(word)
+}
+
+// Writes one field.
+fn write_field(bytes: &mut [u8], address: u64, met: &Met) {
+    let at = met.place as usize;
+    if at > bytes.len() || bytes.len() - at < 8 {
+        return;
+    }
+    match met.kind {
+        RefKind::Pointer => LittleEndian::write_u64(&mut bytes[at..], met.value),
+        _ => {
+            let word = LittleEndian::read_u32(&bytes[at..]);
+            let place = address.wrapping_add(met.place);
+            LittleEndian::write_u32(&mut bytes[at..], word_of(word, place, met));
+        }
+    }
+}
+
+/// Copies the bytes of atoms to their places and writes their fields, each as it comes.
+pub fn write_once(image: &mut [u8], files: &[LoadedFile], work: &[PlacedWork], mets: &[Met]) {
+    for item in work {
+        let last = item.first.saturating_add(item.count);
+        match (copied(image, files, item), mets.get(item.first..last)) {
+            (Some(bytes), Some(refs)) => {
+                for met in refs {
+                    write_field(bytes, item.address, met);
+                }
+            }
+            _ => {}
+        }
+    }
+}
