@@ -28,12 +28,23 @@ pub fn copy_atoms(image: &mut [u8], files: &[LoadedFile], work: &[PlacedWork]) {
     }
 }
 
+// The target of a reference with its addend, if it is an address.
+fn target_of(met: &Met) -> Option<u64> {
+    u64::try_from(i128::from(met.value) + i128::from(met.addend)).ok()
+}
+
+// The same modulo 2^64.
+fn wrapped_target(met: &Met) -> u64 {
+    met.value.wrapping_add(met.addend.cast_unsigned())
+}
+
 // The word with its field, or as it was where the value doesn't fit.
 fn word_of(word: u32, at: u64, met: &Met) -> u32 {
-    let new = match met.kind {
-        RefKind::Branch => put_branch(word, met.value.wrapping_sub(at).cast_signed()),
-        RefKind::Page => put_page(word, (met.value >> 12) as i64 - (at >> 12) as i64),
-        _ => put_low12(word, met.value),
+    let new = match (met.kind, target_of(met)) {
+        (RefKind::Branch, Some(target)) => put_branch(word, target.wrapping_sub(at).cast_signed()),
+        (RefKind::Page, Some(target)) => put_page(word, (target >> 12) as i64 - (at >> 12) as i64),
+        (RefKind::PageOff, _) => put_low12(word, wrapped_target(met)),
+        _ => None,
     };
     new.unwrap_or(word)
 }
@@ -45,7 +56,7 @@ fn write_field(bytes: &mut [u8], address: u64, met: &Met) {
         return;
     }
     match met.kind {
-        RefKind::Pointer => LittleEndian::write_u64(&mut bytes[at..], met.value),
+        RefKind::Pointer => LittleEndian::write_u64(&mut bytes[at..], wrapped_target(met)),
         _ => {
             let word = LittleEndian::read_u32(&bytes[at..]);
             let place = address.wrapping_add(met.place);
