@@ -4,3 +4,4 @@ pub mod Laid
 pub mod Spread
 pub mod Narrow
 pub mod Finish
+pub mod Sound

@@ -2,6 +2,7 @@ ghost use Rattle.std.specs.Prelude.{◌≡◌, ◌+◌, ◌<◌, ◌^◌, ◌++�
 ghost use Rattle.sect_place.specs.Arrangement as arrangement;
 
 use crate::part::{Choice, Group, Made, Part, PartList, is_in};
+use crate::wide::sum_of;
 use mo_types::{Bytes, KeyList, OutOfMemory, OutSection};
 use std::alloc::Global;
 use std::mem;
@@ -166,13 +167,12 @@ fn add_runs(alloc: Global, groups: &mut Vec<Group>, parts: Vec<Part>) -> Result<
 }
 
 // How many sections some segments have.
-pub(crate) fn count_of(groups: &[Group]) -> u128
-    requires { arrangement.parts_count groups.now < 2 ^ 127 }
-    ensures { result ≡ arrangement.parts_count groups.now }
+pub(crate) fn count_of(groups: &[Group]) -> Result<u128, OutOfMemory>
+    ensures { IfOk result (λ count. count ≡ arrangement.parts_count groups.now) }
 {
     let mut count = 0;
     for group in groups {
-        count += group.parts.len() as u128;
+        count = sum_of(count, group.parts.len() as u128)?;
     }
-    count
+    Ok(count)
 }

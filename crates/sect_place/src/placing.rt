@@ -7,6 +7,7 @@ ghost use Rattle.mo_types.specs.declared.out_section.OutSection.{OutSection};
 ghost use Rattle.sect_place.specs.Arrangement.{parts_count};
 ghost use Rattle.sect_place.specs.Places as places;
 ghost use Rattle.sect_place.specs.Layout as spec;
+ghost use Rattle.sect_place.specs.Whole.{IsWholeLayout};
 ghost use Rattle.sect_place.specs.inner.Room.{capped};
 
 use crate::arrange::{MadeSizes, arrange, count_of};
@@ -15,7 +16,7 @@ use crate::layout::{Layout, PlacedList, PlacedSectionList, Segment, SegmentList}
 use crate::part::{Group, is_in};
 use crate::size::{PlaceFault, PlaceSizes};
 use crate::walk::{Laid, Room, place_groups};
-use crate::wide::cap;
+use crate::wide::{cap, sum_of};
 use mo_cmd::Command;
 use mo_types::{AtomList, Bytes, OutOfMemory, OutSection, OutSections};
 use slot_plan::Slots;
@@ -23,9 +24,9 @@ use std::alloc::Global;
 
 /// Where everything of an image stands: its segments, its sections and its atoms one behind the other, each at the
 /// least place that is a multiple of its alignment and isn't below the end of what comes before (`loader.h`:
-/// segment_command_64, section_64). The sections with atoms stand in the order of their list. It needs 2^14 at most as
-/// alignments, and fewer than 2^127 bytes in all. `ImageSize` comes exactly where what stands before `__LINKEDIT`, but
-/// for `__PAGEZERO`, has 2^32 bytes or more.
+/// segment_command_64, section_64). The sections with atoms stand in the order of their list. `ImageSize` comes exactly
+/// where what stands before `__LINKEDIT`, but for `__PAGEZERO`, has 2^32 bytes or more, as long as it has fewer than
+/// 2^127; more than that is answered as want of memory.
 pub fn place(
     alloc: Global,
     kept: &AtomList,
@@ -38,15 +39,15 @@ pub fn place(
     requires rising { IsStrictlySortedBy (on (λ (atom : Atom). atom.key) compare_keys) kept.now }
     requires atoms { All (λ atom. atom.align ≤ 14) kept.now }
     requires sections { All (λ section. section.align ≤ 14) sections.now }
-    requires fits { spec.end_of_image (spec.plan_of kept.now sections.now slots.now islands.now sizes.now command.now) < 2 ^ 127 }
     ensures segments { IfOk result (λ layout. layout.segments ≡ spec.image_segments command.now (spec.plan_of kept.now sections.now slots.now islands.now sizes.now command.now)) }
     ensures sections { IfOk result (λ layout. layout.sections ≡ spec.image_sections (spec.plan_of kept.now sections.now slots.now islands.now sizes.now command.now)) }
     ensures places { IfOk result (λ layout. IsPermutation (spec.image_places (spec.plan_of kept.now sections.now slots.now islands.now sizes.now command.now)) layout.placed) }
+    ensures whole { IfOk result IsWholeLayout }
     ensures size { MatchResult result (λ layout. spec.image_size (spec.plan_of kept.now sections.now slots.now islands.now sizes.now command.now) < 2 ^ 32) (spec.IsTooLarge (spec.image_size (spec.plan_of kept.now sections.now slots.now islands.now sizes.now command.now))) }
 {
     let sections = sections.as_slice();
     let groups = arrange(alloc, sections, made_sizes(slots, sizes))?;
-    let lead = lead_of(groups.as_slice(), sizes, command);
+    let lead = lead_of(groups.as_slice(), sizes, command)?;
     let base = base_of(command);
     let room = Room {
         kept: kept.as_slice(),
@@ -79,14 +80,26 @@ fn made_sizes(slots: &Slots, sizes: &PlaceSizes) -> MadeSizes
 
 // How many bytes stand before the first section.
 #[tactic(auto, unfolding(crate::specs::Layout::lead_of))]
-fn lead_of(groups: &[Group], sizes: &PlaceSizes, command: &Command) -> u128
-    requires { spec.lead_of groups.now sizes.now command.now < 2 ^ 127 }
-    ensures { result ≡ spec.lead_of groups.now sizes.now command.now }
+fn lead_of(groups: &[Group], sizes: &PlaceSizes, command: &Command) -> Result<u128, OutOfMemory>
+    ensures { IfOk result (λ lead. lead ≡ spec.lead_of groups.now sizes.now command.now) }
 {
     let others = if command.dylib { 1 } else { 2 };
     let segments = 72 * (groups.len() as u128 + others);
-    let sections = 80 * count_of(groups);
-    32 + (sizes.commands + segments + sections) + u128::from(command.headerpad)
+    let sections = section_bytes(count_of(groups)?)?;
+    let other = sum_of(sizes.commands, segments)?;
+    let load = sum_of(other, sections)?;
+    let front = sum_of(32, load)?;
+    sum_of(front, u128::from(command.headerpad))
+}
+
+// The bytes of the structures of some sections.
+fn section_bytes(count: u128) -> Result<u128, OutOfMemory>
+    ensures { IfOk result (λ bytes. bytes ≡ 80 * count) }
+{
+    if count >= 1 << 64 {
+        return Err(OutOfMemory);
+    }
+    Ok(80 * count)
 }
 
 // The greatest alignment in `__TEXT`.
@@ -133,14 +146,16 @@ fn first_segments(alloc: Global, dylib: bool) -> Result<Vec<Segment>, OutOfMemor
 
 // The layout of what was placed, unless it is too large.
 fn finished(alloc: Global, laid: Laid, base: u128) -> Result<Layout, PlaceFault>
-    requires begins { base ≤ laid.end }
-    requires small { laid.end < 2 ^ 127 }
+    requires { base ≤ laid.end }
     ensures segments { IfOk result (λ layout. layout.segments ≡ laid.segments.items ++ spec.linkedit (capped laid.end) (capped laid.file) ∷ []) }
     ensures sections { IfOk result (λ layout. layout.sections ≡ laid.sections.items) }
     ensures places { IfOk result (λ layout. IsPermutation laid.placed.items layout.placed) }
     ensures size { MatchResult result (λ layout. laid.end - base < 2 ^ 32) (spec.IsTooLarge (laid.end - base)) }
 {
     let size = laid.end - base;
+    if size >= 1 << 127 {
+        return Err(PlaceFault::OutOfMemory);
+    }
     if size >= 1 << 32 {
         return Err(PlaceFault::ImageSize {
             value: size as i128,

@@ -18,7 +18,7 @@ use crate::island::IslandArea;
 use crate::layout::{Placed, PlacedSection, Segment, compare};
 use crate::lookup::is_same;
 use crate::part::{Group, Part};
-use crate::wide::{cap, cap_count, up};
+use crate::wide::{cap, cap_count, sum_of, up};
 use mo_types::{Atom, AtomKey, Bytes, OutOfMemory, OutSection};
 use std::alloc::Global;
 
@@ -38,8 +38,7 @@ fn place_atoms(
     from: u128,
     keys: &[AtomKey],
 ) -> Result<u128, OutOfMemory>
-    requires room { IsRoom room.now.kept.now room.now.areas.now room.now.unit }
-    requires fits { end_of from (spec.spaced room.now.kept.now room.now.areas.now room.now.unit keys.now) < 2 ^ 127 }
+    requires { IsRoom room.now.kept.now room.now.areas.now room.now.unit }
     ensures places { IfOk result (λ end. placed.new.items ≡ placed.old.items ++ map capped_place (spec.places (stand from (spec.spaced room.now.kept.now room.now.areas.now room.now.unit keys.now)))) }
     ensures end { IfOk result (λ end. end ≡ end_of from (spec.spaced room.now.kept.now room.now.areas.now room.now.unit keys.now)) }
 {
@@ -50,13 +49,14 @@ fn place_atoms(
         near = next;
         match found {
             Some(atom) => {
-                let place = up(at, atom.align);
-                let behind = bytes_behind(room.areas, room.unit, key);
+                let place = up(at, atom.align)?;
+                let behind = bytes_behind(room.areas, room.unit, key)?;
                 placed.push(Placed {
                     atom: *key,
                     address: cap(place),
                 })?;
-                at = place + (u128::from(atom.size) + behind);
+                let size = sum_of(u128::from(atom.size), behind)?;
+                at = sum_of(place, size)?;
             }
             None => {}
         }
@@ -82,25 +82,23 @@ fn find_near(kept: &[Atom], near: usize, key: &AtomKey) -> (Option<Atom>, usize)
 }
 
 // How many bytes the area behind an atom has.
-fn bytes_behind(areas: &[IslandArea], unit: u8, key: &AtomKey) -> u128
+fn bytes_behind(areas: &[IslandArea], unit: u8, key: &AtomKey) -> Result<u128, OutOfMemory>
     requires areas { IsStrictlySortedBy (on (λ (area : IslandArea). area.last) compare_keys) areas.now }
     requires unit { unit ≤ 14 }
-    ensures exact { result ≡ spec.bytes_behind areas.now unit key.now }
-    ensures small { result < 2 ^ 127 }
+    ensures { IfOk result (λ bytes. bytes ≡ spec.bytes_behind areas.now unit key.now) }
 {
     match find_area(areas, key) {
         Some(area) => area_bytes(unit, area.targets.len()),
-        None => 0,
+        None => Ok(0),
     }
 }
 
-fn area_bytes(unit: u8, count: usize) -> u128
+fn area_bytes(unit: u8, count: usize) -> Result<u128, OutOfMemory>
     requires { unit ≤ 14 }
-    ensures exact { result ≡ spec.islands_bytes unit count }
-    ensures small { result < 2 ^ 127 }
+    ensures { IfOk result (λ bytes. bytes ≡ spec.islands_bytes unit count) }
 {
     if count == 0 {
-        return 0;
+        return Ok(0);
     }
     up(3 + 12 * count as u128, unit)
 }
@@ -138,7 +136,6 @@ fn place_parts(
     requires low { All (λ (part : Part). part.section.align ≤ 14) parts.items }
     requires begins { start ≤ from }
     requires file { file ≤ start }
-    requires fits { spec.parts_end (spec.spaced room.now.kept.now room.now.areas.now room.now.unit) from parts.items < 2 ^ 127 }
     ensures sections { IfOk result (λ ends. sections.new.items ≡ sections.old.items ++ map capped_section (spec.parts_sections (spec.spaced room.now.kept.now room.now.areas.now room.now.unit) start file from parts.items)) }
     ensures places { IfOk result (λ ends. placed.new.items ≡ placed.old.items ++ map capped_place (spec.parts_places (spec.spaced room.now.kept.now room.now.areas.now room.now.unit) from parts.items)) }
     ensures memory { IfOk result (λ ends. ends.memory ≡ spec.parts_end (spec.spaced room.now.kept.now room.now.areas.now room.now.unit) from parts.items) }
@@ -148,8 +145,9 @@ fn place_parts(
     let mut filled = from;
     for part in parts {
         let Part { section, fixed } = part;
-        let address = up(at, section.align);
-        let end = place_atoms(placed, room, address, section.atoms.as_slice())? + fixed;
+        let address = up(at, section.align)?;
+        let atoms_end = place_atoms(placed, room, address, section.atoms.as_slice())?;
+        let end = sum_of(atoms_end, fixed)?;
         filled = filled_to(section.kind, address, end, filled);
         sections.push(section_at(section, start, file, address, end))?;
         at = end;
@@ -229,7 +227,6 @@ pub(crate) fn place_groups(
 ) -> Result<Laid, OutOfMemory>
     requires room { IsRoom room.now.kept.now room.now.areas.now room.now.unit }
     requires low { All (λ (group : Group). All (λ (part : Part). part.section.align ≤ 14) group.parts) groups.items }
-    requires fits { spec.groups_end (spec.spaced room.now.kept.now room.now.areas.now room.now.unit) base lead groups.items < 2 ^ 127 }
     ensures segments { IfOk result (λ laid. laid.segments.items ≡ before.items ++ map capped_segment (spec.groups_segments (spec.spaced room.now.kept.now room.now.areas.now room.now.unit) base 0 lead groups.items)) }
     ensures sections { IfOk result (λ laid. laid.sections.items ≡ map capped_section (spec.groups_sections (spec.spaced room.now.kept.now room.now.areas.now room.now.unit) base 0 lead groups.items)) }
     ensures places { IfOk result (λ laid. laid.placed.items ≡ map capped_place (spec.groups_places (spec.spaced room.now.kept.now room.now.areas.now room.now.unit) base lead groups.items)) }
@@ -245,11 +242,12 @@ pub(crate) fn place_groups(
     for group in groups {
         let Group { name, parts } = group;
         let count = parts.len();
-        let from = at + lead;
+        let from = sum_of(at, lead)?;
         let parts = parts.into_vec();
         let ends = place_parts(&mut sections, &mut placed, room, at, file, from, parts)?;
-        let next = up(ends.memory, 14);
-        let bytes = up(ends.file, 14) - at;
+        let next = up(ends.memory, 14)?;
+        let file_end = up(ends.file, 14)?;
+        let bytes = file_end - at;
         segments.push(segment_at(name, at, next, file, bytes, count))?;
         at = next;
         file += bytes;

@@ -1,17 +1,30 @@
 //! Places of up to 128 bits, since atoms may have any size.
-ghost use Rattle.std.specs.Prelude.{◌≡◌, ◌<◌, ◌≤◌, ◌^◌, ◌+◌, ◌-◌, min};
+ghost use Rattle.std.specs.Prelude.{◌≡◌, ◌≤◌, ◌^◌, ◌+◌, ◌-◌, min, IfOk};
 ghost use Rattle.sect_place.specs.inner.Room.{capped};
 ghost use Rattle.tlv_plan.specs.Template.{aligned};
 
-// The least multiple of 2^`align` from a place on.
-pub(crate) fn up(at: u128, align: u8) -> u128
-    requires align { align ≤ 14 }
-    requires fits { at < 2 ^ 127 }
-    ensures exact { result ≡ aligned align at }
-    ensures near { result < at + 0x4000 }
+use mo_types::OutOfMemory;
+
+// The least multiple of 2^`align` from a place on. Places of 2^127 bytes are answered as want of memory.
+pub(crate) fn up(at: u128, align: u8) -> Result<u128, OutOfMemory>
+    requires { align ≤ 14 }
+    ensures { IfOk result (λ place. place ≡ aligned align at) }
 {
+    if at >= 1 << 127 {
+        return Err(OutOfMemory);
+    }
     let unit = unit_of(align);
-    (at + (unit - 1)) / unit * unit
+    Ok((at + (unit - 1)) / unit * unit)
+}
+
+// The sum of two numbers, or want of memory where it has more than 128 bits.
+pub(crate) fn sum_of(a: u128, b: u128) -> Result<u128, OutOfMemory>
+    ensures { IfOk result (λ sum. sum ≡ a + b) }
+{
+    match a.checked_add(b) {
+        Some(sum) => Ok(sum),
+        None => Err(OutOfMemory),
+    }
 }
 
 fn unit_of(align: u8) -> u128
