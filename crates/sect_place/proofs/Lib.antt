@@ -5,3 +5,4 @@ pub mod Spread
 pub mod Narrow
 pub mod Finish
 pub mod Sound
+pub mod Meaning

@@ -7,7 +7,7 @@ use Rattle.mo_types.specs.declared.key.AtomKey.{AtomKey}
 use Rattle.mo_types.specs.declared.out_section.OutSection.{OutSection}
 use Rattle.slot_plan.specs.declared.list.Slots.{Slots}
 use Rattle.sect_place.specs.Arrangement.{MadeBytes, groups_of, parts_count}
-use Rattle.sect_place.specs.Places.{spaced, area_unit, groups_segments, groups_sections, groups_places, groups_end, groups_file}
+use Rattle.sect_place.specs.Places.{spaced, area_unit, groups_segments, groups_sections, groups_places, groups_end, groups_file, groups_stand}
 use Rattle.sect_place.specs.declared.island.IslandPlan.{IslandPlan}
 use Rattle.sect_place.specs.declared.layout.Placed.{Placed}
 use Rattle.sect_place.specs.declared.layout.PlacedSection.{PlacedSection}
@@ -81,6 +81,10 @@ image_segments command plan =
 
 unfoldable pub image_sections : Plan → List PlacedSection
 image_sections plan = groups_sections plan.atoms plan.base 0 plan.lead plan.groups
+
+-- where each atom stands, with the islands behind it
+unfoldable pub image_stand : Plan → List (Atom × ℕ)
+image_stand plan = groups_stand plan.atoms plan.base plan.lead plan.groups
 
 unfoldable pub image_places : Plan → List Placed
 image_places plan = groups_places plan.atoms plan.base plan.lead plan.groups

@@ -1,11 +1,12 @@
 -- Where the segments of an image, its sections and its atoms stand: one behind the other, each at the least place
 -- that is a multiple of its alignment and isn't below the end of what comes before (`loader.h`: segment_command_64,
 -- section_64).
-use Rattle.std.specs.Prelude.{ℕ, ◌+◌, ◌-◌, ◌*◌, ◌==◌, ◌&&◌, Bool, not, max, List, [], ◌∷◌, ◌++◌, map, length, codes, if◌then◌else◌}
+use Rattle.std.specs.Prelude.{ℕ, ◌≡◌, ◌^◌, ◌+◌, ◌-◌, ◌*◌, ◌==◌, ◌&&◌, Bool, not, max, List, [], ◌∷◌, ◌++◌, map, length, codes, if◌then◌else◌}
 use Rattle.std.specs.List.{find}
 use Rattle.std.specs.Option.{option_map_or}
 use Rattle.std.specs.Ordering.{is_eq}
 use Rattle.std.specs.Str.{bytes_eq}
+use Rattle.mo_bytes.specs.Rounding.{IsLeastMultiple}
 use Rattle.mo_types.specs.Keys.{compare_keys}
 use Rattle.mo_types.specs.Whole.{is_zerofill}
 use Rattle.mo_types.specs.declared.atom.Atom.{Atom}
@@ -150,3 +151,23 @@ unfoldable pub groups_file : (List AtomKey → List Atom) → ℕ → ℕ → �
 groups_file atoms at file lead [] = file
 groups_file atoms at file lead (group ∷ groups) =
     groups_file atoms (page_up (group_end atoms at lead group)) (file + file_bytes atoms at lead group) 0 groups
+
+-- ---- atoms with what stands behind them
+
+-- where each atom of a segment's sections stands, with its area
+unfoldable pub parts_stand : (List AtomKey → List Atom) → ℕ → List Part → List (Atom × ℕ)
+parts_stand atoms at [] = []
+parts_stand atoms at (part ∷ parts) =
+    stand (part_from at part) (atoms part.section.atoms) ++ parts_stand atoms (part_end atoms at part) parts
+
+unfoldable pub groups_stand : (List AtomKey → List Atom) → ℕ → ℕ → List Group → List (Atom × ℕ)
+groups_stand atoms at lead [] = []
+groups_stand atoms at lead (group ∷ groups) =
+    parts_stand atoms (at + lead) group.parts ++ groups_stand atoms (page_up (group_end atoms at lead group)) 0 groups
+
+-- places of atoms in turn, each of which is the least multiple of the atom's alignment that isn't below the end of
+-- what comes before
+abbrev pub AreLeast : ℕ → List Atom → List ℕ → Type 0
+AreLeast at [] places = places ≡ []
+AreLeast at (atom ∷ atoms) [] = ⊥
+AreLeast at (atom ∷ atoms) (place ∷ places) = IsLeastMultiple (2 ^ atom.align) at place × AreLeast (place + atom.size) atoms places

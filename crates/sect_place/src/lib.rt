@@ -3,6 +3,7 @@
 
 mod arrange;
 mod island;
+mod laws;
 mod layout;
 mod lookup;
 mod part;
@@ -12,6 +13,7 @@ mod walk;
 mod wide;
 
 pub use island::{AreaList, BranchTarget, BranchTargetList, IslandArea, IslandPlan, WayList};
+pub use laws::{atoms_stand_apart, places_are_least, sections_stand_apart};
 pub use layout::{
     Layout, Placed, PlacedList, PlacedSection, PlacedSectionList, Segment, SegmentList,
 };

@@ -1,0 +1,36 @@
+//! What the definitions mean, each on a call that does nothing.
+ghost use Rattle.std.specs.Prelude.{◌≡◌, ℕ, ◌+◌, ◌*◌, ◌^◌, ◌≤◌, List, All, map};
+ghost use Rattle.std.specs.List.{AllPairs};
+ghost use Rattle.mo_bytes.specs.Rounding.{IsLeastMultiple};
+ghost use Rattle.mo_types.specs.declared.atom.Atom.{Atom};
+ghost use Rattle.tlv_plan.specs.Template.{stand};
+ghost use Rattle.sect_place.specs.Layout.{Plan, image_stand, image_places, image_sections};
+ghost use Rattle.sect_place.specs.Places.{AreLeast, places, part_from, page_up};
+ghost use Rattle.sect_place.specs.declared.layout.PlacedSection.{PlacedSection};
+ghost use Rattle.sect_place.specs.declared.part.Part.{Part};
+
+/// Each atom of an image ends, with the islands behind it, where the next one begins or before, and its place is a
+/// multiple of its alignment.
+#[tactic(auto, using(crate::proofs::Meaning::atom_laws))]
+pub fn atoms_stand_apart()
+    ensures places { (plan : Plan) → image_places plan ≡ places (image_stand plan) }
+    ensures apart { (plan : Plan) → AllPairs (λ (p : Atom × ℕ) (q : Atom × ℕ). p.1 + p.0.size ≤ q.1) (image_stand plan) }
+    ensures aligned { (plan : Plan) → All (λ (p : Atom × ℕ). (count : ℕ) × (p.1 ≡ count * 2 ^ p.0.align)) (image_stand plan) }
+{}
+
+/// Each section of an image ends where the next one begins or before, and its address is a multiple of its alignment.
+#[tactic(auto, using(crate::proofs::Meaning::section_laws))]
+pub fn sections_stand_apart()
+    ensures apart { (plan : Plan) → AllPairs (λ (p : PlacedSection) (q : PlacedSection). p.address + p.size ≤ q.address) (image_sections plan) }
+    ensures aligned { (plan : Plan) → All (λ (p : PlacedSection). (count : ℕ) × (p.address ≡ count * 2 ^ p.section.align)) (image_sections plan) }
+{}
+
+/// Atoms, sections and segments stand at the least multiples of their alignments that aren't below the end of what
+/// comes before, and no other places of atoms do.
+#[tactic(auto, using(crate::proofs::Meaning::least_laws))]
+pub fn places_are_least()
+    ensures atoms { (at : ℕ) (atoms : List Atom) → AreLeast at atoms (map (λ (p : Atom × ℕ). p.1) (stand at atoms)) }
+    ensures only { (at : ℕ) (atoms : List Atom) (places : List ℕ) → AreLeast at atoms places → places ≡ map (λ (p : Atom × ℕ). p.1) (stand at atoms) }
+    ensures sections { (at : ℕ) (part : Part) → IsLeastMultiple (2 ^ part.section.align) at (part_from at part) }
+    ensures segments { (at : ℕ) → IsLeastMultiple (2 ^ 14) at (page_up at) }
+{}
