@@ -1,0 +1,8 @@
+use Rattle.std.proofs.Common.{rules, ◌≡◌, List, ℕ, slice_get, get_or, [], Some, ap, ◌∙◌}
+use Rattle.std.specs.Ordering.{nat_cmp, is_gt}
+use Rattle.std.specs.Cmp.Lexicographic.{slice_cmp}
+use Rattle.resolve.proofs.DuplicateLemmas.{name_there}
+use Rattle.resolve.proofs.duplicates.is_after.Goals as goal
+
+pub returns : goal.returns
+returns c = rw (name_there c.args.names.now c.args.a c.name_of.result.now c.name_of.ensures, name_there c.args.names.now c.args.b c.name_of-2.result.now c.name_of-2.ensures) (c.is_gt.ensures ∙ ap is_gt c.cmp.ensures)
