@@ -11,7 +11,7 @@ use Rattle.resolve.specs.Found.{Found, found_at, found_in, found}
 pub record IsAdding {X : Type 0} (before now all rest : List X) : Type 0 where
   pub same : now ++ rest ≡ before ++ all
 
-there : {X : Type 0} (xs : List X) (i : ℕ) (x : X) → i < length xs → x ≡ get_or xs i x → drop i xs ≡ x ∷ drop (i + 1) xs
+pub there : {X : Type 0} (xs : List X) (i : ℕ) (x : X) → i < length xs → x ≡ get_or xs i x → drop i xs ≡ x ∷ drop (i + 1) xs
 there xs i x low is = drop_more xs i x low ∙ ap (λ y. y ∷ drop (i + 1) xs) (sym is)
 
 -- those of a file from a place on
@@ -34,7 +34,7 @@ from_end : (file : LoadedFile) (i : ℕ) → length file.object.symbols ≤ i �
 unfolding from
 from_end file i past = rw (drop_all i file.object.symbols past) refl
 
-append_none : {X : Type 0} (ys : List X) → ys ++ [] ≡ ys
+pub append_none : {X : Type 0} (ys : List X) → ys ++ [] ≡ ys
 append_none [] = refl
 append_none (y ∷ ys) = ap (λ zs. y ∷ zs) (append_none ys)
 

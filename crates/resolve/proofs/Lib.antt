@@ -4,3 +4,9 @@ pub mod FoundLemmas
 pub mod StrongLemmas
 pub mod LeastLemmas
 pub mod DuplicateLemmas
+pub mod WordLemmas
+pub mod NamedLemmas
+pub mod RisingLemmas
+pub mod LiteralLemmas
+pub mod GroupLemmas
+pub mod RepresentativeLemmas

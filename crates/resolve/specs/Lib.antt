@@ -1,3 +1,6 @@
 pub mod Duplicates
 pub mod Found
+pub mod Laws
+pub mod Places
+pub mod Representatives
 pub mod inner

@@ -1,0 +1,44 @@
+//! What the words of candidates and the representatives of literals mean, each on a call that does nothing.
+ghost use Rattle.std.specs.Prelude.{◌≡◌, ◌<◌, ℕ, List, Contains, Ok, true};
+ghost use Rattle.std.specs.declared.cmp.Ordering.TheVariants.{Less};
+ghost use Rattle.mo_types.specs.Candidates.{Candidate, candidate_word, strength};
+ghost use Rattle.mo_types.specs.Keys.{compare_files};
+ghost use Rattle.mo_types.specs.Loaded.{IsWholeLoaded};
+ghost use Rattle.mo_types.specs.declared.loaded.Loaded.{Loaded};
+ghost use Rattle.mo_types.specs.declared.loaded.LoadedFile.{LoadedFile};
+ghost use Rattle.name_ids.specs.Names.{gathered};
+ghost use Rattle.resolve.specs.Found.{AreNamed};
+ghost use Rattle.resolve.specs.Laws.{HasRoom};
+ghost use Rattle.resolve.specs.Representatives.{IsRepresentative, Literal, is_same, literals, representative_of};
+
+/// Of two candidates the one with the lesser strength has the lesser word, wherever it stands.
+#[tactic(auto, using(crate::proofs::WordLemmas::words))]
+pub fn the_stronger_wins()
+    ensures { (a b : Candidate) → HasRoom a → HasRoom b → strength a.symbol < strength b.symbol → candidate_word a < candidate_word b }
+{}
+
+/// Of two candidates of one strength the earlier one has the lesser word: the one of the earlier file, and in a file the
+/// earlier symbol.
+#[tactic(auto, using(crate::proofs::WordLemmas::words))]
+pub fn the_earlier_wins()
+    ensures file { (a b : Candidate) → HasRoom a → HasRoom b → strength a.symbol ≡ strength b.symbol → compare_files a.file b.file ≡ Less → candidate_word a < candidate_word b }
+    ensures symbol { (a b : Candidate) → strength a.symbol ≡ strength b.symbol → a.file ≡ b.file → a.index < b.index → candidate_word a < candidate_word b }
+{}
+
+/// Each candidate's name is among the names that are gathered of its files.
+#[tactic(auto, using(crate::proofs::NamedLemmas::names))]
+pub fn candidates_have_numbers()
+    ensures { (files : List LoadedFile) (extra names : List (List ℕ)) → gathered files extra ≡ Ok names → AreNamed names files }
+{}
+
+/// What stands for a literal is one that is the same, with the least key of all of these.
+#[tactic(auto, using(crate::proofs::RepresentativeLemmas::representatives))]
+pub fn representatives_have_the_least_keys()
+    ensures { (loaded : Loaded) → IsWholeLoaded loaded → (literal : Literal) → Contains (literals loaded.files) literal → IsRepresentative (literals loaded.files) literal (representative_of (literals loaded.files) literal).representative }
+{}
+
+/// Literals that are the same have one representative, which so stands for itself.
+#[tactic(auto, using(crate::proofs::RepresentativeLemmas::representatives))]
+pub fn the_same_literals_have_one_representative()
+    ensures { (all : List Literal) (a b : Literal) → is_same a b ≡ true → Contains all a → Contains all b → (representative_of all a).representative ≡ (representative_of all b).representative }
+{}
