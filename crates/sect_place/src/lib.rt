@@ -9,6 +9,8 @@ mod lookup;
 mod part;
 mod placing;
 mod size;
+#[cfg(test)]
+mod tests;
 mod walk;
 mod wide;
 
