@@ -1,8 +1,10 @@
 //! The program, over any words, files, output and messages.
 
-ghost use Rattle.std.specs.Prelude.{◌≡◌, ◌⊎◌, List, ℕ, IfOk, IfErr};
+ghost use Rattle.std.specs.Prelude.{◌≡◌, ◌≢◌, ◌⊎◌, List, ℕ, IfOk, IfErr};
 ghost use Rattle.mo_outside.specs.Faults.{Rises};
-ghost use Rattle.link_engine.specs.Verdict.{ForFiles, verdict};
+ghost use Rattle.link_engine.specs.Asks.{Answered, inputs_of};
+ghost use Rattle.link_engine.specs.Command.{command_of};
+ghost use Rattle.link_engine.specs.Verdict.{verdict};
 ghost use Rattle.atomld.specs.Exits.{Exits};
 
 use link_engine::link;
@@ -19,10 +21,11 @@ fn link_words<F: Files, O: Out, D: Diag>(
     out: &mut O,
     diag: &mut D,
 ) -> u8
-    ensures { ForFiles (F.holds files.old) (λ held. Exits (verdict words.now held) result
-        (Rises (F.faults files.old) (F.faults files.new)) (Rises (O.faults out.old) (O.faults out.new)) (¬ Rises (D.faults diag.old) (D.faults diag.new))
+    ensures { Answered F.answers (F.holds files.old) (inputs_of (command_of words.now)) (result ≢ 4)
+        (λ answers. Exits (verdict words.now answers) result (Rises (O.faults out.old) (O.faults out.new)) (¬ Rises (D.faults diag.old) (D.faults diag.new))
         (record { files = O.files out.old; calls = O.calls out.old; lines = D.lines diag.old })
-        (record { files = O.files out.new; calls = O.calls out.new; lines = D.lines diag.new })) }
+        (record { files = O.files out.new; calls = O.calls out.new; lines = D.lines diag.new }))
+        (record { told = F.asked files.old; self = files.old }) (record { told = F.asked files.new; self = files.new }) }
 {
     link(alloc, words, files, out, diag, &FreeGate).code()
 }
@@ -36,10 +39,11 @@ pub fn run<F: Files, O: Out, D: Diag>(
     out: &mut O,
     diag: &mut D,
 ) -> u8
-    ensures exits { IfOk words (λ words. ForFiles (F.holds files.old) (λ held. Exits (verdict words held) result
-        (Rises (F.faults files.old) (F.faults files.new)) (Rises (O.faults out.old) (O.faults out.new)) (¬ Rises (D.faults diag.old) (D.faults diag.new))
+    ensures exits { IfOk words (λ words. Answered F.answers (F.holds files.old) (inputs_of (command_of words)) (result ≢ 4)
+        (λ answers. Exits (verdict words answers) result (Rises (O.faults out.old) (O.faults out.new)) (¬ Rises (D.faults diag.old) (D.faults diag.new))
         (record { files = O.files out.old; calls = O.calls out.old; lines = D.lines diag.old })
-        (record { files = O.files out.new; calls = O.calls out.new; lines = D.lines diag.new }))) }
+        (record { files = O.files out.new; calls = O.calls out.new; lines = D.lines diag.new }))
+        (record { told = F.asked files.old; self = files.old }) (record { told = F.asked files.new; self = files.new })) }
     ensures memory { IfErr words (λ fault. result ≡ 4) }
 {
     match words {

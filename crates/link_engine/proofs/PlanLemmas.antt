@@ -1,76 +1,113 @@
--- The steps before writing, over files that are told or not.
-use Rattle.std.proofs.Common.{◌≡◌, ◌≢◌, ℕ, ◌++◌, List, Option, Some, None, Result, Ok, Err, IsErrAnd, refl, sym, ap, ◌∙◌, subst, arith}
+-- The steps before writing, by the answers of the files.
+use Rattle.std.proofs.Common.{◌≡◌, ◌≢◌, ℕ, ◌++◌, List, [], Option, Some, None, Result, Ok, Err, IsErrAnd, refl, sym, ap, ◌∙◌, subst, arith}
 use Rattle.std.proofs.lemmas.List.{append-nil}
+use Rattle.std.proofs.lemmas.Result.{err_from_is_err_and}
+use Rattle.mo_cmd.specs.declared.command.CommandInput.{CommandInput}
+use Rattle.mo_outside.specs.Answers.{Answer}
 use Rattle.mo_outside.specs.Files.{FileMap}
-use Rattle.mo_outside.specs.Log.{Logs}
 use Rattle.mo_outside.specs.Tells.{Tells}
 use Rattle.mo_types.specs.Gives.{◌>>=◌}
 use Rattle.mo_types.specs.declared.answer.Status.{Status}
 use Rattle.mo_types.specs.declared.answer.Status.TheVariants.{Done, Usage, ReadFault, Refused, WriteFault, OutOfMemory}
 use Rattle.link_engine.specs.declared.plan.Plan.{Plan}
 use Rattle.link_engine.specs.declared.words.Command.{Command}
-use Rattle.link_engine.specs.Asks.{Asks, AsksSome, inputs_of, tried}
+use Rattle.link_engine.specs.Asks.{Answered, Asks, FilesSeen, asked_for, inputs_of}
 use Rattle.link_engine.specs.Command.{command_of}
-use Rattle.link_engine.specs.Input.{input_of}
+use Rattle.link_engine.specs.Input.{contents_of}
 use Rattle.link_engine.specs.Steps.{IsWordsStop}
 use Rattle.link_engine.specs.Stop as stop
 use Rattle.link_engine.specs.Stop.{Answers, Stop}
-use Rattle.link_engine.specs.Verdict.{ForFiles, plan_for, verdict}
-use Rattle.link_engine.proofs.FetchLemmas.{for_all, for_each}
-use Rattle.link_engine.proofs.StopLemmas.{first_ends, passed_on}
-use Rattle.link_engine.proofs.WritingLemmas.{tells_more}
+use Rattle.link_engine.specs.Verdict.{plan_for, verdict}
+use Rattle.link_engine.proofs.StopLemmas.{first_ends, next_answers, passed_on}
 
--- the verdict where the words, or the file, or what stands in it give a fault
+-- what holds of the answers leads to something else that does
+pub answered_then : {S : Type 0} (fetches : S → List ℕ → Answer → S → Type 0) (held : Option FileMap) (inputs : List CommandInput) (ends more_ends : Type 0) (meets then : List Answer → Type 0) (old new : FilesSeen S)
+    → Answered fetches held inputs ends meets old new → (more_ends → ends) → ((answers : List Answer) → meets answers → then answers) → Answered fetches held inputs more_ends then old new
+answered_then fetches held inputs ends more_ends meets then old new given fewer next = record {
+  asked = given.asked;
+  chain = given.chain;
+  agree = given.agree;
+  logged = given.logged;
+  all = λ e. given.all (fewer e);
+  some = given.some;
+  holds = next _ given.holds;
+}
 
-pub words_decide : (words : List (List ℕ)) (told : Option FileMap) (status : Status) (returned : Result Plan Status) → IsErrAnd returned (λ passed. passed ≡ status) → Answers {A = Command} (Err status) (command_of words) → ForFiles told (λ held. Answers returned (verdict words held))
+-- the words are at fault, or memory for them ran out: nothing is asked for
+pub words_decide : {S : Type 0} (fetches : S → List ℕ → Answer → S → Type 0) (held : Option FileMap) (words : List (List ℕ)) (ended : Status) (returned : Result Plan Status) (told : Option (List (List ℕ))) (self : S)
+    → IsErrAnd returned (λ passed. passed ≡ ended) → Answers {A = Command} (Err ended) (command_of words) → IsWordsStop ended
+    → Answered fetches held (inputs_of (command_of words)) (returned ≢ Err OutOfMemory) (λ answers. Answers returned (verdict words answers)) (record { told = told; self = self }) (record { told = told; self = self })
 unfolding verdict
-words_decide words told status returned is answers =
-    for_all told (λ held. Answers returned (verdict words held)) (λ held.
-    passed_on status returned (verdict words held) is (first_ends status (command_of words) (λ command. input_of held command >>= λ bytes. plan_for command bytes) answers))
-
-pub file_decides : (words : List (List ℕ)) (command : Command) (told : Option FileMap) (status : Status) (returned : Result Plan Status) → IsErrAnd returned (λ passed. passed ≡ status) → command_of words ≡ Ok command
-    → ForFiles told (λ held. Answers {A = List ℕ} (Err status) (input_of held command)) → ForFiles told (λ held. Answers returned (verdict words held))
-unfolding verdict
-file_decides words command told status returned is reads finds =
-    for_each told (λ held. Answers {A = List ℕ} (Err status) (input_of held command)) (λ held. Answers returned (verdict words held)) finds
-    (λ held answers. passed_on status returned (verdict words held) is (rw reads (first_ends status (input_of held command) (λ bytes. plan_for command bytes) answers)))
-
-pub bytes_decide : (words : List (List ℕ)) (command : Command) (bytes : List ℕ) (told : Option FileMap) (result : Result Plan Status) → command_of words ≡ Ok command
-    → ForFiles told (λ held. input_of held command ≡ Ok bytes) → Answers result (plan_for command bytes) → ForFiles told (λ held. Answers result (verdict words held))
-unfolding verdict
-bytes_decide words command bytes told result reads finds answers =
-    for_each told (λ held. input_of held command ≡ Ok bytes) _ finds
-    (λ held is. subst (Answers result) (sym (rw (reads, is) refl)) answers)
-
--- what was asked for
-
-pub none_asked : (words : List (List ℕ)) (status : Status) (x : Option (List (List ℕ))) → Answers {A = Command} (Err status) (command_of words) → IsWordsStop status → status ≢ OutOfMemory → Tells (Asks (tried words)) x x
-none_asked words status x answers kind other = by_status status answers kind other
+words_decide fetches held words ended returned told self is answers kind =
+    let passed = err_from_is_err_and returned is in record {
+      asked = [];
+      chain = refl;
+      agree = tt;
+      logged = nothing told;
+      all = λ ends. none ended answers kind (λ same. ends (passed.1 ∙ ap Err (passed.2 ∙ same)));
+      some = (0, refl);
+      holds = passed_on ended returned (verdict words []) is (first_ends ended (command_of words) (λ command. contents_of command.inputs [] >>= λ contents. plan_for command contents) answers);
+    }
   where
-    nothing : (given : Result Command Stop) (why : Stop) → given ≡ Err why → (y : Option (List (List ℕ))) → Tells (Asks (inputs_of given)) y y
-    nothing given why is None = tt
-    nothing given why is (Some old) = record { asked = sym (ap (λ paths. old ++ inputs_of paths) is ∙ append-nil old) }
+    nothing : (x : Option (List (List ℕ))) → Tells (Asks []) x x
+    nothing None = tt
+    nothing (Some old) = record { asked = sym (append-nil old) }
 
-    by_status : (status : Status) → Answers {A = Command} (Err status) (command_of words) → IsWordsStop status → status ≢ OutOfMemory → Tells (Asks (tried words)) x x
-    by_status Done answers kind other = absurd kind
-    by_status (Usage word rule) answers kind other = nothing (command_of words) (stop.Usage word rule) answers x
-    by_status (ReadFault path) answers kind other = absurd kind
-    by_status (Refused refusal) answers kind other = absurd kind
-    by_status WriteFault answers kind other = absurd kind
-    by_status OutOfMemory answers kind other = absurd (other refl)
+    no_inputs : (given : Result Command Stop) (why : Stop) → given ≡ Err why → [] ≡ asked_for (inputs_of given) []
+    no_inputs given why same = sym (ap (λ (r : Result Command Stop). asked_for (inputs_of r) []) same)
 
-pub none_asked_yet : (words : List (List ℕ)) (x : Option (List (List ℕ))) → Tells (AsksSome (tried words)) x x
-none_asked_yet words None = tt
-none_asked_yet words (Some old) = record { count = 0; within = omega arith; asked = sym (append-nil old) }
+    none : (status : Status) → Answers {A = Command} (Err status) (command_of words) → IsWordsStop status → status ≢ OutOfMemory → [] ≡ asked_for (inputs_of (command_of words)) []
+    none Done told kind other = absurd kind
+    none (Usage word rule) told kind other = no_inputs (command_of words) (stop.Usage word rule) told
+    none (ReadFault path) told kind other = absurd kind
+    none (Refused refusal) told kind other = absurd kind
+    none WriteFault told kind other = absurd kind
+    none OutOfMemory told kind other = absurd (other refl)
 
-pub input_asked : (words : List (List ℕ)) (command : Command) (x y : Option (List (List ℕ))) → command_of words ≡ Ok command → Tells (Logs command.input) x y → Tells (Asks (tried words)) x y
-input_asked words command x y reads logs =
-    tells_more (Logs command.input) (Asks (tried words))
-    (λ a b one. record { asked = one.logged ∙ ap (λ given. a ++ inputs_of given) (sym reads) }) x y logs
+-- the inputs of words that are a command
+by_words : {S : Type 0} (fetches : S → List ℕ → Answer → S → Type 0) (held : Option FileMap) (words : List (List ℕ)) (command : Command) (ends : Type 0) (meets : List Answer → Type 0) (old new : FilesSeen S)
+    → command_of words ≡ Ok command → Answered fetches held command.inputs ends meets old new → Answered fetches held (inputs_of (command_of words)) ends meets old new
+by_words fetches held words command ends meets old new reads given =
+    subst (λ (r : Result Command Stop). Answered fetches held (inputs_of r) ends meets old new) (sym reads) given
 
-pub input_asked_some : (words : List (List ℕ)) (command : Command) (x y : Option (List (List ℕ))) → command_of words ≡ Ok command → Tells (Logs command.input) x y → Tells (AsksSome (tried words)) x y
-input_asked_some words command x y reads logs =
-    tells_more (Logs command.input) (AsksSome (tried words))
-    (λ a b one. record { count = 1; within = rw reads (omega arith); asked = one.logged ∙ rw reads refl }) x y logs
+by_sent : {S : Type 0} (fetches : S → List ℕ → Answer → S → Type 0) (held : Option FileMap) (command : Command) (sent : List CommandInput) (fetched : Result (List (List ℕ)) Status) (old new : FilesSeen S)
+    → sent ≡ command.inputs → Answered fetches held sent (fetched ≢ Err OutOfMemory) (λ answers. Answers fetched (contents_of sent answers)) old new
+    → Answered fetches held command.inputs (fetched ≢ Err OutOfMemory) (λ answers. Answers fetched (contents_of command.inputs answers)) old new
+by_sent fetches held command sent fetched old new same given =
+    subst (λ (inputs : List CommandInput). Answered fetches held inputs (fetched ≢ Err OutOfMemory) (λ answers. Answers fetched (contents_of inputs answers)) old new) same given
 
-pub ruleset plans = (none_asked, none_asked_yet, input_asked, input_asked_some)
+same_fault : {A E : Type 0} {x y : E} → ◌≡◌ {A = Result A E} (Err x) (Err y) → x ≡ y
+same_fault e = cc
+
+-- a file isn't there, or wasn't read
+pub files_decide : {S : Type 0} (fetches : S → List ℕ → Answer → S → Type 0) (held : Option FileMap) (words : List (List ℕ)) (command : Command) (sent : List CommandInput) (ended : Status) (fetched : Result (List (List ℕ)) Status) (returned : Result Plan Status) (old new : FilesSeen S)
+    → IsErrAnd returned (λ passed. passed ≡ ended) → command_of words ≡ Ok command → fetched ≡ Err ended
+    → sent ≡ command.inputs → Answered fetches held sent (fetched ≢ Err OutOfMemory) (λ answers. Answers fetched (contents_of sent answers)) old new
+    → Answered fetches held (inputs_of (command_of words)) (returned ≢ Err OutOfMemory) (λ answers. Answers returned (verdict words answers)) old new
+unfolding verdict
+files_decide fetches held words command sent ended fetched returned old new is reads failed same given =
+    let passed = err_from_is_err_and returned is in
+    by_words fetches held words command (returned ≢ Err OutOfMemory) (λ answers. Answers returned (verdict words answers)) old new reads
+    (answered_then fetches held command.inputs (fetched ≢ Err OutOfMemory) (returned ≢ Err OutOfMemory) (λ answers. Answers fetched (contents_of command.inputs answers)) _ old new (by_sent fetches held command sent fetched old new same given)
+    (λ ends same. let last : ended ≡ OutOfMemory = same_fault (sym failed ∙ same) in ends (passed.1 ∙ ap Err (passed.2 ∙ last)))
+    (λ answers told. passed_on ended returned (verdict words answers) is
+    (next_answers command (Err ended) (command_of words) (λ command. contents_of command.inputs answers >>= λ contents. plan_for command contents) reads
+    (first_ends ended (contents_of command.inputs answers) (λ contents. plan_for command contents) (subst (λ (r : Result (List (List ℕ)) Status). Answers r (contents_of command.inputs answers)) failed told)))))
+
+-- all files are there
+pub contents_decide : {S : Type 0} (fetches : S → List ℕ → Answer → S → Type 0) (held : Option FileMap) (words : List (List ℕ)) (command : Command) (sent : List CommandInput) (contents : List (List ℕ)) (fetched : Result (List (List ℕ)) Status) (returned : Result Plan Status) (old new : FilesSeen S)
+    → command_of words ≡ Ok command → fetched ≡ Ok contents → Answers returned (plan_for command contents)
+    → sent ≡ command.inputs → Answered fetches held sent (fetched ≢ Err OutOfMemory) (λ answers. Answers fetched (contents_of sent answers)) old new
+    → Answered fetches held (inputs_of (command_of words)) (returned ≢ Err OutOfMemory) (λ answers. Answers returned (verdict words answers)) old new
+unfolding verdict
+contents_decide fetches held words command sent contents fetched returned old new reads is plans same given =
+    by_words fetches held words command (returned ≢ Err OutOfMemory) (λ answers. Answers returned (verdict words answers)) old new reads
+    (answered_then fetches held command.inputs (fetched ≢ Err OutOfMemory) (returned ≢ Err OutOfMemory) (λ answers. Answers fetched (contents_of command.inputs answers)) _ old new (by_sent fetches held command sent fetched old new same given)
+    (λ ends same. absurd (no_error (sym is ∙ same)))
+    (λ answers told. next_answers command returned (command_of words) (λ command. contents_of command.inputs answers >>= λ contents. plan_for command contents) reads
+    (next_answers contents returned (contents_of command.inputs answers) (λ contents. plan_for command contents) (subst (λ (r : Result (List (List ℕ)) Status). Answers r (contents_of command.inputs answers)) is told) plans)))
+  where
+    no_error : {A E : Type 0} {x : A} {e : E} → ◌≡◌ {A = Result A E} (Ok x) (Err e) → ⊥
+    no_error e = absurd cc
+
+pub ruleset plans = (answered_then)

@@ -1,7 +1,6 @@
 -- What steps answer, one after the other.
 use Rattle.std.proofs.Common.{◌≡◌, Result, Ok, Err, IsErrAnd, sym, ap, ◌∙◌, subst}
 use Rattle.std.proofs.lemmas.Result.{err_from_is_err_and}
-use Rattle.mo_types.specs.Answer.{IsDetermined}
 use Rattle.mo_types.specs.Gives.{◌>>=◌}
 use Rattle.mo_types.specs.declared.answer.Status.{Status}
 use Rattle.mo_types.specs.declared.answer.Status.TheVariants.{Done, Usage, ReadFault, Refused, WriteFault, OutOfMemory}
@@ -12,7 +11,7 @@ use Rattle.link_engine.specs.Stop.{Answers, Stop, status_of}
 pub first_ends : {A B : Type 0} (status : Status) (given : Result A Stop) (next : A → Result B Stop) → Answers {A = A} (Err status) given → Answers {A = B} (Err status) (given >>= next)
 first_ends Done given next is = tt
 first_ends (Usage word rule) given next is = ap (λ r. r >>= next) is
-first_ends (ReadFault path) given next is = tt
+first_ends (ReadFault path) given next is = ap (λ r. r >>= next) is
 first_ends (Refused refusal) given next is = ap (λ r. r >>= next) is
 first_ends WriteFault given next is = tt
 first_ends OutOfMemory given next is = tt
@@ -30,18 +29,10 @@ first_passed_on status returned given next is answers = passed_on status returne
 pub next_answers : {A B : Type 0} (x : A) (returned : Result B Status) (given : Result A Stop) (next : A → Result B Stop) → given ≡ Ok x → Answers returned (next x) → Answers returned (given >>= next)
 next_answers {A = A} x returned given next is answers = subst (λ (r : Result A Stop). Answers returned (r >>= next)) (sym is) answers
 
--- want of memory and faults of the outside are left to the code
-pub left_to_code : {A : Type 0} (status : Status) (given : Result A Stop) → (IsDetermined status → ⊥) → Answers {A = A} (Err status) given
-left_to_code Done given other = tt
-left_to_code (Usage word rule) given other = absurd (other tt)
-left_to_code (ReadFault path) given other = tt
-left_to_code (Refused refusal) given other = absurd (other tt)
-left_to_code WriteFault given other = tt
-left_to_code OutOfMemory given other = tt
-
 -- the status of a stop is answered where the definition gives it
 pub stop_told : {A : Type 0} (given : Result A Stop) (why : Stop) → Answers {A = A} (Err (status_of why)) given → given ≡ Err why
 stop_told given (stop.Usage word rule) is = is
+stop_told given (stop.ReadFault path) is = is
 stop_told given (stop.Refused refusal) is = is
 
 pub ruleset answers = (first_passed_on, next_answers)

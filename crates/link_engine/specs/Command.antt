@@ -9,13 +9,8 @@ use Rattle.mo_cmd.specs.declared.command.UsageFault.TheVariants as fault
 use Rattle.link_engine.specs.declared.words.Command.{Command}
 use Rattle.link_engine.specs.Stop.{Stop, Usage}
 
--- the path of the one input
-abbrev pub first_path : List CommandInput → List ℕ
-first_path [] = []
-first_path (input ∷ _) = input.value
-
 abbrev pub taken : WholeCommand → Command
-taken command = record { input = first_path command.inputs; output = command.output }
+taken command = record { inputs = command.inputs; output = command.output }
 
 -- A fault of the words as the link answers it. No words lack memory: that row only makes the table whole.
 abbrev pub told : Result WholeCommand UsageFault → Result Command Stop
@@ -25,3 +20,12 @@ told (Err fault.OutOfMemory) = Err (Usage 0 NoInput)
 
 unfoldable pub command_of : List (List ℕ) → Result Command Stop
 command_of words = told (whole.command_of words)
+
+-- WHAT THE LINK HAS YET. Words that are let through have one input: its path, and its bytes among those of all inputs.
+abbrev pub first_path : List CommandInput → List ℕ
+first_path [] = []
+first_path (input ∷ _) = input.value
+
+abbrev pub first_bytes : List (List ℕ) → List ℕ
+first_bytes [] = []
+first_bytes (bytes ∷ _) = bytes

@@ -1,14 +1,41 @@
--- The input's bytes among the files.
-use Rattle.std.specs.Prelude.{ℕ, List, Option, Some, None, Result, Ok, Err}
+-- The inputs' bytes, by the answers that the files gave.
+use Rattle.std.specs.Prelude.{ℕ, ◌≡◌, List, [], ◌∷◌, map, Option, Some, None, Result, Ok, Err}
+use Rattle.mo_cmd.specs.declared.command.CommandInput.{CommandInput}
+use Rattle.mo_outside.specs.Answers.{Answer, There, Absent, Unread}
+use Rattle.mo_outside.specs.Answers as answer
 use Rattle.mo_outside.specs.Files.{FileMap, fetched}
+use Rattle.mo_types.specs.Gives.{◌>>=◌}
 use Rattle.mo_types.specs.declared.answer.Refusal.TheVariants.{Missing}
-use Rattle.link_engine.specs.declared.words.Command.{Command}
-use Rattle.link_engine.specs.Stop.{Stop, Refused}
+use Rattle.link_engine.specs.Stop.{Stop, ReadFault, Refused}
 
-abbrev pub or_missing : List ℕ → Option (List ℕ) → Result (List ℕ) Stop
-or_missing path (Some bytes) = Ok bytes
-or_missing path None = Err (Refused (Missing path))
+-- The bytes of a file, or why there are none. An answer that lacked memory counts as that of a file that wasn't read:
+-- that row only makes the table whole, since want of memory is left to the code.
+abbrev pub content_of : List ℕ → Answer → Result (List ℕ) Stop
+content_of path (There bytes) = Ok bytes
+content_of path Absent = Err (Refused (Missing path))
+content_of path Unread = Err (ReadFault path)
+content_of path answer.Refused = Err (ReadFault path)
 
--- what is fetched of the command's input
-abbrev pub input_of : FileMap → Command → Result (List ℕ) Stop
-input_of files command = or_missing command.input (fetched files command.input)
+-- the bytes of all inputs, in their order, or why the first one has none
+abbrev pub contents_of : List CommandInput → List Answer → Result (List (List ℕ)) Stop
+contents_of [] answers = Ok []
+contents_of (input ∷ inputs) [] = Err (ReadFault input.value)
+contents_of (input ∷ inputs) (answer ∷ answers) =
+    content_of input.value answer >>= λ bytes. contents_of inputs answers >>= λ more. Ok (bytes ∷ more)
+
+-- what files that can be read answer of a path
+abbrev pub found : Option (List ℕ) → Answer
+found (Some bytes) = There bytes
+found None = Absent
+
+abbrev pub answers_from : FileMap → List CommandInput → List Answer
+answers_from files inputs = map (λ input. found (fetched files input.value)) inputs
+
+-- an input was answered in such a way, and those before it are there
+abbrev pub IsFirst : (Answer → Type 0) → List CommandInput → List Answer → List ℕ → Type 0
+IsFirst is [] answers path = ⊥
+IsFirst is (input ∷ inputs) [] path = ⊥
+IsFirst is (input ∷ inputs) (There bytes ∷ answers) path = IsFirst is inputs answers path
+IsFirst is (input ∷ inputs) (Absent ∷ answers) path = is Absent × (input.value ≡ path)
+IsFirst is (input ∷ inputs) (Unread ∷ answers) path = is Unread × (input.value ≡ path)
+IsFirst is (input ∷ inputs) (answer.Refused ∷ answers) path = is answer.Refused × (input.value ≡ path)

@@ -12,7 +12,6 @@ use Rattle.mo_types.specs.declared.object_fault.ObjFault.{ObjFault}
 use Rattle.mo_types.specs.declared.object_fault.ObjFault.TheVariants.{Malformed, Unsupported, Limit, OutOfMemory}
 use Rattle.mo_obj.specs.Object.{object_of}
 use Rattle.link_engine.specs.declared.form.TextObject.{TextObject}
-use Rattle.link_engine.specs.declared.words.Command.{Command}
 use Rattle.link_engine.specs.Form.{later, linked_of}
 use Rattle.link_engine.specs.Stop as stop
 use Rattle.link_engine.specs.Stop.{Stop}
@@ -45,5 +44,5 @@ abbrev pub or_refused : List ℕ → Result TextObject ObjFault → Result TextO
 or_refused path (Ok object) = Ok object
 or_refused path (Err fault) = Err (refused path fault)
 
-unfoldable pub read : Command → List ℕ → Result TextObject Stop
-read command bytes = or_refused command.input (text_object bytes)
+unfoldable pub read : List ℕ → List ℕ → Result TextObject Stop
+read path bytes = or_refused path (text_object bytes)

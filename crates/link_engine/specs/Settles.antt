@@ -10,11 +10,10 @@ use Rattle.link_engine.specs.declared.plan.Plan.{Plan}
 use Rattle.link_engine.specs.Stop.{Stop, status_of}
 use Rattle.link_engine.specs.Writing.{AreCallsUpTo, AreFilesCalls, Hands, WritesAll, WritesUpTo}
 
--- The answer is given only where the cause stands. Where it stands the answer is given, unless memory ran
--- out or the fault came.
-pub record ExactlyWhere (cause : Type 0) (answer status : Status) (fault : Type 0) : Type 0 where
+-- The answer is given only where the cause stands. Where it stands the answer is given, unless memory ran out.
+pub record ExactlyWhere (cause : Type 0) (answer status : Status) : Type 0 where
   pub only : status ≡ answer → cause
-  pub always : cause → (status ≡ answer) ⊎ ((status ≡ OutOfMemory) ⊎ fault)
+  pub always : cause → (status ≡ answer) ⊎ (status ≡ OutOfMemory)
 
 -- what the output and the messages tell
 pub record Seen : Type 0 where
@@ -48,10 +47,11 @@ pub record CarriesPart (plan : Plan) (quiet : Type 0) (old new : Seen) : Type 0 
   pub calls : Tells (Hands (AreCallsUpTo plan.files number)) old.calls new.calls
   pub says : Says (line_of file.0 WriteFault) quiet old.lines new.lines
 
--- An answer, and what was written, against a verdict: it is a refusal exactly where the verdict is, and all of
--- the plan was written exactly where there is one, but for want of memory and faults that were counted.
-pub record Settles (given : Result Plan Stop) (status : Status) (files_fault out_fault quiet : Type 0) (old new : Seen) : Type 0 where
-  pub stops : (stop : Stop) → ExactlyWhere (given ≡ Err stop) (status_of stop) status files_fault
-  pub plans : (plan : Plan) → given ≡ Ok plan → (status ≡ Done) ⊎ ((status ≡ OutOfMemory) ⊎ (files_fault ⊎ out_fault))
+-- An answer, and what was written, against a verdict: it is a stop exactly where the verdict is, but for want of memory;
+-- and all of the plan was written exactly where there is one, but for want of memory and a fault of the output that was
+-- counted.
+pub record Settles (given : Result Plan Stop) (status : Status) (out_fault quiet : Type 0) (old new : Seen) : Type 0 where
+  pub stops : (stop : Stop) → ExactlyWhere (given ≡ Err stop) (status_of stop) status
+  pub plans : (plan : Plan) → given ≡ Ok plan → (status ≡ Done) ⊎ ((status ≡ OutOfMemory) ⊎ out_fault)
   pub done : status ≡ Done → (plan : Plan) × (given ≡ Ok plan) × Carries plan quiet old new
   pub part : status ≡ WriteFault → (plan : Plan) × (given ≡ Ok plan) × CarriesPart plan quiet old new

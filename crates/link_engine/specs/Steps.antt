@@ -1,9 +1,6 @@
 -- Which answers a step before writing may give.
-use Rattle.std.specs.Prelude.{ℕ, ◌≡◌, List, Ok}
 use Rattle.mo_types.specs.declared.answer.Status.{Status}
 use Rattle.mo_types.specs.declared.answer.Status.TheVariants.{Done, Usage, ReadFault, Refused, WriteFault, OutOfMemory}
-use Rattle.link_engine.specs.declared.words.Command.{Command}
-use Rattle.link_engine.specs.Command.{command_of}
 
 -- the words are at fault, or memory ran out
 abbrev pub IsWordsStop : Status → Type 0
@@ -35,9 +32,3 @@ abbrev pub IsReadWell : Status → Type 0
 IsReadWell (ReadFault _) = ⊥
 IsReadWell OutOfMemory = ⊥
 IsReadWell _ = Unit {0}
-
--- the path is that of the command's input, the last file that is asked for
-pub record IsInput (words : List (List ℕ)) (path : List ℕ) : Type 0 where
-  pub command : Command
-  pub read : command_of words ≡ Ok command
-  pub input : path ≡ command.input

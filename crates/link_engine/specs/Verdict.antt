@@ -1,14 +1,16 @@
--- What a link answers: the definitions, without an outside that fails.
-use Rattle.std.specs.Prelude.{ℕ, List, [], ◌∷◌, Option, Some, None, Result, Ok}
+-- What a link answers: the definitions, by the answers that the files gave.
+use Rattle.std.specs.Prelude.{ℕ, List, [], ◌∷◌, Result, Ok}
+use Rattle.mo_outside.specs.Answers.{Answer}
 use Rattle.mo_outside.specs.Files.{FileMap}
 use Rattle.mo_types.specs.Gives.{◌>>=◌}
 use Rattle.link_engine.specs.declared.form.TextObject.{TextObject}
 use Rattle.link_engine.specs.declared.plan.Plan.{Plan}
 use Rattle.link_engine.specs.declared.words.Command.{Command}
-use Rattle.link_engine.specs.Command.{command_of}
+use Rattle.link_engine.specs.Asks.{inputs_of}
+use Rattle.link_engine.specs.Command.{command_of, first_bytes, first_path}
 use Rattle.link_engine.specs.Entry.{entry_of}
 use Rattle.link_engine.specs.Image.{image_of}
-use Rattle.link_engine.specs.Input.{input_of}
+use Rattle.link_engine.specs.Input.{answers_from, contents_of}
 use Rattle.link_engine.specs.Reading.{read}
 use Rattle.link_engine.specs.Stop.{Stop}
 
@@ -16,21 +18,21 @@ use Rattle.link_engine.specs.Stop.{Stop}
 abbrev pub plan_of : Command → TextObject → ℕ → Plan
 plan_of command object entry = record { files = (command.output, image_of object entry) ∷ []; line = [] }
 
--- what is to be written for a command and the bytes of its input, or the first refusal in the order of the steps
-unfoldable pub plan_for : Command → List ℕ → Result Plan Stop
-plan_for command bytes = do
-  object ← read command bytes
+-- what is to be written for a command and the bytes of its inputs, or the first refusal in the order of the steps
+unfoldable pub plan_for : Command → List (List ℕ) → Result Plan Stop
+plan_for command contents = do
+  object ← read (first_path command.inputs) (first_bytes contents)
   entry ← entry_of object.symbols
   Ok (plan_of command object entry)
 
--- what is to be written for the words and the files, or the first refusal in the order of the steps
-unfoldable pub verdict : List (List ℕ) → FileMap → Result Plan Stop
-verdict words files = do
+-- what is to be written for the words and the answers of the files, or the first stop in the order of the steps: all
+-- inputs are fetched before the first is read
+unfoldable pub verdict : List (List ℕ) → List Answer → Result Plan Stop
+verdict words answers = do
   command ← command_of words
-  bytes ← input_of files command
-  plan_for command bytes
+  contents ← contents_of command.inputs answers
+  plan_for command contents
 
--- It holds of the files that are told. Where none are told it holds of some files.
-abbrev pub ForFiles : Option FileMap → (FileMap → Type 0) → Type 0
-ForFiles (Some files) holds = holds files
-ForFiles None holds = (files : FileMap) × holds files
+-- the same for files that can all be read
+abbrev pub verdict_over : List (List ℕ) → FileMap → Result Plan Stop
+verdict_over words files = verdict words (answers_from files (inputs_of (command_of words)))

@@ -5,7 +5,7 @@ ghost use Rattle.std.specs.List.{AllByRecursion};
 ghost use Rattle.mo_bytes.specs.Number.{number};
 ghost use Rattle.mo_obj.specs.Faults.{IsObjFault};
 ghost use Rattle.mo_obj.specs.Read.{AreBytes};
-ghost use Rattle.mo_outside.specs.Files.{FileMap};
+ghost use Rattle.mo_outside.specs.Answers.{Answer};
 ghost use Rattle.mo_types.specs.declared.answer.Refusal.{Refusal};
 ghost use Rattle.mo_types.specs.declared.object_fault.ObjFault.{ObjFault};
 ghost use Rattle.link_engine.specs.declared.form.TextObject.{TextObject};
@@ -27,9 +27,9 @@ pub fn branches_have_their_distances()
         → number width (contents_of object.text object.symbols) place ≡ number width object.text.bytes place }
 {}
 
-/// The verdict over words and files is a refusal exactly where that refusal's cause stands.
+/// The verdict over words and answers is a refusal exactly where that refusal's cause stands.
 pub fn every_refusal_has_its_cause()
-    ensures { (words : List (List ℕ)) (files : FileMap) (refusal : Refusal) → (verdict words files ≡ Err (Refused refusal)) ↔ Cause words files refusal }
+    ensures { (words : List (List ℕ)) (answers : List Answer) (refusal : Refusal) → (verdict words answers ≡ Err (Refused refusal)) ↔ Cause words answers refusal }
 {}
 
 /// What the definition gives of a file's bytes to be linked is linkable, and its code is bytes. A fault that it gives is

@@ -4,17 +4,16 @@
 //! refusals count. Each step has one contract, by one definition of `specs/`.
 #![tactic(auto)]
 
-ghost use Rattle.std.specs.Prelude.{◌≡◌, ◌≢◌, ◌≤◌, ℕ, List};
+ghost use Rattle.std.specs.Prelude.{◌≡◌, ◌≢◌, ◌≤◌, ℕ, List, IfSome};
 ghost use Rattle.mo_outside.specs.Faults.{Rises};
-ghost use Rattle.mo_outside.specs.Tells.{Tells};
 ghost use Rattle.mo_types.specs.declared.answer.Status.TheVariants.{OutOfMemory, ReadFault, Usage, WriteFault};
 ghost use Rattle.mo_types.specs.declared.cause.UsageRule.{UsageRule};
-ghost use Rattle.link_engine.specs.Asks.{Asks, AsksSome, tried};
+ghost use Rattle.link_engine.specs.Asks.{Answered, inputs_of};
 ghost use Rattle.link_engine.specs.Command.{command_of};
 ghost use Rattle.link_engine.specs.Settles.{ExactlyWhere, Settles, Stopped};
-ghost use Rattle.link_engine.specs.Steps.{IsInput, IsReadWell, IsStop};
+ghost use Rattle.link_engine.specs.Steps.{IsReadWell, IsStop};
 ghost use Rattle.link_engine.specs.Stop as stop;
-ghost use Rattle.link_engine.specs.Verdict.{ForFiles, verdict};
+ghost use Rattle.link_engine.specs.Verdict.{verdict, verdict_over};
 
 mod branches;
 mod entry;
@@ -53,23 +52,26 @@ pub fn link<F: Files, O: Out, D: Diag, G: Gate + Sync>(
     diag: &mut D,
     _gate: &G,
 ) -> Status
-    // The answer, and what was written and told: the verdict's, but for want of memory and counted faults.
-    // Where the files tell nothing, that of some files.
-    ensures settles { ForFiles (F.holds files.old) (λ held. Settles (verdict words.now held) result
-        (Rises (F.faults files.old) (F.faults files.new)) (Rises (O.faults out.old) (O.faults out.new)) (¬ Rises (D.faults diag.old) (D.faults diag.new))
+    // The files were asked for the inputs, each once, and gave answers; the answer, and what was written and told, is the
+    // verdict's on these.
+    ensures settles { Answered F.answers (F.holds files.old) (inputs_of (command_of words.now)) (result ≢ OutOfMemory)
+        (λ answers. Settles (verdict words.now answers) result (Rises (O.faults out.old) (O.faults out.new)) (¬ Rises (D.faults diag.old) (D.faults diag.new))
+        (record { files = O.files out.old; calls = O.calls out.old; lines = D.lines diag.old })
+        (record { files = O.files out.new; calls = O.calls out.new; lines = D.lines diag.new }))
+        (record { told = F.asked files.old; self = files.old }) (record { told = F.asked files.new; self = files.new }) }
+    // Where the files tell what they hold, and each was read, it is the verdict on that.
+    ensures told { IfSome (F.holds files.old) (λ held. IsReadWell result
+        → Settles (verdict_over words.now held) result (Rises (O.faults out.old) (O.faults out.new)) (¬ Rises (D.faults diag.old) (D.faults diag.new))
         (record { files = O.files out.old; calls = O.calls out.old; lines = D.lines diag.old })
         (record { files = O.files out.new; calls = O.calls out.new; lines = D.lines diag.new })) }
     ensures usage { (word : ℕ) (rule : UsageRule)
-        → ExactlyWhere (command_of words.now ≡ Err (stop.Usage word rule)) (Usage word rule) result ⊥ }
+        → ExactlyWhere (command_of words.now ≡ Err (stop.Usage word rule)) (Usage word rule) result }
     ensures stopped { IsStop result → Stopped result (¬ Rises (D.faults diag.old) (D.faults diag.new))
         (record { files = O.files out.old; calls = O.calls out.old; lines = D.lines diag.old })
         (record { files = O.files out.new; calls = O.calls out.new; lines = D.lines diag.new }) }
 
-    // What is asked for, and the faults.
-    ensures asks { result ≢ OutOfMemory → Tells (Asks (tried words.now)) (F.asked files.old) (F.asked files.new) }
-    ensures asks_some { Tells (AsksSome (tried words.now)) (F.asked files.old) (F.asked files.new) }
-    ensures read_fault { (path : List ℕ) → result ≡ ReadFault path
-        → IsInput words.now path × Rises (F.faults files.old) (F.faults files.new) }
+    // The faults.
+    ensures read_fault { (path : List ℕ) → result ≡ ReadFault path → Rises (F.faults files.old) (F.faults files.new) }
     ensures write_fault { result ≡ WriteFault → Rises (O.faults out.old) (O.faults out.new) }
     ensures files_still { IsReadWell result → F.faults files.new ≡ F.faults files.old }
     ensures out_still { result ≢ WriteFault → O.faults out.new ≡ O.faults out.old }

@@ -2,22 +2,23 @@
 
 ghost use Rattle.std.specs.Prelude.{◌≡◌, ◌≤◌, ◌≢◌, ℕ, List, ◌⊎◌, OnOk, IfErr, Err};
 ghost use Rattle.mo_outside.specs.Faults.{Rises};
-ghost use Rattle.mo_outside.specs.Tells.{Tells};
 ghost use Rattle.mo_types.specs.declared.answer.Status.TheVariants.{OutOfMemory, ReadFault, Usage};
 ghost use Rattle.mo_types.specs.declared.cause.UsageRule.{UsageRule};
-ghost use Rattle.link_engine.specs.Asks.{Asks, AsksSome, tried};
+ghost use Rattle.link_engine.specs.Asks.{Answered, inputs_of};
+ghost use Rattle.link_engine.specs.Command as words;
 ghost use Rattle.link_engine.specs.Command.{command_of};
-ghost use Rattle.link_engine.specs.Steps.{IsInput, IsReadWell, IsRefusal, IsStop};
+ghost use Rattle.link_engine.specs.Steps.{IsReadWell, IsRefusal, IsStop};
 ghost use Rattle.link_engine.specs.Stop as stop;
 ghost use Rattle.link_engine.specs.Stop.{Answers, status_of};
 ghost use Rattle.link_engine.specs.Verdict as plans;
-ghost use Rattle.link_engine.specs.Verdict.{ForFiles, verdict};
+ghost use Rattle.link_engine.specs.Verdict.{verdict};
 
 use crate::entry::entry_of;
-use crate::fetch::fetch;
+use crate::fetch::{ContentList, fetch_all};
 use crate::image::image;
 use crate::read::read;
 use crate::words::{Command, read_words};
+use mo_cmd::CommandInputList;
 use mo_outside::{FileList, Files};
 use mo_types::{ArgList, Bytes, Status};
 use std::alloc::Global;
@@ -31,18 +32,43 @@ pub struct Plan {
     pub line: Bytes,
 }
 
-// What is to be written for a command and the bytes of its input.
+fn first_path(inputs: CommandInputList) -> Bytes
+    ensures { result ≡ words.first_path inputs }
+{
+    let mut inputs = inputs.into_vec();
+    inputs.truncate(1);
+    match inputs.pop() {
+        Some(input) => input.value,
+        None => Bytes::new(),
+    }
+}
+
+fn first_bytes(contents: ContentList) -> Bytes
+    ensures { result ≡ words.first_bytes contents }
+{
+    let mut contents = contents.into_vec();
+    contents.truncate(1);
+    match contents.pop() {
+        Some(bytes) => bytes,
+        None => Bytes::new(),
+    }
+}
+
+// What is to be written for a command and the bytes of its inputs.
 #[tactic(auto, using(crate::proofs::StopLemmas::answers), unfolding(crate::specs::Verdict::plan_for))]
-fn plan_for(alloc: Global, command: Command, file: Bytes) -> Result<Plan, Status>
-    ensures exact { Answers result (plans.plan_for command file) }
+fn plan_for(alloc: Global, command: Command, contents: ContentList) -> Result<Plan, Status>
+    ensures exact { Answers result (plans.plan_for command contents) }
     ensures kind { IfErr result IsRefusal }
 {
-    let object = read(alloc, &command, &file)?;
+    let Command { inputs, output } = command;
+    let path = first_path(inputs);
+    let file = first_bytes(contents);
+    let object = read(alloc, &path, &file)?;
     drop(file);
     let entry = entry_of(alloc, &object)?;
     let image = image(alloc, &object, entry)?;
     let mut files = FileList::new(alloc);
-    files.push((command.output, image))?;
+    files.push((output, image))?;
     Ok(Plan {
         files,
         line: Bytes::new(),
@@ -57,14 +83,14 @@ pub fn make_plan<F: Files>(alloc: Global, words: &ArgList, files: &mut F) -> Res
     ensures kind { IfErr result IsStop }
     ensures usage { (word : ℕ) (rule : UsageRule) → result ≡ Err (Usage word rule) → command_of words.now ≡ Err (stop.Usage word rule) }
     ensures misused { IfErr (command_of words.now) (λ why. (result ≡ Err (status_of why)) ⊎ (result ≡ Err OutOfMemory)) }
-    ensures read_fault { (path : List ℕ) → result ≡ Err (ReadFault path) → IsInput words.now path × Rises (F.faults files.old) (F.faults files.new) }
+    ensures read_fault { (path : List ℕ) → result ≡ Err (ReadFault path) → Rises (F.faults files.old) (F.faults files.new) }
     ensures still { OnOk result (F.faults files.new ≡ F.faults files.old) }
     ensures still_err { IfErr result (λ status. IsReadWell status → F.faults files.new ≡ F.faults files.old) }
-    ensures asks { result ≢ Err OutOfMemory → Tells (Asks (tried words.now)) (F.asked files.old) (F.asked files.new) }
-    ensures asks_some { Tells (AsksSome (tried words.now)) (F.asked files.old) (F.asked files.new) }
-    ensures exact { ForFiles (F.holds files.old) (λ held. Answers result (verdict words.now held)) }
+    ensures answered { Answered F.answers (F.holds files.old) (inputs_of (command_of words.now)) (result ≢ Err OutOfMemory)
+        (λ answers. Answers result (verdict words.now answers))
+        (record { told = F.asked files.old; self = files.old }) (record { told = F.asked files.new; self = files.new }) }
 {
     let command = read_words(alloc, words)?;
-    let file = fetch(alloc, files, &command)?;
-    plan_for(alloc, command, file)
+    let contents = fetch_all(alloc, files, command.inputs.as_slice())?;
+    plan_for(alloc, command, contents)
 }

@@ -14,7 +14,6 @@ ghost use Rattle.link_engine.specs.Steps.{IsRefusal};
 ghost use Rattle.link_engine.specs.Stop.{Answers};
 
 use crate::form::{LATER, TextObject, linked_of};
-use crate::words::Command;
 use mo_obj::read_object;
 use mo_types::{Bytes, Kind, ObjFault, Object, Refusal, Rule, Status, Which, kind_of};
 use std::alloc::Global;
@@ -50,19 +49,19 @@ fn text_object(alloc: Global, file: &Bytes) -> Result<TextObject, ObjFault>
 }
 
 // The answer to a fault of the input.
-fn refused(command: &Command, fault: ObjFault) -> Result<TextObject, Status>
-    ensures exact { (given : Result TextObject ObjFault) → Gives IsObjFault (Err fault) given → Answers result (reading.or_refused command.now.input given) }
+fn refused(path: &Bytes, fault: ObjFault) -> Result<TextObject, Status>
+    ensures exact { (given : Result TextObject ObjFault) → Gives IsObjFault (Err fault) given → Answers result (reading.or_refused path.now given) }
     ensures kind { IfErr result IsRefusal }
     ensures none { IfOk result (λ object. ⊥) }
 {
     match fault {
         ObjFault::Malformed { place, rule } => Err(Status::Refused(Refusal::Malformed {
-            file: command.input.clone()?,
+            file: path.clone()?,
             place,
             rule,
         })),
         ObjFault::Unsupported(feature) => Err(Status::Refused(Refusal::Unsupported {
-            file: command.input.clone()?,
+            file: path.clone()?,
             feature,
         })),
         ObjFault::Limit(which) => Err(Status::Refused(Refusal::Limit { which })),
@@ -70,16 +69,16 @@ fn refused(command: &Command, fault: ObjFault) -> Result<TextObject, Status>
     }
 }
 
-/// The object that the input is, where it has the form that is linked; or the first of these that stands: 2^30
+/// The object that the input of a path is, where it has the form that is linked; or the first of these that stands: 2^30
 /// bytes, another kind of file, a rule that it breaks, a feature or form that the linker doesn't have.
 #[tactic(auto, unfolding(crate::specs::Reading::read))]
-pub fn read(alloc: Global, command: &Command, file: &Bytes) -> Result<TextObject, Status>
-    ensures exact { Answers result (reading.read command.now file.now) }
+pub fn read(alloc: Global, path: &Bytes, file: &Bytes) -> Result<TextObject, Status>
+    ensures exact { Answers result (reading.read path.now file.now) }
     ensures kind { IfErr result IsRefusal }
     ensures linkable { IfOk result IsLinkable }
 {
     match text_object(alloc, file) {
         Ok(object) => Ok(object),
-        Err(fault) => refused(command, fault),
+        Err(fault) => refused(path, fault),
     }
 }

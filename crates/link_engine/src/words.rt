@@ -1,5 +1,5 @@
 ghost use Rattle.std.specs.Prelude.{◌≡◌, IfErr};
-ghost use Rattle.link_engine.specs.Command.{command_of, first_path, taken};
+ghost use Rattle.link_engine.specs.Command.{command_of, taken};
 ghost use Rattle.link_engine.specs.Steps.{IsWordsStop};
 ghost use Rattle.link_engine.specs.Stop.{Answers};
 
@@ -10,28 +10,17 @@ use std::alloc::Global;
 /// What the link takes of its command line.
 #[derive(Debug, Drop)]
 pub struct Command {
-    /// The path of the input.
-    pub input: Bytes,
+    /// The inputs, in order.
+    pub inputs: CommandInputList,
     /// The path of the image.
     pub output: Bytes,
-}
-
-fn path_of_first(inputs: CommandInputList) -> Bytes
-    ensures { result ≡ first_path inputs }
-{
-    let mut inputs = inputs.into_vec();
-    inputs.truncate(1);
-    match inputs.pop() {
-        Some(input) => input.value,
-        None => Bytes::new(),
-    }
 }
 
 fn take(command: mo_cmd::Command) -> Command
     ensures { result ≡ taken command }
 {
     Command {
-        input: path_of_first(command.inputs),
+        inputs: command.inputs,
         output: command.output,
     }
 }

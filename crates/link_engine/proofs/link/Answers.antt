@@ -1,17 +1,23 @@
-use Rattle.std.proofs.Common.{Err, ap, sym, ◌∙◌}
-use Rattle.link_engine.proofs.FetchLemmas.{for_each}
-use Rattle.link_engine.proofs.LinkLemmas.{settles_ended, settles_plan}
+use Rattle.std.proofs.Common.{Err, Ok, ap, sym, ◌∙◌}
+use Rattle.link_engine.proofs.LinkLemmas.{settles_ended, settles_plan, settles_told, still_ends}
+use Rattle.link_engine.proofs.PlanLemmas.{answered_then}
 use Rattle.link_engine.proofs.link.Goals as goal
 
 pub returns-in-Ok-clause-settles : goal.returns-in-Ok-clause-settles
 returns-in-Ok-clause-settles g c =
-    for_each (g.F.Files.holds c.args.files.now) _ _ c.in-Ok.ensures.exact
-    (λ held is. settles_plan _ c.in-Ok.plan c.carry_out.result _ _ _ _ _ is c.carry_out.ensures.kind c.carry_out.ensures.failed c.carry_out.ensures.done c.carry_out.ensures.part)
+    answered_then g.F.Files.answers _ _ _ _ _ _ _ _ c.in-Ok.ensures.answered (λ ends same. absurd cc)
+    (λ answers is. settles_plan _ c.in-Ok.plan c.carry_out.result _ _ _ _ is c.carry_out.ensures.kind c.carry_out.ensures.failed c.carry_out.ensures.done c.carry_out.ensures.part)
 
 pub returns-in-Err-clause-settles : goal.returns-in-Err-clause-settles
 returns-in-Err-clause-settles g c =
-    for_each (g.F.Files.holds c.args.files.now) _ _ c.in-Err.ensures.exact
-    (λ held gives. settles_ended _ c.in-Err.status c.ended.result _ _ _ _ _ c.ended.ensures.same gives c.in-Err.ensures.kind (λ path is. (c.in-Err.ensures.read_fault path (ap Err is)).1))
+    answered_then g.F.Files.answers _ _ _ _ _ _ _ _ c.in-Err.ensures.answered (still_ends c.in-Err.status c.ended.result c.ended.ensures.same)
+    (λ answers gives. settles_ended _ c.in-Err.status c.ended.result _ _ _ _ c.ended.ensures.same gives c.in-Err.ensures.kind)
+
+pub returns-in-Ok-clause-told : goal.returns-in-Ok-clause-told
+returns-in-Ok-clause-told g c = settles_told g.F.Files.answers _ _ _ _ _ _ _ _ _ (returns-in-Ok-clause-settles g c)
+
+pub returns-in-Err-clause-told : goal.returns-in-Err-clause-told
+returns-in-Err-clause-told g c = settles_told g.F.Files.answers _ _ _ _ _ _ _ _ _ (returns-in-Err-clause-settles g c)
 
 pub returns-in-Err-clause-read_fault : goal.returns-in-Err-clause-read_fault
 returns-in-Err-clause-read_fault g c path is = c.in-Err.ensures.read_fault path (ap Err (sym c.ended.ensures.same ∙ is))

@@ -1,7 +1,9 @@
-use Rattle.link_engine.proofs.FetchLemmas.{for_each}
+use Rattle.std.proofs.Common.{◌∙◌, ap}
+use Rattle.mo_types.specs.Answer.{code_of}
+use Rattle.link_engine.proofs.PlanLemmas.{answered_then}
 use Rattle.atomld.proofs.run.link_words.Goals as goal
 
 pub returns : goal.returns
 returns g c =
-    for_each (g.F.Files.holds c.args.files.now) _ _ c.link.ensures.settles
-    (λ held settles. record { status = c.link.result; exits = c.code.ensures; settles = settles })
+    answered_then g.F.Files.answers _ _ _ _ _ _ _ _ c.link.ensures.settles (λ ends same. ends (c.code.ensures ∙ ap code_of same))
+    (λ answers settles. record { status = c.link.result; exits = c.code.ensures; settles = settles })
