@@ -1,3 +1,4 @@
 pub mod Graph
+pub mod Paths
 pub mod Provides
 pub mod inner

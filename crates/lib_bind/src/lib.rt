@@ -8,6 +8,7 @@ mod laws;
 mod libraries;
 mod library;
 mod named;
+mod paths;
 mod provider;
 mod reach;
 #[cfg(test)]
@@ -21,4 +22,5 @@ pub use laws::{
 pub use libraries::Libraries;
 pub use library::{Library, LibraryGraph, LibraryList, LinkList, NumberList};
 pub use named::{NamedStub, StubFileList};
+pub use paths::reexport_paths;
 pub use provider::{Offer, Provider, offer_of, provider_of};

@@ -1,0 +1,14 @@
+-- Where a re-exported library is looked for.
+use Rattle.std.specs.Prelude.{ℕ, ◌-◌, ◌++◌, List, [], ◌∷◌, codes, length, nat_eq, take, Option, if◌then◌else◌}
+use Rattle.std.specs.List.{ends_with}
+use Rattle.mo_cmd.specs.Paths.{root_or_empty}
+
+-- an install name without a final `.dylib`
+abbrev pub stem_of : List ℕ → List ℕ
+stem_of install = if ends_with nat_eq install (codes ".dylib") then take (length install - 6) install else install
+
+-- under the root, which is empty where there is none: the stub library that takes the place of the library, and then the
+-- install name as it stands
+abbrev pub reexport_paths : Option (List ℕ) → List ℕ → List (List ℕ)
+reexport_paths root install =
+    (root_or_empty root ++ stem_of install ++ codes ".tbd") ∷ (root_or_empty root ++ install) ∷ []
