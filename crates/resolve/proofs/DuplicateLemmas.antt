@@ -1,7 +1,7 @@
 -- What a table of the first two strong candidates says of names that two strong definitions have.
-use Rattle.std.proofs.Common.{◌≡◌, ℕ, zero, suc, ◌+◌, ◌<◌, ◌≤◌, Bool, nat_lt, true, false, List, [], ◌∷◌, ◌++◌, length, map, filter, get_or, slice_get, Contains, refl, sym, ap, subst, ◌∙◌, inl, inr, arith, Some, None}
-use Rattle.std.specs.Prelude.{Option, IsSome, All}
-use Rattle.std.specs.List.{enumerate_from, filter_map, flat_map}
+use Rattle.std.proofs.Common.{◌≡◌, ℕ, zero, suc, ◌<◌, Bool, true, false, List, [], ◌∷◌, ◌++◌, length, map, filter, get_or, slice_get, Contains, refl, sym, ap, ◌∙◌, inl, arith, Some, None}
+use Rattle.std.specs.Prelude.{Option, IsSome}
+use Rattle.std.specs.List.{enumerate_from, filter_map}
 use Rattle.std.specs.Str.{bytes_eq}
 use Rattle.std.proofs.lemmas.List.{map-append, get_or_default}
 use Rattle.std.proofs.lemmas.List.Elements.{All-contains}
@@ -11,10 +11,10 @@ use Rattle.mo_types.specs.Candidates.{Candidate, candidate_at, candidates, candi
 use Rattle.mo_types.specs.declared.key.FileId.{FileId}
 use Rattle.mo_types.specs.declared.loaded.LoadedFile.{LoadedFile}
 use Rattle.mo_types.specs.declared.object.Symbol.{Symbol}
-use Rattle.resolve.specs.Duplicates.{IsDuplicate, IsLeastDuplicate, duplicate_of, first_two, is_strong, strong_for}
-use Rattle.resolve.specs.Found.{AreNamed, Found, candidate_of, found, found_at, found_in}
+use Rattle.resolve.specs.Duplicates.{IsDuplicate, duplicate_of, first_two, is_strong, strong_for}
+use Rattle.resolve.specs.Found.{AreNamed, candidate_of, found, found_at, found_in}
 use Rattle.resolve.specs.declared.firsts.Firsts.{Firsts}
-use Rattle.resolve.specs.declared.firsts.Firsts.TheVariants.{Neither, One, Two}
+use Rattle.resolve.specs.declared.firsts.Firsts.TheVariants.{Neither}
 use Rattle.resolve.specs.inner.Tables.{AreFirsts, IsLeastPair, candidate_name, firsts_of, name_at, named, pair_at, pair_of, strong_among, table_of}
 use Rattle.resolve.proofs.TableLemmas.{table_length}
 

@@ -1,8 +1,7 @@
 -- The first two of the candidates of a name.
-use Rattle.std.proofs.Common.{◌≡◌, List, [], ◌∷◌, ◌++◌, refl, sym, ap, ◌∙◌}
+use Rattle.std.proofs.Common.{◌≡◌, List, [], ◌∷◌, ◌++◌, refl, sym, ap}
 use Rattle.mo_types.specs.Candidates.{Candidate}
 use Rattle.mo_types.specs.declared.key.FileId.{FileId}
-use Rattle.resolve.specs.declared.firsts.Firsts.{Firsts}
 use Rattle.resolve.specs.declared.firsts.Firsts.TheVariants.{Neither, One, Two}
 use Rattle.resolve.specs.inner.Tables.{firsts_of}
 

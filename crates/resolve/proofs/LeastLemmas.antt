@@ -1,5 +1,5 @@
 -- The least of the names that have two.
-use Rattle.std.proofs.Common.{◌≡◌, ℕ, ◌+◌, ◌<◌, ◌≤◌, ◌⊎◌, Bool, true, false, List, length, get_or, refl, sym, ap, subst, ◌∙◌, inl, inr, arith, Some, None}
+use Rattle.std.proofs.Common.{◌≡◌, ℕ, ◌+◌, ◌<◌, ◌⊎◌, Bool, true, false, List, refl, sym, ap, subst, ◌∙◌, inl, inr, arith, Some, None}
 use Rattle.std.specs.Prelude.{Option, IsSome, if◌then◌else◌}
 use Rattle.std.specs.Ordering.{nat_cmp, is_gt, ordering_reverse}
 use Rattle.std.specs.declared.cmp.Ordering.{Ordering}
@@ -8,7 +8,7 @@ use Rattle.std.specs.Cmp.Lexicographic.{slice_cmp}
 use Rattle.std.proofs.lemmas.Bool.{cases_lt}
 use Rattle.std.proofs.lemmas.Cmp.{nat_list_cmp_total, tied_itself, upto}
 use Rattle.resolve.specs.declared.firsts.Firsts.{Firsts}
-use Rattle.resolve.specs.inner.Tables.{IsLeast, IsLeastOf, IsNone, better_of, name_at, pair_at}
+use Rattle.resolve.specs.inner.Tables.{IsLeast, IsLeastOf, better_of, name_at, pair_at}
 
 abbrev UpTo : List ℕ → List ℕ → Type 0
 UpTo a b = is_gt (slice_cmp nat_cmp a b) ≡ false

@@ -1,5 +1,5 @@
 -- The literals of files, added one by one.
-use Rattle.std.proofs.Common.{◌≡◌, ℕ, ◌+◌, ◌<◌, ◌≤◌, List, [], ◌∷◌, ◌++◌, length, map, drop, get_or, refl, sym, ap, ◌∙◌, append_assoc, Some, None}
+use Rattle.std.proofs.Common.{◌≡◌, ℕ, ◌+◌, ◌<◌, ◌≤◌, List, [], ◌∷◌, ◌++◌, length, drop, get_or, refl, sym, ap, ◌∙◌, append_assoc, Some, None}
 use Rattle.std.specs.Prelude.{Option}
 use Rattle.std.specs.List.{filter_map}
 use Rattle.std.specs.Option.{option_map}

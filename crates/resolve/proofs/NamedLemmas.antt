@@ -1,7 +1,6 @@
 -- The names of candidates are among those of external symbols.
-use Rattle.std.proofs.Common.{◌≡◌, ℕ, ◌+◌, ◌<◌, ◌⊎◌, Bool, true, false, ◌&&◌, List, [], ◌∷◌, ◌++◌, map, filter, Contains, length, nat_lt, ◌^◌, Ok, Err, refl, sym, ap, subst, ◌∙◌, inl, inr}
-use Rattle.std.specs.Prelude.{All}
-use Rattle.std.specs.List.{AllByRecursion, enumerate_from, filter_map, flat_map}
+use Rattle.std.proofs.Common.{◌≡◌, ℕ, ◌+◌, ◌⊎◌, Bool, true, false, ◌&&◌, List, [], ◌∷◌, ◌++◌, Contains, length, nat_lt, ◌^◌, Ok, Err, refl, ap, subst, inl, inr}
+use Rattle.std.specs.List.{enumerate_from, filter_map}
 use Rattle.std.proofs.lemmas.List.Elements.{All-from_recursion}
 use Rattle.list_lemmas.proofs.Members.{In, Contains_from_in, all_from_in}
 use Rattle.mo_types.specs.Candidates.{Candidate, candidate_at, candidates, candidates_of, is_candidate, has_place}

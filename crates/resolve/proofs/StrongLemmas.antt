@@ -1,9 +1,9 @@
 -- The strong ones among candidates, with one candidate more.
-use Rattle.std.proofs.Common.{◌≡◌, ℕ, ◌+◌, ◌<◌, ◌≤◌, ◌==◌, Bool, true, false, List, [], ◌∷◌, ◌++◌, length, map, filter, take, replicate, get_or, refl, sym, ap, ◌∙◌}
+use Rattle.std.proofs.Common.{◌≡◌, ℕ, ◌+◌, ◌<◌, ◌≤◌, ◌==◌, true, false, List, [], ◌∷◌, ◌++◌, length, map, filter, take, replicate, get_or, refl, sym, ap, ◌∙◌}
 use Rattle.std.proofs.lemmas.List.{map-append, take_more, take_all}
 use Rattle.std.proofs.lemmas.List.Elements.{filter-append}
 use Rattle.mo_types.specs.Candidates.{Candidate, strength}
-use Rattle.resolve.specs.Found.{Found, candidate_of}
+use Rattle.resolve.specs.Found.{candidate_of}
 use Rattle.resolve.specs.Duplicates.{is_strong}
 use Rattle.resolve.specs.declared.found.FoundIn.{FoundIn}
 use Rattle.resolve.specs.declared.firsts.Firsts.{Firsts}

@@ -1,5 +1,5 @@
 -- The candidates of files, each with the file that has it.
-use Rattle.std.specs.Prelude.{ℕ, Bool, List, filter, All, Contains, Option}
+use Rattle.std.specs.Prelude.{ℕ, List, filter, All, Contains, Option}
 use Rattle.std.specs.List.{enumerate_from, filter_map, flat_map}
 use Rattle.std.specs.Str.{bytes_eq}
 use Rattle.mo_types.specs.Candidates.{Candidate, candidates, is_candidate}

@@ -1,8 +1,7 @@
 -- How the code finds the literals that are the same.
-use Rattle.std.specs.Prelude.{◌≡◌, ℕ, ◌==◌, ◌&&◌, Bool, max, List, [], ◌∷◌, map, filter, Option, Some, None}
+use Rattle.std.specs.Prelude.{◌≡◌, ◌==◌, ◌&&◌, Bool, max, List, [], ◌∷◌, map, filter, Option, Some, None}
 use Rattle.std.specs.Str.{bytes_eq}
 use Rattle.std.specs.HashMap.{HashMap, get}
-use Rattle.mo_types.specs.declared.key.AtomKey.{AtomKey}
 use Rattle.resolve.specs.declared.literal.Content.{Content}
 use Rattle.resolve.specs.declared.literal.LiteralIn.{LiteralIn}
 use Rattle.resolve.specs.declared.groups.Group.{Group}

@@ -1,4 +1,4 @@
-use Rattle.std.proofs.Common.{rules, ◌≡◌, ℕ, List, ap, sym, ◌∙◌, subst, refl}
+use Rattle.std.proofs.Common.{◌≡◌, ℕ, List, ap, sym, ◌∙◌, refl}
 use Rattle.resolve.specs.Found.{Found, found}
 use Rattle.resolve.specs.inner.Tables.{AreFirsts, held, strong_among}
 use Rattle.resolve.specs.declared.firsts.Firsts.{Firsts}

@@ -1,6 +1,5 @@
-use Rattle.std.proofs.Common.{rules, ◌≡◌, List, ℕ, slice_get, get_or, [], Some, ap, ◌∙◌}
-use Rattle.std.specs.Ordering.{nat_cmp, is_gt}
-use Rattle.std.specs.Cmp.Lexicographic.{slice_cmp}
+use Rattle.std.proofs.Common.{ap, ◌∙◌}
+use Rattle.std.specs.Ordering.{is_gt}
 use Rattle.resolve.proofs.DuplicateLemmas.{name_there}
 use Rattle.resolve.proofs.duplicates.is_after.Goals as goal
 

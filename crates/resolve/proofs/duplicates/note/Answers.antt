@@ -1,4 +1,4 @@
-use Rattle.std.proofs.Common.{rules, ◌≡◌, ◌∷◌, ◌++◌, [], get_or, sym, ap, subst, ◌∙◌, List, ℕ, Some, None, position}
+use Rattle.std.proofs.Common.{◌≡◌, sym, ap, ◌∙◌, Some, position}
 use Rattle.std.specs.Str.{bytes_eq}
 use Rattle.resolve.specs.inner.Tables.{candidate_name, firsts_of, named}
 use Rattle.resolve.proofs.TableLemmas.{noted, passed, stands}

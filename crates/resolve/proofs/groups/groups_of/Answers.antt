@@ -1,4 +1,4 @@
-use Rattle.std.proofs.Common.{sym, ap, ◌∙◌}
+use Rattle.std.proofs.Common.{◌∙◌}
 use Rattle.resolve.proofs.GroupLemmas.{groups_step}
 use Rattle.resolve.proofs.groups.groups_of.Goals as goal
 

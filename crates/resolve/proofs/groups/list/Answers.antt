@@ -1,5 +1,4 @@
-use Rattle.std.proofs.Common.{sym, ap, ◌∙◌}
-use Rattle.std.proofs.lemmas.List.{get_or_default, take_all}
+use Rattle.std.proofs.lemmas.List.{get_or_default}
 use Rattle.resolve.proofs.GroupLemmas.{listed}
 use Rattle.resolve.proofs.groups.list.Goals as goal
 

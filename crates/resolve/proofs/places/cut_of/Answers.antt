@@ -1,5 +1,4 @@
-use Rattle.std.proofs.Common.{◌≡◌, ◌∙◌, sym, List}
-use Rattle.mo_types.specs.Atoms.{atoms_of}
+use Rattle.std.proofs.Common.{◌∙◌}
 use Rattle.reloc_read.proofs.LookupLemmas.{finds_some, rising_atoms}
 use Rattle.reloc_read.proofs.PointLemmas.{start_is_cut_of}
 use Rattle.resolve.proofs.places.cut_of.Goals as goal

@@ -1,6 +1,4 @@
-use Rattle.std.proofs.Common.{◌≡◌, ℕ, ◌+◌, ◌-◌, ◌<◌, ◌≤◌, List, length, get_or, arith}
-use Rattle.mo_types.specs.Loaded.{IsBefore}
-use Rattle.mo_types.specs.declared.loaded.LoadedFile.{LoadedFile}
+use Rattle.std.proofs.Common.{arith}
 use Rattle.resolve.proofs.RisingLemmas.{rises_more, rises_all}
 use Rattle.resolve.proofs.tests.is_rising.Goals as goal
 
