@@ -9,6 +9,8 @@ mod names;
 mod nodes;
 mod read;
 mod stub;
+#[cfg(test)]
+mod tests;
 mod texts;
 
 pub use fault::StubFault;
