@@ -9,8 +9,6 @@ mod names;
 mod nodes;
 mod read;
 mod stub;
-#[cfg(test)]
-mod tests;
 mod texts;
 
 pub use fault::StubFault;

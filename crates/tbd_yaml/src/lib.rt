@@ -18,8 +18,6 @@ mod quoted;
 mod read;
 mod reading;
 mod scalars;
-#[cfg(test)]
-mod tests;
 mod token;
 mod units;
 

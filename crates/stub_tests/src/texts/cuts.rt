@@ -1,6 +1,6 @@
 use super::read;
-use crate::{YamlFault, YamlFile};
 use std::alloc::Global;
+use tbd_yaml::{YamlFault, YamlFile};
 
 const TEXT: &str = "\
     --- !tapi-tbd~\

@@ -1,12 +1,12 @@
 //! Texts of stub libraries. What is expected comes from the grammar of YAML 1.2 and TBD version 4, by hand.
 mod cuts;
 mod faults;
-mod texts;
+mod trees;
 mod worked;
 
-use super::{YamlEvent, YamlFault, YamlFile, read_yaml};
 use mo_types::Bytes;
 use std::alloc::Global;
+use tbd_yaml::{YamlEvent, YamlFault, YamlFile, read_yaml};
 
 // The bytes of a row: `~` stands for a newline, `^` for a tab, `;` for a carriage return, `?` for a byte that is no
 // UTF-8.

@@ -1,6 +1,6 @@
 use super::{read, walk_of};
-use crate::YamlFault;
 use std::alloc::Global;
+use tbd_yaml::YamlFault;
 
 // A tree, and a text that is it.
 const TREES: &str = "\

@@ -6,9 +6,9 @@ mod worked;
 ghost use Rattle.std.specs.Prelude.{◌≡◌, IfOk, Ok};
 ghost use Rattle.tbd_yaml.specs.File.{file_of};
 
-use super::{Stub, StubFault, StubFile, read_stubs};
 use mo_types::Bytes;
 use std::alloc::Global;
+use tbd_doc::{Stub, StubFault, StubFile, read_stubs};
 use tbd_yaml::{YamlFault, YamlFile, read_yaml};
 
 // The first lines of a document that is a stub library.

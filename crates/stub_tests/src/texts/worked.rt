@@ -1,7 +1,7 @@
 use super::{read_bytes, walk_of};
-use crate::YamlFault;
 use mo_types::{Bytes, Rule};
 use std::alloc::Global;
+use tbd_yaml::YamlFault;
 
 const SDK_HELLO: &[u8] = b"\
 --- !tapi-tbd\n\

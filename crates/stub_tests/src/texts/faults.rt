@@ -1,6 +1,6 @@
 use super::read;
-use crate::YamlFault;
 use std::alloc::Global;
+use tbd_yaml::YamlFault;
 
 // The line and the rule, and a text that breaks it first.
 const FAULTS: &str = "\
