@@ -1,6 +1,6 @@
 #!/usr/bin/env python3
-"""Writes crates/reloc_read/src/clang_objects.rt: objects that clang makes of the sources in bench/clang, with
-the atoms and references that they have to be read as.
+"""Writes crates/read_tests/src/references/clang_objects.rt: objects that clang makes of the sources in bench/clang,
+with the atoms and references that they have to be read as.
 
 What the objects hold is taken from the text that llvm-readobj prints of them, and so are the atoms and
 references: from its symbols, sections and relocations. None of it comes from this repository's programs.
@@ -12,7 +12,7 @@ import subprocess
 import tempfile
 
 HERE = pathlib.Path(__file__).resolve().parent
-OUT = HERE.parent / "crates/reloc_read/src/clang_objects.rt"
+OUT = HERE.parent / "crates/read_tests/src/references/clang_objects.rt"
 SOURCES = ["calls.s", "pointers.s", "literals.s", "uncut.s", "variables.c"]
 
 LITERALS = {3: 4, 4: 8, 0xE: 16}

@@ -1,6 +1,6 @@
 #!/usr/bin/env python3
-"""Writes crates/mo_ar/src/tests/llvm_files.rt: archives and a universal file that LLVM's tools make of the sources
-in bench/archives, with what they have to be read as.
+"""Writes crates/read_tests/src/archives/llvm_files.rt: archives and a universal file that LLVM's tools make of the
+sources in bench/archives, with what they have to be read as.
 
 What they hold is taken from the text that LLVM's tools print of them: members from llvm-ar, offers from llvm-nm,
 slices from llvm-objdump. None of it comes from this repository's programs.
@@ -13,7 +13,7 @@ import subprocess
 import tempfile
 
 HERE = pathlib.Path(__file__).resolve().parent
-OUT = HERE.parent / "crates/mo_ar/src/tests/llvm_files.rt"
+OUT = HERE.parent / "crates/read_tests/src/archives/llvm_files.rt"
 
 
 def tool(name):

@@ -7,8 +7,6 @@ mod laws;
 mod offsets;
 mod pieces;
 mod section_cuts;
-#[cfg(test)]
-mod tests;
 
 pub use contents::bytes_of;
 pub use cutting::cut;

@@ -12,8 +12,6 @@ mod offer_list;
 mod offers;
 mod places;
 mod slice;
-#[cfg(test)]
-mod tests;
 mod text;
 
 pub use archive::{Archive, read_archive};

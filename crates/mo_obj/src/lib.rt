@@ -21,8 +21,6 @@ mod names;
 mod relocations;
 mod sections;
 mod symbols;
-#[cfg(test)]
-mod tests;
 
 use accept::accept;
 use atom_cut::cut;

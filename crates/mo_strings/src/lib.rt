@@ -3,8 +3,6 @@
 
 mod search;
 mod table;
-#[cfg(test)]
-mod tests;
 
 pub use search::{first_nul, string_at};
 pub use table::Strings;

@@ -10,8 +10,6 @@ ghost use Rattle.mo_types.specs.Whole.{IsWhole};
 ghost use Rattle.reloc_read.specs.Checked.{checked};
 ghost use Rattle.reloc_read.specs.Faults.{IsClean};
 
-#[cfg(test)]
-mod clang_objects;
 mod cut_object;
 mod faults;
 mod features;
@@ -23,10 +21,6 @@ mod refs;
 mod rows;
 mod rules;
 mod targets;
-#[cfg(test)]
-mod tests;
-#[cfg(test)]
-mod tests_clang;
 
 use cut_object::CutObject;
 use faults::all_faults;

@@ -8,7 +8,7 @@ mod limits;
 mod sample;
 mod symbols;
 
-use super::read_object;
+use mo_obj::read_object;
 use mo_types::{Bytes, Kind, ObjFault, Object, Rule, kind_of};
 use std::alloc::Global;
 

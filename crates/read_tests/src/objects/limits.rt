@@ -1,6 +1,7 @@
 //! Relocations that pass the file's end, as many sections as there may be, and sections that share too much.
 use super::read;
-use super::sample::{edit, expect_fault, fault_of};
+use super::sample::{expect_fault, fault_of};
+use crate::edits::edit;
 use mo_types::{ObjFault, Object, OutOfMemory};
 use std::alloc::Global;
 use std::process::Abort;

@@ -7,7 +7,7 @@ mod llvm;
 mod llvm_files;
 mod slices;
 
-use super::{Archive, read_archive};
+use mo_ar::{Archive, read_archive};
 use mo_types::{Bytes, Kind, ObjFault, Rule, kind_of};
 use std::alloc::Global;
 

@@ -1,7 +1,7 @@
 //! Universal files.
-use super::described::edit;
 use super::llvm_files::{BOTH, both};
-use crate::{SliceFault, slice_of};
+use crate::edits::edit;
+use mo_ar::{SliceFault, slice_of};
 use mo_types::{Kind, Rule, kind_of};
 use std::process::Abort;
 use std::test::Fail;

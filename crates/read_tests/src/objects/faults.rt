@@ -1,5 +1,6 @@
 //! One object at fault for each rule and each feature, and any two faults in one object.
-use super::sample::{WHOLE, edit, expect_fault, fault_of, sample};
+use super::sample::{WHOLE, expect_fault, fault_of, sample};
+use crate::edits::edit;
 use std::process::Abort;
 use std::test::Fail;
 
@@ -171,16 +172,8 @@ fn check(
     expect_fault(rt, fault, "malformed at 0: header", edits)
 }
 
-#[test]
-fn one_fault(rt: HostRuntime) -> Result<(), Fail> {
-    for (edits, text) in cases().lines().filter_map(case) {
-        check(&rt, edits, "", text)?;
-    }
-    Ok(())
-}
-
 // Of two faults the first one here is told, whatever the places: a rule before a feature, an earlier rule at a
-// later place, the lesser place of one rule.
+// later place, the lesser place of one rule. Each fault stands beside itself too, and so alone.
 #[test]
 fn first_of_two_faults(rt: HostRuntime) -> Result<(), Fail> {
     for (i, (edits, text)) in cases().lines().filter_map(case).enumerate() {

@@ -1,6 +1,6 @@
 //! Archives of many members and many offers.
 use super::read;
-use crate::OfferList;
+use mo_ar::OfferList;
 use mo_types::{ObjFault, OutOfMemory, Which};
 use std::alloc::Global;
 use std::process::Abort;

@@ -1,4 +1,5 @@
-use super::{bytes_of, cut};
+//! The atoms of a section, against cuts that were counted by hand.
+use atom_cut::{bytes_of, cut};
 use mo_types::{
     AtomKey, Bytes, FileId, Object, OutOfMemory, RelocList, Section, SectionList, Symbol,
     SymbolKind, SymbolList,

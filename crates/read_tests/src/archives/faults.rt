@@ -1,5 +1,6 @@
 //! Archives with some bytes changed, and archives that end too early.
-use super::described::{edit, outcome};
+use super::described::outcome;
+use crate::edits::edit;
 use std::process::Abort;
 use std::test::Fail;
 

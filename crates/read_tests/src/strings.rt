@@ -1,5 +1,5 @@
 //! Strings of tables, against strings that were counted by hand.
-use super::*;
+use mo_strings::{Strings, first_nul, string_at};
 use mo_types::Bytes;
 use std::test::Fail;
 

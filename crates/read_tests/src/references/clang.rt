@@ -1,12 +1,12 @@
 //! Objects that clang made, against what llvm-readobj says of them (bench/clang_objects.py).
 
-use super::refs_of;
-use crate::clang_objects::{ClangObject, ClangSection, OBJECTS};
+use super::clang_objects::{ClangObject, ClangSection, OBJECTS};
 use atom_cut::cut;
 use mo_types::{
     AtomKey, AtomList, Bytes, FileId, Object, OutOfMemory, RawReloc, Ref, RefList, RelocList,
     Section, SectionList, Symbol, SymbolKind, SymbolList, Target,
 };
+use reloc_read::refs_of;
 use std::alloc::Global;
 use std::process::Abort;
 use std::test::Fail;

@@ -1,11 +1,15 @@
+//! References of relocations, against the tables of `reloc.h` by hand.
+mod clang;
+mod clang_objects;
+
 ghost use Rattle.std.specs.Prelude.{◌<◌};
 
-use super::refs_of;
 use atom_cut::cut;
 use mo_types::{
     AtomKey, Bytes, Feature, FileId, Object, OutOfMemory, RawReloc, Ref, RefFault, RefKind,
     RelocList, Section, SectionList, Symbol, SymbolKind, SymbolList, Target,
 };
+use reloc_read::refs_of;
 use std::alloc::Global;
 use std::process::Abort;
 use std::test::Fail;
@@ -125,7 +129,7 @@ fn check(
         Err(RefFault::Unsupported(feature)) => Ok(Some(feature)),
         Err(fault) => Err(fault),
     };
-    assert_eq!(rt; super::check(alloc, &object, &atoms, FILE), unread);
+    assert_eq!(rt; reloc_read::check(alloc, &object, &atoms, FILE), unread);
     match (refs_of(alloc, &object, &atoms, FILE), wanted) {
         (Ok(found), Ok(wanted)) => {
             assert!(rt; found.len() == wanted.len());
