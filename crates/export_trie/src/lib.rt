@@ -8,8 +8,6 @@ mod nodes;
 mod order;
 mod places;
 mod spell;
-#[cfg(test)]
-mod tests;
 mod write;
 
 pub use export::{ExportAddress, ExportAddresses};

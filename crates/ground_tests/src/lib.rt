@@ -4,13 +4,19 @@
 #[cfg(test)]
 mod instructions;
 #[cfg(test)]
+mod jobs;
+#[cfg(test)]
 mod load_commands;
 #[cfg(test)]
 mod messages;
 #[cfg(test)]
 mod numbers;
 #[cfg(test)]
+mod outside;
+#[cfg(test)]
 mod races;
+#[cfg(test)]
+mod shared_races;
 #[cfg(test)]
 mod structures;
 #[cfg(test)]

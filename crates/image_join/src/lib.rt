@@ -5,8 +5,6 @@ mod filling;
 mod joining;
 mod laws;
 mod parts;
-#[cfg(test)]
-mod tests;
 
 pub use filling::fill;
 pub use joining::join;

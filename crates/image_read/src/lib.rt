@@ -7,8 +7,6 @@ mod imports;
 mod laws;
 mod meaning;
 mod memory;
-#[cfg(test)]
-mod tests;
 mod window;
 
 pub use fixups::{FixupRead, fixup_at};

@@ -21,6 +21,3 @@ pub use meet_gate::MeetGate;
 pub use messages::{MemDiag, SureDiag};
 pub use outputs::{MemOut, SureOut};
 pub use traits::{Diag, Failed, FetchFault, Files, Gate, Out};
-
-#[cfg(test)]
-mod tests;

@@ -8,8 +8,6 @@ ghost use Rattle.std.specs.Mem.Slots.{IsFull, slots_items, slots_len};
 ghost use Rattle.race_core.specs.Run.{run};
 
 mod rule;
-#[cfg(test)]
-mod tests;
 
 use crate::rule::{Cut, Law, Looks, Merge, Offers, Share, Terms, View};
 use atomic_table::{Closed, Seat, Table};

@@ -12,8 +12,6 @@ mod order;
 mod rule;
 mod shares;
 mod task;
-#[cfg(test)]
-mod tests;
 mod worker;
 
 pub use claims::{Claims, Drawer};

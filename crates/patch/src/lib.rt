@@ -8,8 +8,6 @@ mod laws;
 mod met;
 mod order;
 mod range;
-#[cfg(test)]
-mod tests;
 
 pub use atom::patch_atom;
 pub use laws::{

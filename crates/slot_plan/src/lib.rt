@@ -9,8 +9,6 @@ mod need;
 mod order;
 mod plan;
 mod seen;
-#[cfg(test)]
-mod tests;
 
 pub use laws::{a_goal_stands_once, goals_are_in_order, slots_are_one_list, stubs_have_slots};
 pub use list::{SlotList, Slots};

@@ -7,8 +7,6 @@ mod parts;
 mod place;
 mod plan;
 mod room;
-#[cfg(test)]
-mod tests;
 
 pub use laws::{
     atoms_stand_apart, offsets_are_aligned, offsets_are_one, places_are_least,

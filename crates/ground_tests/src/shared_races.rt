@@ -2,7 +2,7 @@
 ghost use Rattle.std.specs.Prelude.{◌≡◌, ◌<◌, ◌≤◌, length, All, IfOk};
 ghost use Rattle.std.specs.Thread.{IsSync};
 
-use crate::{NameRace, Racer};
+use name_race::{NameRace, Racer};
 use race_core::{Offer, replay};
 use std::alloc::{AllocError, Global};
 use std::test::Fail;

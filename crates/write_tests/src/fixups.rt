@@ -2,7 +2,7 @@
 //! reader, which is written from the same headers.
 mod tables;
 
-use crate::{FixupRead, Meaning, denote, fixup_at, import_name, mapped};
+use image_read::{FixupRead, Meaning, denote, fixup_at, import_name, mapped};
 use mo_types::RefKind;
 use std::alloc::{AllocError, Global};
 use std::process::Abort;
@@ -445,14 +445,8 @@ fn fixups_and_names(rt: HostRuntime) -> Result<(), Fail> {
         );
     }
     assert!(rt; import_name(sample().get(..496).unwrap_or(b""), 1) == Some(b"_bc".as_slice()));
-    Ok(())
-}
-
-#[test]
-fn each_number_of_the_fixups(rt: HostRuntime) -> Result<(), Fail> {
     expect_numbers(&rt, rt.alloc(), "", numbers_of_format_1())?;
-    expect_numbers(&rt, rt.alloc(), "468=03 456=40", numbers_of_format_3())?;
-    Ok(())
+    expect_numbers(&rt, rt.alloc(), "468=03 456=40", numbers_of_format_3())
 }
 
 #[test]

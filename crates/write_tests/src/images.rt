@@ -3,7 +3,7 @@
 ghost use Rattle.std.specs.Prelude.{◌≡◌, ◌+◌, ◌≤◌, IsTrue, length};
 ghost use Rattle.image_join.specs.Joined.{AreRising};
 
-use super::*;
+use image_join::{Part, PartList, Parts, fill, join};
 use mo_outside::{FreeGate, Gate, MeetGate};
 use mo_types::{
     Atom, AtomKey, AtomList, Bytes, FileId, Loaded, LoadedFile, LoadedList, Object, OutOfMemory,

@@ -1,6 +1,6 @@
 //! Lists of slots against orders that were written down by hand.
-use super::*;
 use mo_types::{AtomKey, Bytes, FileId, Goal, OutOfMemory};
+use slot_plan::{Need, NeedList, SlotList, Slots, Way, slots};
 use std::alloc::Global;
 use std::test::Fail;
 

@@ -1,6 +1,7 @@
+//! What stands for files, output, messages and the gate: what was put in is what is found.
 ghost use Rattle.std.specs.Prelude.{◌≢◌, AllPairs, IfOk};
 
-use crate::{
+use mo_outside::{
     CallList, Diag, Failed, FetchFault, FileList, Files, FreeGate, Gate, MeetGate, MemDiag,
     MemFiles, MemOut, Out, SureDiag, SureFiles, SureOut,
 };

@@ -5,14 +5,13 @@ ghost use Rattle.std.specs.Ordering.{on};
 ghost use Rattle.mo_types.specs.declared.atom.Atom.{Atom};
 ghost use Rattle.mo_types.specs.Keys.{compare_keys};
 
-use super::*;
-use crate::plan::compare;
 use mo_types::{
     Atom, AtomKey, AtomList, Bytes, FileId, KeyList, OutOfMemory, OutSection, OutSections,
 };
 use std::alloc::Global;
 use std::cmp::Ordering;
 use std::test::Fail;
+use tlv_plan::{Template, fits, offset_of, template};
 
 // An atom of a file: its section and its offset there, its size, and the power of its alignment.
 type Row = (u16, u16, u64, u64, u8);
@@ -71,7 +70,7 @@ fn is_rising(atoms: &[Atom]) -> bool
     ensures { IsTrue result → IsStrictlySortedBy (on (λ (atom : Atom). atom.key) compare_keys) atoms.now }
 {
     for i in 1..atoms.len() {
-        match compare(&atoms[i - 1].key, &atoms[i].key) {
+        match atoms[i - 1].key.cmp(&atoms[i].key) {
             Ordering::Less => {}
             _ => return false,
         }

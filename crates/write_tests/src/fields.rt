@@ -1,9 +1,11 @@
 //! Fields against the words of an assembler, and atoms against images that were put together by hand.
 
-use super::*;
 use mo_types::{
     Atom, AtomKey, AtomList, Bytes, FileId, Loaded, LoadedFile, LoadedList, Object, OutOfMemory,
     RangeKind, RefKind, RefList, RelocList, Section, SectionList, SymbolList, UnwindList,
+};
+use patch::{
+    Met, PlacedWork, RangeFault, fields_are_in_order, patch_atom, patch_range, work_is_in_order,
 };
 use std::alloc::Global;
 use std::test::Fail;

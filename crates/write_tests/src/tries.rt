@@ -1,8 +1,11 @@
+//! Tries of exports, against one that was counted by hand and one of another linker.
+
 ghost use Rattle.std.specs.Prelude.{◌≡◌, ◌≢◌, ◌↔◌, IsTrue, All, AllPairs, Contains};
 
-use super::*;
+use export_trie::{ExportAddress, Found, find, write_trie};
 use mo_types::{Bytes, Items};
 use std::alloc::Global;
+use std::process::Abort;
 use std::test::Fail;
 
 type Row = (&'static [u8], u64, u64);
@@ -102,14 +105,6 @@ fn trie_of_three(rt: HostRuntime) -> Result<(), Fail> {
     Ok(())
 }
 
-#[test]
-fn trie_of_none(rt: HostRuntime) -> Result<(), Fail> {
-    let trie = written(rt.alloc(), &[])?;
-    assert!(rt; trie.as_slice() == [0; 8].as_slice());
-    assert!(rt; has_none(&trie, &[b""]));
-    Ok(())
-}
-
 fn finds_number(alloc: Global, trie: &[u8], number: u64) -> Result<bool, Fail> {
     let name = format!(in alloc; "_name{number}")?;
     let found = find(trie, name.as_bytes());
@@ -127,7 +122,10 @@ fn finds_number(alloc: Global, trie: &[u8], number: u64) -> Result<bool, Fail> {
 }
 
 #[test]
-fn trie_of_many(rt: HostRuntime) -> Result<(), Fail> {
+fn tries_of_none_and_of_many(rt: HostRuntime) -> Result<(), Fail> {
+    let trie = written(rt.alloc(), &[])?;
+    assert!(rt; trie.as_slice() == [0; 8].as_slice());
+    assert!(rt; has_none(&trie, &[b""]));
     let trie = spelled(rt.alloc(), many_exports(rt.alloc())?)?;
     for number in [0, 1, 10, 4711, MANY - 1, MANY] {
         assert!(rt; finds_number(rt.alloc(), &trie, number)?, "{number}");
@@ -145,8 +143,7 @@ const LINKED: [u8; 77] = [
     0xd4, 0x04, 0x01, 0x62, 0x65, 0x74, 0x00, 0x48, 0x03, 0x00, 0xd8, 0x04, 0x00,
 ];
 
-#[test]
-fn another_linkers_trie(rt: HostRuntime) {
+fn another_linkers_trie(rt: &impl Abort) {
     // As llvm-objdump --exports-trie lists them.
     let rows: [Row; 7] = [
         (b"_zeta", 0, 0x260),
@@ -165,7 +162,8 @@ fn another_linkers_trie(rt: HostRuntime) {
 }
 
 #[test]
-fn broken_tries(rt: HostRuntime) {
+fn other_linkers_and_broken_tries(rt: HostRuntime) {
+    another_linkers_trie(&rt);
     let rows: [(&[u8], Found); 11] = [
         // No node; a size, an edge's place, and an address with no end.
         (&[], Found::Broken),

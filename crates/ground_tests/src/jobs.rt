@@ -1,9 +1,9 @@
 //! Shares that were worked out by hand, draws, and jobs whose pieces and order are known.
 ghost use Rattle.std.specs.Prelude.{◌≡◌, ◌≤◌, ◌<◌, ◌^◌, ◌*◌, ℕ, All, length, IfOk};
 
-use crate::{Claims, Task, fan, share};
 use mo_outside::{FreeGate, MeetGate};
 use mo_types::OutOfMemory;
+use par_work::{Claims, Task, fan, share};
 use std::alloc::Global;
 use std::sync::atomic::AtomicBool;
 use std::sync::atomic::Ordering::SeqCst;

@@ -1,0 +1,8 @@
+//! Tests of what lays an image out, outside of their crates: the check of a crate's tests proves the crate once more, and
+//! here it needn't.
+#![tactic(auto)]
+
+#[cfg(test)]
+mod slots;
+#[cfg(test)]
+mod templates;
