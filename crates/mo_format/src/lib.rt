@@ -5,9 +5,12 @@
 mod command;
 mod dylib;
 mod fields;
+pub mod fixup_chains;
 mod header;
 mod linkedit;
 pub mod loader;
+pub mod nlist;
+pub mod reloc;
 mod relocation;
 mod segment;
 mod symbol;
