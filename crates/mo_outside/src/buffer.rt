@@ -23,6 +23,7 @@ impl Model for Buffer {
 }
 
 impl Buffer {
+    /// An empty buffer with room for so many bytes, the only memory that it takes.
     pub fn new(alloc: Global, room: u64) -> Result<Buffer, OutOfMemory>
         ensures { IfOk result (λ buffer. buffer ≡ record { bytes = []; room = room }) }
     {
@@ -31,6 +32,7 @@ impl Buffer {
         Ok(Buffer { bytes, room })
     }
 
+    /// Whether there is room for these bytes.
     pub fn fits(&self, more: &[u8]) -> bool
         ensures { IsTrue result ↔ (length self.now.bytes + length more.now ≤ self.now.room) }
     {
@@ -45,6 +47,7 @@ impl Buffer {
         self.bytes.extend_from_slice(more).unwrap();
     }
 
+    /// The bytes that were appended, in order.
     pub fn as_slice(&self) -> &[u8]
         ensures bytes { result.now ≡ self.now.bytes }
         ensures within { length self.now.bytes ≤ self.now.room }

@@ -34,6 +34,7 @@ impl Model for CallCount {
 }
 
 impl CallCount {
+    /// No calls yet, of which those of these numbers are to fail.
     pub fn new(failing: CallList) -> CallCount
         ensures { result ≡ record { failing = failing; made = 0; faults = 0 } }
     {
@@ -61,6 +62,7 @@ impl CallCount {
         Ok(())
     }
 
+    /// How many calls failed.
     pub fn faults(&self) -> u64
         ensures { result ≡ self.now.faults }
     {

@@ -45,6 +45,7 @@ impl Model for FileBuffer {
 }
 
 impl FileBuffer {
+    /// No files yet, and room for so many bytes of paths and contents together.
     pub fn new(alloc: Global, room: u64) -> Result<FileBuffer, OutOfMemory>
         ensures { IfOk result (λ held. held ≡ record { files = []; room = room }) }
     {
@@ -55,6 +56,7 @@ impl FileBuffer {
         })
     }
 
+    /// Whether a file of this path may be begun: there are fewer than two, and room for the path.
     pub fn can_begin(&self, path: &[u8]) -> bool
         ensures { result ≡ is_some (begun_within self.now.room path.now self.now.files) }
     {
@@ -64,6 +66,7 @@ impl FileBuffer {
         }
     }
 
+    /// Begins a file, which takes no memory.
     pub fn begin(&mut self, path: &[u8])
         requires { IsSome (begun_within self.old.room path.now self.old.files) }
         ensures files { begun_within self.old.room path.now self.old.files ≡ Some self.new.files }
@@ -82,12 +85,14 @@ impl FileBuffer {
         };
     }
 
+    /// Whether there is room for a piece of the last file.
     pub fn can_write(&self, piece: &[u8]) -> bool
         ensures { result ≡ is_some (written_within self.now.room piece.now self.now.files) }
     {
         self.buffer.fits(piece)
     }
 
+    /// Appends a piece to the last file, which takes no memory.
     pub fn write(&mut self, piece: &[u8])
         requires { IsSome (written_within self.old.room piece.now self.old.files) }
         ensures files { written_within self.old.room piece.now self.old.files ≡ Some self.new.files }
@@ -99,6 +104,7 @@ impl FileBuffer {
         }
     }
 
+    /// Says that the last file is done.
     pub fn finish(&mut self)
         ensures files { self.new.files ≡ at_last finished self.old.files }
         ensures room { self.new.room ≡ self.old.room }
@@ -112,6 +118,7 @@ impl FileBuffer {
         };
     }
 
+    /// The path of a file, by its index from 0.
     pub fn path(&self, file: usize) -> Option<&[u8]>
         ensures { option_copied result ≡ option_map (λ f. f.path) (slice_get self.now.files file) }
     {
@@ -123,6 +130,7 @@ impl FileBuffer {
         }
     }
 
+    /// The contents of a file so far, by its index from 0.
     pub fn bytes(&self, file: usize) -> Option<&[u8]>
         ensures { option_copied result ≡ option_map (λ f. f.bytes) (slice_get self.now.files file) }
     {
@@ -135,6 +143,7 @@ impl FileBuffer {
         }
     }
 
+    /// Whether a file is done, by its index from 0.
     pub fn is_done(&self, file: usize) -> Option<bool>
         ensures { result ≡ option_map (λ f. f.done) (slice_get self.now.files file) }
     {

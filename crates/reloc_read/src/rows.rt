@@ -31,12 +31,14 @@ const ADDEND: u8 = 10;
 
 const AUTHENTICATED_POINTER: u8 = 11;
 
+/// Whether a relocation says what is taken from the next one (`arm64/reloc.h`: `ARM64_RELOC_SUBTRACTOR`).
 pub fn is_subtractor(reloc: &RawReloc) -> bool
     ensures { result ≡ rows.is_subtractor reloc.now }
 {
     reloc.kind == SUBTRACTOR
 }
 
+/// Whether a relocation is one of a signed pointer (`arm64/reloc.h`: `ARM64_RELOC_AUTHENTICATED_POINTER`).
 pub fn is_authenticated(reloc: &RawReloc) -> bool
     ensures { result ≡ rows.is_authenticated reloc.now }
 {

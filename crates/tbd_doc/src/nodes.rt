@@ -100,7 +100,6 @@ fn first_event(events: &[YamlEvent], at: usize) -> &YamlEvent
 }
 
 /// Whether a list begins at a place.
-
 pub fn is_list(events: &[YamlEvent], at: usize) -> bool
     requires { IsNode events.now at }
     ensures { result ≡ forms.is_list (tree_at events.now at) }
@@ -109,7 +108,6 @@ pub fn is_list(events: &[YamlEvent], at: usize) -> bool
 }
 
 /// Whether a map begins at a place.
-
 pub fn is_map(events: &[YamlEvent], at: usize) -> bool
     requires { IsNode events.now at }
     ensures { result ≡ forms.is_map (tree_at events.now at) }
@@ -126,7 +124,6 @@ pub fn is_scalar(events: &[YamlEvent], at: usize) -> bool
 }
 
 /// The text at a place, if a scalar stands there.
-
 pub fn text(events: &[YamlEvent], at: usize) -> Option<&Bytes>
     requires { IsNode events.now at }
     ensures { option_map (λ text. text.now) result ≡ text_of (tree_at events.now at) }

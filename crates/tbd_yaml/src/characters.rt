@@ -8,6 +8,7 @@ pub fn is_blank(byte: u8) -> bool
     byte == b' ' || byte == b'\t'
 }
 
+/// Whether a byte is a single or a double quote.
 pub fn is_quote(byte: u8) -> bool
     ensures { result ≡ characters.is_quote byte }
 {
