@@ -88,9 +88,10 @@ writing_goes_on address old mets at now new met read value writing fields within
     below_more_at : (P : ℕ → Met → Type 0) (n : ℕ) → ((k : ℕ) (d : Met) → k < n → P k d) → ((d : Met) → P n d) → (k : ℕ) (d : Met) → k < n + 1 → P k d
     below_more_at P n below here k d low = below_more (λ k. (d : Met) → P k d) n (λ k low d. below k d low) here k low d
 
-pub writing_never_stops : (address : ℕ) (old : List ℕ) (mets : List Met) (at : ℕ) (now : List ℕ) (met : Met) (read : Result ℕ RangeFault) (fault : RangeFault) → IsWriting address old mets at now → AreFields address (length old) mets → All (Fits address old) mets → at < length mets → met ≡ get_or mets at met → read ≡ field_of address now met → read ≡ Err fault → IsWriting address old mets (at + 1) now
-writing_never_stops address old mets at now met read fault writing fields fit within is e err =
-    absurd (never (subst (Fits address old) (sym is) (fit at met within)))
+-- a value that doesn't fit while others are written doesn't fit before either
+pub writing_stops : (address : ℕ) (old : List ℕ) (mets : List Met) (at : ℕ) (now : List ℕ) (met : Met) (read : Result ℕ RangeFault) (fault : RangeFault) → IsWriting address old mets at now → AreFields address (length old) mets → at < length mets → met ≡ get_or mets at met → read ≡ field_of address now met → read ≡ Err fault → ¬ All (Fits address old) mets
+writing_stops address old mets at now met read fault writing fields within is e err fit =
+    never (subst (Fits address old) (sym is) (fit at met within))
   where
     never : Fits address old met → ⊥
     never (value, ok) = let same : field_of address now met ≡ field_of address old met = unwritten address old mets at now met writing fields within is in cc
@@ -102,4 +103,4 @@ writing_ends address old mets at now writing past = record {
   others = λ k out. writing.others k (λ j d low. out j d (omega (arith, writing.within)));
 }
 
-pub ruleset writes = (writing_starts, writing_goes_on, writing_never_stops, writing_ends, field_within)
+pub ruleset writes = (writing_starts, writing_goes_on, writing_ends, field_within)

@@ -1,24 +1,26 @@
 //! The bytes of one atom with their fields.
 
-ghost use Rattle.std.specs.Prelude.{◌≡◌, All, OnOk, OnErr, IfErr, length};
+ghost use Rattle.std.specs.Prelude.{◌≡◌, All, IsFalse, IsTrue, OnOk, OnErr, IfErr, length};
 ghost use Rattle.patch.specs.Patched.{AreFields, ArePatched, Fits, IsFirstFault};
 
 use crate::fault::least_fault;
 use crate::field::{field_of, put_field};
 use crate::met::{Met, RangeFault};
 
-// Writes the fields of references whose values fit.
+// Writes the fields of references, up to one whose value doesn't fit, and answers whether all are written.
 #[tactic(auto, using(crate::proofs::WriteLemmas::writes))]
-fn write_fields(bytes: &mut [u8], address: u64, mets: &[Met])
+pub(crate) fn write_fields(bytes: &mut [u8], address: u64, mets: &[Met]) -> bool
     requires fields { AreFields address (length bytes.old) mets.now }
-    requires fit { All (Fits address bytes.old) mets.now }
-    ensures { ArePatched address mets.now bytes.old bytes.new }
+    ensures written { IsTrue result → ArePatched address mets.now bytes.old bytes.new }
+    ensures stopped { IsFalse result → ¬ All (Fits address bytes.old) mets.now }
 {
     for met in mets {
-        if let Ok(field) = field_of(bytes, address, met) {
-            put_field(bytes, met, field);
+        match field_of(bytes, address, met) {
+            Ok(field) => put_field(bytes, met, field),
+            Err(_) => return false,
         }
     }
+    true
 }
 
 /// Writes the fields of an atom's references into its bytes, which stand at an address, and leaves all other bytes.
@@ -35,6 +37,6 @@ pub fn patch_atom(bytes: &mut [u8], address: u64, mets: &[Met]) -> Result<(), Ra
     if let Some(found) = least_fault(bytes, address, mets) {
         return Err(found.fault);
     }
-    write_fields(bytes, address, mets);
+    let _written = write_fields(bytes, address, mets);
     Ok(())
 }

@@ -7,7 +7,7 @@ ghost use Rattle.patch.specs.Patched.{IsFirstFault};
 ghost use Rattle.patch.specs.Range.{AreWork, IsLeastFault, IsPlaced, IsSameBeside, IsWork, bytes_of, refs_of};
 ghost use Rattle.patch.specs.inner.Found.{IsBesideOne, IsLeastSo, lesser};
 
-use crate::atom::patch_atom;
+use crate::atom::{patch_atom, write_fields};
 use crate::met::{Met, RangeFault};
 use mo_types::{Atom, AtomKey, Loaded, LoadedFile};
 
@@ -70,7 +70,7 @@ pub(crate) fn references_of<'a>(mets: &'a [Met], item: &PlacedWork) -> &'a [Met]
     &mets[item.first..item.first + item.count]
 }
 
-// Writes the bytes of an atom with its fields.
+// Writes the bytes of an atom with its fields. Only where a value doesn't fit, all are asked for the first fault.
 #[tactic(auto, using(crate::proofs::RangeLemmas::placed))]
 fn place(
     piece: &mut [u8],
@@ -87,8 +87,13 @@ fn place(
     let contents = contents_of(files, item);
     let at = (item.at - from) as usize;
     let bytes = &mut piece[at..at + contents.len()];
+    let refs = references_of(mets, item);
     bytes.copy_from_slice(contents);
-    patch_atom(bytes, item.address, references_of(mets, item))
+    if write_fields(bytes, item.address, refs) {
+        return Ok(());
+    }
+    bytes.copy_from_slice(contents);
+    patch_atom(bytes, item.address, refs)
 }
 
 // Writes the bytes of atoms with their fields, and answers the first fault of the least key.
