@@ -1,6 +1,6 @@
 use Rattle.std.proofs.Common.{List, All, Contains, subst, sym, refl, ◌∙◌}
 use Rattle.export_trie.specs.declared.export.ExportAddress.{ExportAddress}
-use Rattle.export_trie.proofs.tests.spelled.Goals as goal
+use Rattle.write_tests.proofs.tries.spelled.Goals as goal
 
 pub write_trie-requires-clause-no_nul : goal.write_trie-requires-clause-no_nul
 write_trie-requires-clause-no_nul c =

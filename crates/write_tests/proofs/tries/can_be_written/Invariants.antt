@@ -1,7 +1,7 @@
 use Rattle.std.proofs.Common.{◌≢◌, All, Contains, take}
 use Rattle.std.specs.List.{AllPairs}
 use Rattle.export_trie.specs.declared.export.ExportAddress.{ExportAddress}
-use Rattle.export_trie.proofs.tests.can_be_written.Given as goal
+use Rattle.write_tests.proofs.tries.can_be_written.Given as goal
 
 abbrev pub invariant-loop-i : goal.invariant-loop-i
 invariant-loop-i l = record {

@@ -5,7 +5,7 @@ use Rattle.std.proofs.lemmas.List.{take_all, take_more}
 use Rattle.std.proofs.lemmas.List.Elements.{All-more}
 use Rattle.std.proofs.lemmas.List.Quantifiers.{all_pairs_push}
 use Rattle.export_trie.specs.declared.export.ExportAddress.{ExportAddress}
-use Rattle.export_trie.proofs.tests.can_be_written.Goals as goal
+use Rattle.write_tests.proofs.tries.can_be_written.Goals as goal
 
 abbrev Apart : ExportAddress → ExportAddress → Type 0
 Apart a b = a.name ≢ b.name
