@@ -1,0 +1,4 @@
+pub mod OfferLemmas
+pub mod RacerLemmas
+pub mod JobLemmas
+pub mod TeamLemmas
