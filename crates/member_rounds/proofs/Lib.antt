@@ -2,3 +2,4 @@ pub mod OfferLemmas
 pub mod RacerLemmas
 pub mod JobLemmas
 pub mod TeamLemmas
+pub mod GrowthLemmas

@@ -1,0 +1,29 @@
+//! What holds of files that come round by round, each on a call that does nothing.
+ghost use Rattle.std.specs.Prelude.{◌≡◌, ℕ, ◌+◌, ◌<◌, ◌≤◌, ◌⊎◌, Bool, List, length, Contains, true};
+ghost use Rattle.mo_types.specs.declared.key.FileId.{FileId};
+ghost use Rattle.member_rounds.specs.Growth.{after, union};
+
+/// A round keeps the files of the one before, and has none that isn't in the list.
+#[tactic(auto, using(crate::proofs::GrowthLemmas::rounds))]
+pub fn rounds_grow()
+    ensures keeps { (all : List FileId) (first : FileId → Bool) (asks : List FileId → FileId → Bool) (k : ℕ) (file : FileId) → Contains (after all first asks k) file → Contains (after all first asks (k + 1)) file }
+    ensures within { (all : List FileId) (first : FileId → Bool) (asks : List FileId → FileId → Bool) (k : ℕ) (file : FileId) → Contains (after all first asks k) file → Contains all file }
+{}
+
+/// After as many rounds as there are files no round adds any.
+#[tactic(auto, using(crate::proofs::GrowthLemmas::rounds))]
+pub fn rounds_end()
+    ensures { (all : List FileId) (first : FileId → Bool) (asks : List FileId → FileId → Bool) (k : ℕ) → length all ≤ k → after all first asks k ≡ union all first asks }
+{}
+
+/// The files of all rounds ask for none of the list that isn't among them.
+#[tactic(auto, using(crate::proofs::GrowthLemmas::rounds))]
+pub fn nothing_more_is_asked_for()
+    ensures { (all : List FileId) (first : FileId → Bool) (asks : List FileId → FileId → Bool) (file : FileId) → Contains all file → asks (union all first asks) file ≡ true → Contains (union all first asks) file }
+{}
+
+/// A file is there from the first on, or a round before asked for it.
+#[tactic(auto, using(crate::proofs::GrowthLemmas::rounds))]
+pub fn each_file_was_asked_for()
+    ensures { (all : List FileId) (first : FileId → Bool) (asks : List FileId → FileId → Bool) (k : ℕ) (file : FileId) → Contains (after all first asks k) file → (first file ≡ true) ⊎ ((j : ℕ) × (j < k) × (asks (after all first asks j) file ≡ true)) }
+{}
