@@ -3,3 +3,4 @@ pub mod RacerLemmas
 pub mod JobLemmas
 pub mod TeamLemmas
 pub mod GrowthLemmas
+pub mod LeastLemmas

@@ -1,7 +1,19 @@
-//! What holds of files that come round by round, each on a call that does nothing.
-ghost use Rattle.std.specs.Prelude.{◌≡◌, ℕ, ◌+◌, ◌<◌, ◌≤◌, ◌⊎◌, Bool, List, length, Contains, true};
+//! What holds of races of names and of files that come round by round, each on a call that does nothing.
+ghost use Rattle.std.specs.Prelude.{◌≡◌, ℕ, ◌+◌, ◌<◌, ◌≤◌, ◌⊎◌, Bool, List, length, replicate, slice_get, slice_index, Some, Contains, true};
+ghost use Rattle.mo_types.specs.Candidates.{least, no_word};
 ghost use Rattle.mo_types.specs.declared.key.FileId.{FileId};
+ghost use Rattle.mo_types.specs.declared.loaded.LoadedFile.{LoadedFile};
+ghost use Rattle.name_ids.specs.Names.{numbered};
+ghost use Rattle.race_core.specs.Run.{run};
 ghost use Rattle.member_rounds.specs.Growth.{after, union};
+ghost use Rattle.member_rounds.specs.Offers.{bids_of};
+
+/// Where no name has a word at the start, a race over the candidates of files leaves for each name the least of its
+/// candidates' words, and none where it has no candidate.
+#[tactic(auto, using(crate::proofs::LeastLemmas::races))]
+pub fn words_are_the_least()
+    ensures { (files : List LoadedFile) (names : List (List ℕ)) (id : ℕ) (name : List ℕ) → slice_get (numbered names) id ≡ Some name → slice_index (run (replicate (length (numbered names)) no_word) (bids_of (numbered names) files)) id ≡ least files name }
+{}
 
 /// A round keeps the files of the one before, and has none that isn't in the list.
 #[tactic(auto, using(crate::proofs::GrowthLemmas::rounds))]
