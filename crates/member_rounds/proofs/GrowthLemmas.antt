@@ -54,10 +54,10 @@ same_is a b is =
     let parts = both (a.position == b.position) (a.member == b.member) is in
     ap₂ (λ (p m : ℕ). record { position = p; member = m }) (eq_number a.position b.position parts.0) (eq_number a.member b.member parts.1)
 
-has_from_in : (xs : List FileId) (x : FileId) → In x xs → is_in xs x ≡ true
+pub has_from_in : (xs : List FileId) (x : FileId) → In x xs → is_in xs x ≡ true
 has_from_in xs x there = any_from_in (same_file x) xs x there (same_itself x)
 
-in_from_has : (xs : List FileId) (x : FileId) → is_in xs x ≡ true → In x xs
+pub in_from_has : (xs : List FileId) (x : FileId) → is_in xs x ≡ true → In x xs
 in_from_has xs x is = let found = any_true (same_file x) xs is in subst (λ (y : FileId). In y xs) (sym (same_is x found.0 found.2)) found.1
 
 module _ (all : List FileId) (first : FileId → Bool) (asks : List FileId → FileId → Bool) where

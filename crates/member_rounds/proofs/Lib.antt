@@ -4,3 +4,6 @@ pub mod JobLemmas
 pub mod TeamLemmas
 pub mod GrowthLemmas
 pub mod LeastLemmas
+pub mod ReadLemmas
+pub mod RoundLemmas
+pub mod AskLemmas

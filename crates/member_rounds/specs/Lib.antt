@@ -1,3 +1,6 @@
+pub mod Files
 pub mod Growth
-pub mod Offers
 pub mod inner
+pub mod Offers
+pub mod Rounds
+pub mod Sources

@@ -1,5 +1,5 @@
 //! What holds of races of names and of files that come round by round, each on a call that does nothing.
-ghost use Rattle.std.specs.Prelude.{◌≡◌, ℕ, ◌+◌, ◌<◌, ◌≤◌, ◌⊎◌, Bool, List, length, replicate, slice_get, slice_index, Some, Contains, true};
+ghost use Rattle.std.specs.Prelude.{◌≡◌, ℕ, ◌+◌, ◌<◌, ◌≤◌, ◌⊎◌, Bool, List, length, replicate, slice_get, slice_index, None, Some, Contains, true};
 ghost use Rattle.mo_types.specs.Candidates.{least, no_word};
 ghost use Rattle.mo_types.specs.declared.key.FileId.{FileId};
 ghost use Rattle.mo_types.specs.declared.loaded.LoadedFile.{LoadedFile};
@@ -7,6 +7,12 @@ ghost use Rattle.name_ids.specs.Names.{numbered};
 ghost use Rattle.race_core.specs.Run.{run};
 ghost use Rattle.member_rounds.specs.Growth.{after, union};
 ghost use Rattle.member_rounds.specs.Offers.{bids_of};
+ghost use Rattle.member_rounds.specs.Files.{all_ids};
+ghost use Rattle.member_rounds.specs.Rounds.{asked_by, files_of, is_first, is_header, loaded_ids, missing_names, round};
+ghost use Rattle.member_rounds.specs.declared.input.Input.{Input};
+ghost use Rattle.lib_bind.specs.Provides.{offer_of};
+ghost use Rattle.lib_bind.specs.declared.library.LibraryGraph.{LibraryGraph};
+ghost use Rattle.lib_bind.specs.declared.provider.Offer.{Offer};
 
 /// Where no name has a word at the start, a race over the candidates of files leaves for each name the least of its
 /// candidates' words, and none where it has no candidate.
@@ -38,4 +44,30 @@ pub fn nothing_more_is_asked_for()
 #[tactic(auto, using(crate::proofs::GrowthLemmas::rounds))]
 pub fn each_file_was_asked_for()
     ensures { (all : List FileId) (first : FileId → Bool) (asks : List FileId → FileId → Bool) (k : ℕ) (file : FileId) → Contains (after all first asks k) file → (first file ≡ true) ⊎ ((j : ℕ) × (j < k) × (asks (after all first asks j) file ≡ true)) }
+{}
+
+/// Where a name that a loaded file or the command line wants has no candidate in the files of all rounds, and asks for a
+/// file, that file is loaded.
+#[tactic(auto, using(crate::proofs::RoundLemmas::loads))]
+pub fn what_is_loaded_asks_for_nothing_more()
+    ensures { (inputs : List Input) (libs : LibraryGraph) (wanted : List (List ℕ)) (name : List ℕ) (id : FileId) → Contains (missing_names (files_of inputs (loaded_ids inputs libs wanted)) wanted) name → asked_by inputs libs name ≡ Some id → Contains (all_ids inputs) id → Contains (loaded_ids inputs libs wanted) id }
+{}
+
+/// A file of a round is an object or of an archive whose members are all loaded, or a name asked for it that was wanted
+/// after a round before, without a candidate there.
+#[tactic(auto, using(crate::proofs::RoundLemmas::loads))]
+pub fn what_is_loaded_was_asked_for()
+    ensures { (inputs : List Input) (libs : LibraryGraph) (wanted : List (List ℕ)) (k : ℕ) (id : FileId) → Contains (round inputs libs wanted k) id → (is_first inputs id ≡ true) ⊎ ((j : ℕ) × (name : List ℕ) × (j < k) × Contains (missing_names (files_of inputs (round inputs libs wanted j)) wanted) name × (asked_by inputs libs name ≡ Some id)) }
+{}
+
+/// A name that a library provides asks for no member of an archive that stands after it.
+#[tactic(auto, using(crate::proofs::RoundLemmas::loads))]
+pub fn a_library_before_takes_the_name()
+    ensures { (inputs : List Input) (libs : LibraryGraph) (name : List ℕ) (id : FileId) (offer : Offer) → asked_by inputs libs name ≡ Some id → offer_of libs name ≡ Some offer → id.position ≤ offer.library.position }
+{}
+
+/// The names of the image's header ask for nothing.
+#[tactic(auto, using(crate::proofs::RoundLemmas::loads))]
+pub fn headers_ask_nobody()
+    ensures { (inputs : List Input) (libs : LibraryGraph) (name : List ℕ) → is_header name ≡ true → asked_by inputs libs name ≡ None }
 {}

@@ -1,13 +1,24 @@
 //! What workers offer in a race of names, and how files come round by round.
 #![tactic(auto)]
 
+mod asked;
+mod fault;
+mod input;
 mod laws;
 mod offering;
 mod racing;
+mod reading;
+mod sources;
 
+pub use asked::asked_by;
+pub use fault::RoundFault;
+pub use input::{Input, InputList};
 pub use laws::{
-    each_file_was_asked_for, nothing_more_is_asked_for, rounds_end, rounds_grow,
-    words_are_the_least,
+    a_library_before_takes_the_name, each_file_was_asked_for, headers_ask_nobody,
+    nothing_more_is_asked_for, rounds_end, rounds_grow, what_is_loaded_asks_for_nothing_more,
+    what_is_loaded_was_asked_for, words_are_the_least,
 };
 pub use offering::offer_all;
 pub use racing::race_words;
+pub use reading::read_file;
+pub use sources::Source;

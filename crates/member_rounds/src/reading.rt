@@ -1,0 +1,93 @@
+//! Files as the link loads them.
+ghost use Rattle.std.specs.Prelude.{◌≡◌, ◌<◌, ◌^◌, IfOk};
+ghost use Rattle.mo_types.specs.Gives.{Gives};
+ghost use Rattle.mo_types.specs.Kind as kinds;
+ghost use Rattle.mo_types.specs.Loaded.{IsWholeFile};
+ghost use Rattle.mo_types.specs.declared.kind.Kind.TheVariants as kind;
+ghost use Rattle.mo_obj.specs.Object.{object_of};
+ghost use Rattle.member_rounds.specs.Files as files;
+ghost use Rattle.member_rounds.specs.Files.{IsRoundFault};
+
+use crate::fault::RoundFault;
+use mo_obj::{LinkObject, read_for_link};
+use mo_types::{
+    Bytes, Feature, FileId, Kind, LoadedFile, ObjFault, Refusal, Rule, UnwindList, kind_of,
+};
+use std::alloc::Global;
+
+// The answer for a file that has a fault.
+fn fault_of(label: Bytes, fault: ObjFault) -> RoundFault
+    ensures { result ≡ files.fault_of label fault }
+{
+    match fault {
+        ObjFault::Malformed { place, rule } => RoundFault::Refused(Refusal::Malformed {
+            file: label,
+            place,
+            rule,
+        }),
+        ObjFault::Unsupported(feature) => RoundFault::Refused(Refusal::Unsupported {
+            file: label,
+            feature,
+        }),
+        ObjFault::Limit(which) => RoundFault::Refused(Refusal::Limit { which }),
+        ObjFault::OutOfMemory => RoundFault::OutOfMemory,
+    }
+}
+
+// Reads an object with its atoms and references.
+#[tactic(auto, using(crate::proofs::ReadLemmas::reads))]
+fn read_object(
+    alloc: Global,
+    id: FileId,
+    label: Bytes,
+    bytes: &Bytes,
+) -> Result<LoadedFile, RoundFault>
+    requires kind { kinds.kind_of bytes.now ≡ kind.MachO }
+    requires member { id.member < 2 ^ 20 }
+    ensures exact { Gives IsRoundFault result (files.object_read id label (object_of bytes.now)) }
+    ensures whole { IfOk result IsWholeFile }
+{
+    match read_for_link(alloc, bytes, id) {
+        Ok(
+            LinkObject {
+                object,
+                atoms,
+                refs,
+            },
+        ) => Ok(LoadedFile {
+            id,
+            label,
+            object,
+            atoms,
+            refs,
+            unwinds: UnwindList::new(alloc),
+        }),
+        Err(fault) => Err(fault_of(label, fault)),
+    }
+}
+
+/// Reads a file, an object or an archive's member, as the link loads it: whole, with its atoms and references; or tells its
+/// first fault, under its label. One that isn't a Mach-O file is refused, LLVM's bitcode as a feature.
+pub fn read_file(
+    alloc: Global,
+    id: FileId,
+    label: Bytes,
+    bytes: &Bytes,
+) -> Result<LoadedFile, RoundFault>
+    requires member { id.member < 2 ^ 20 }
+    ensures exact { Gives IsRoundFault result (files.read_as id label bytes.now) }
+    ensures whole { IfOk result IsWholeFile }
+{
+    match kind_of(bytes.as_slice()) {
+        Kind::MachO => read_object(alloc, id, label, bytes),
+        Kind::Refused(Feature::Bitcode) => Err(RoundFault::Refused(Refusal::Unsupported {
+            file: label,
+            feature: Feature::Bitcode,
+        })),
+        _ => Err(RoundFault::Refused(Refusal::Malformed {
+            file: label,
+            place: 0,
+            rule: Rule::NotAnInput,
+        })),
+    }
+}
