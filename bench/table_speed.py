@@ -1,10 +1,10 @@
 #!/usr/bin/env python3
 """Times calls over long tables: `table_speed.py [RUNS]`.
 
-Reads archives of 50,000 members and 500,000 offers, of 500,000 pairs that name one string of 1 MB or its ends, and of
-50,000 names of 1,042 bytes that differ in their last 10; and lists the slots of a million needs of 1,000 to 1,000,000
-goals. Prints for each the least and the median milliseconds of the call. The program is built before by `rt run` in
-`crates/table_speed`.
+Reads archives of 50,000 members and 500,000 offers, of 500,000 pairs that name one string of 1 MB or its ends, of
+50,000 names of 1,042 bytes that differ in their last 10, and of 10,000 names with one hash; and lists the slots of a
+million needs of 1,000 to 1,000,000 goals. Prints for each the least and the median milliseconds of the call. The
+program is built before by `rt run` in `crates/table_speed`.
 """
 import statistics
 import struct
@@ -30,6 +30,35 @@ def archive(names, strings, members):
     return b"!<arch>\n" + header(b"__.SYMDEF", size) + table + (header(b"member.o", 4) + b"data") * members
 
 
+MULTIPLIER = 0x9e37_79b9_7f4a_7c15
+LOW = (1 << 64) - 1
+
+
+def stepped(state, word):
+    """The hash of `mo_ar` with one word more."""
+    product = (state ^ word) * MULTIPLIER & LOW
+    return product ^ product >> 32
+
+
+def word_between(state, wanted):
+    """The word with which one hash becomes another."""
+    product = wanted ^ wanted >> 32
+    return product * pow(MULTIPLIER, -1, 1 << 64) & LOW ^ state
+
+
+def names_of_one_hash(count):
+    """Names of 24 bytes, of which the second 8 make up for the first."""
+    names = []
+    number = 0
+    while len(names) < count:
+        first = b"%08d" % number
+        second = word_between(stepped(24, int.from_bytes(first, "little")), 0x1234_5678_9abc_def1).to_bytes(8, "little")
+        if 0 not in second:
+            names.append(first + second + b"the same")
+        number += 1
+    return names
+
+
 def archives():
     count = 500_000
     yield "50,000 members, 500,000 offers", archive(
@@ -39,6 +68,8 @@ def archives():
     yield "500,000 pairs name its ends", archive(list(range(count)), long, 1)
     yield "50,000 names of 1,042 bytes", archive(
         [1043 * i for i in range(50_000)], b"".join(b"in front" * 129 + b"%010d\0" % i for i in range(50_000)), 1)
+    yield "10,000 names with one hash", archive(
+        [25 * i for i in range(10_000)], b"".join(name + b"\0" for name in names_of_one_hash(10_000)), 1)
 
 
 def run(*words):
