@@ -6,10 +6,9 @@ mod laws;
 mod name;
 mod numbering;
 mod table;
-#[cfg(test)]
-mod tests;
 
 pub use fault::GatherFault;
 pub use laws::{each_name_has_a_number, numbers_lead_back};
+pub use name::Name;
 pub use numbering::gather;
 pub use table::NameTable;

@@ -3,7 +3,7 @@ ghost use Rattle.std.specs.Prelude.{◌≡◌, take};
 use std::hash::{Hash, Hasher};
 use std::marker::Model;
 
-/// A name, which contracts see as its bytes.
+/// A name as a key of maps and sets, which contracts see as its bytes. Its hash takes them in words of eight.
 #[derive(Debug, Drop)]
 pub struct Name<'a>(&'a [u8]);
 
@@ -17,14 +17,14 @@ impl<'a> Model for Name<'a> {
 
 impl<'a> Name<'a> {
     /// The name of these bytes.
-    pub(crate) fn new(bytes: &'a [u8]) -> Name<'a>
+    pub fn new(bytes: &'a [u8]) -> Name<'a>
         ensures { result ≡ bytes.now }
     {
         Name(bytes)
     }
 
     /// Its bytes.
-    pub(crate) fn bytes(&self) -> &[u8]
+    pub fn bytes(&self) -> &[u8]
         ensures { result.now ≡ self.now }
     {
         self.0
@@ -63,17 +63,17 @@ fn front(bytes: &[u8]) -> &[u8]
 // Names that are parts of each other have other lengths, so that a hash of all their bytes, which is quadratic in the
 // file where they overlap, isn't needed to tell them apart.
 impl<'a> Hash for Name<'a> {
-    ghost use Rattle.std.specs.Prelude.{◌++◌, length, take};
+    ghost use Rattle.std.specs.Prelude.{◌∷◌, ◌++◌, [], length, take};
     ghost use Rattle.std.specs.Hash as fed;
     ghost use Rattle.std.specs.Cmp.Rules.{hashing};
     ghost use Rattle.std.proofs.Common.{rules};
 
-    ghost hash_input = { λ name. fed.usize (length name) ++ fed.slice fed.u8 (take 1024 name) };
+    ghost hash_input = { λ name. fed.usize (length name) ++ take 1024 name ∷ [] };
 
     ghost respects_eq = { Prim.search (hashing, rules) };
 
     fn hash<H: Hasher>(&self, state: &mut H) {
-        self.0.len().hash(state);
-        front(self.0).hash(state);
+        state.write_usize(self.0.len());
+        state.write(front(self.0));
     }
 }

@@ -6,7 +6,16 @@ pub mod LeastLemmas
 pub mod DuplicateLemmas
 pub mod WordLemmas
 pub mod NamedLemmas
-pub mod RisingLemmas
 pub mod LiteralLemmas
 pub mod GroupLemmas
 pub mod RepresentativeLemmas
+pub mod SetLemmas
+pub mod BestLemmas
+pub mod ChosenLemmas
+pub mod TableSteps
+pub mod ListSteps
+pub mod IndexSteps
+pub mod CandidateLemmas
+pub mod WinnerLemmas
+pub mod WeakLemmas
+pub mod KnownLemmas

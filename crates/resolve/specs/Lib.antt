@@ -4,3 +4,5 @@ pub mod Laws
 pub mod Places
 pub mod Representatives
 pub mod inner
+pub mod Winners
+pub mod Known

@@ -1,3 +1,5 @@
 pub mod Contents
 pub mod Groups
 pub mod Tables
+pub mod Best
+pub mod Index

@@ -1,22 +1,33 @@
 //! From loaded files to what each reference means: which candidate of a name wins, and where a reference leads.
 #![tactic(auto)]
 
+mod best;
+mod choosing;
+mod chosen;
 mod duplicates;
+mod exports;
 mod firsts;
 mod found;
 mod groups;
+mod known;
 mod laws;
 mod literal;
+mod name_index;
+mod name_set;
 mod places;
 mod representative;
-#[cfg(test)]
-mod tests;
+mod weak;
+mod winner;
+mod winning;
 
 pub use duplicates::duplicate;
 pub use groups::representatives;
+pub use known::Winners;
 pub use laws::{
     candidates_have_numbers, representatives_have_the_least_keys, the_earlier_wins,
     the_same_literals_have_one_representative, the_stronger_wins,
 };
 pub use places::{Place, place_of};
 pub use representative::{Representative, RepresentativeList};
+pub use winner::{Winner, WinnerList};
+pub use winning::winners;

@@ -1,0 +1,41 @@
+-- The winning candidates of a table, one by one.
+use Rattle.std.proofs.Common.{◌≡◌, ℕ, ◌+◌, ◌<◌, ◌≤◌, List, [], ◌∷◌, ◌++◌, length, take, get_or, refl, sym, ap, ◌∙◌, Some, None}
+use Rattle.std.specs.Prelude.{Option}
+use Rattle.std.specs.List.{filter_map}
+use Rattle.std.proofs.lemmas.List.{take_all, take_more}
+use Rattle.resolve.specs.declared.best.Best.{Best}
+use Rattle.resolve.specs.declared.chosen.Chosen.{Chosen}
+use Rattle.resolve.specs.inner.Best.{chosen_of}
+
+filter_map_more : {X Y : Type 0} (f : X → Option Y) (xs : List X) (x : X) (y : Y) → f x ≡ Some y → filter_map f (xs ++ x ∷ []) ≡ filter_map f xs ++ y ∷ []
+filter_map_more f [] x y is = rw is refl
+filter_map_more {Y = Y} f (z ∷ zs) x y is = by (filter_map_more f zs x y is) (f z) refl
+  where
+    by : filter_map f (zs ++ x ∷ []) ≡ filter_map f zs ++ y ∷ [] → (o : Option Y) → f z ≡ o → filter_map f ((z ∷ zs) ++ x ∷ []) ≡ filter_map f (z ∷ zs) ++ y ∷ []
+    by rest None e = rw e rest
+    by rest (Some w) e = rw e (ap (λ (ys : List Y). w ∷ ys) rest)
+
+filter_map_pass : {X Y : Type 0} (f : X → Option Y) (xs : List X) (x : X) → f x ≡ None → filter_map f (xs ++ x ∷ []) ≡ filter_map f xs
+filter_map_pass f [] x is = rw is refl
+filter_map_pass {Y = Y} f (z ∷ zs) x is = by (filter_map_pass f zs x is) (f z) refl
+  where
+    by : filter_map f (zs ++ x ∷ []) ≡ filter_map f zs → (o : Option Y) → f z ≡ o → filter_map f ((z ∷ zs) ++ x ∷ []) ≡ filter_map f (z ∷ zs)
+    by rest None e = rw e rest
+    by rest (Some w) e = rw e (ap (λ (ys : List Y). w ∷ ys) rest)
+
+pub chosen_start : (list : List Chosen) (table : List Best) → list ≡ [] → list ≡ filter_map chosen_of (take 0 table)
+chosen_start list table none = none
+
+pub chosen_add : (list new : List Chosen) (table : List Best) (i : ℕ) (best d : Best) (chosen : Chosen) → i < length table → best ≡ get_or table i d → list ≡ filter_map chosen_of (take i table) → Some chosen ≡ chosen_of best → new ≡ list ++ chosen ∷ [] → new ≡ filter_map chosen_of (take (i + 1) table)
+chosen_add list new table i best d chosen low is before one more =
+    more ∙ ap (λ ys. ys ++ chosen ∷ []) before
+    ∙ sym (ap (filter_map chosen_of) (take_more table i d low ∙ ap (λ b. take i table ++ b ∷ []) (sym is)) ∙ filter_map_more chosen_of (take i table) best chosen (sym one))
+
+pub chosen_pass : (list : List Chosen) (table : List Best) (i : ℕ) (best d : Best) → i < length table → best ≡ get_or table i d → list ≡ filter_map chosen_of (take i table) → None ≡ chosen_of best → list ≡ filter_map chosen_of (take (i + 1) table)
+chosen_pass list table i best d low is before none =
+    before ∙ sym (ap (filter_map chosen_of) (take_more table i d low ∙ ap (λ b. take i table ++ b ∷ []) (sym is)) ∙ filter_map_pass chosen_of (take i table) best (sym none))
+
+pub chosen_end : (list : List Chosen) (table : List Best) (i : ℕ) → length table ≤ i → list ≡ filter_map chosen_of (take i table) → list ≡ filter_map chosen_of table
+chosen_end list table i past before = before ∙ ap (filter_map chosen_of) (take_all i table past)
+
+pub ruleset choosing = (chosen_start, chosen_add, chosen_pass, chosen_end)

@@ -1,0 +1,40 @@
+-- The winners of files are those of the definition.
+use Rattle.std.proofs.Common.{◌≡◌, ℕ, List, length, map, IsPermutation, ap, subst, ◌∙◌, Some}
+use Rattle.std.specs.List.{IsDistinct, filter_map}
+use Rattle.std.specs.List.Sorted.{IsSortedBy}
+use Rattle.std.specs.Ordering.{is_lt, nat_cmp}
+use Rattle.std.specs.Cmp.Lexicographic.{slice_cmp}
+use Rattle.std.specs.Str.{bytes_eq}
+use Rattle.std.proofs.lemmas.List.{length-map}
+use Rattle.mo_cmd.specs.declared.command.Command.{Command}
+use Rattle.mo_types.specs.Candidates.{least}
+use Rattle.mo_types.specs.declared.loaded.LoadedFile.{LoadedFile}
+use Rattle.resolve.specs.Found.{AreNamed, found}
+use Rattle.resolve.specs.Winners.{AreLeast, AreWinners}
+use Rattle.resolve.specs.declared.best.Best.{Best}
+use Rattle.resolve.specs.declared.chosen.Chosen.{Chosen}
+use Rattle.resolve.specs.declared.found.FoundIn.{FoundIn}
+use Rattle.resolve.specs.declared.winner.Winner.{Winner}
+use Rattle.resolve.specs.inner.Best.{AreBests, chosen_name, chosen_of, winner_chosen}
+use Rattle.resolve.specs.inner.Tables.{held}
+use Rattle.resolve.proofs.WinnerLemmas.{AreThose, each_winner, rising, table_chosen}
+
+pub word_count : (files : List LoadedFile) (names : List (List ℕ)) (words : List ℕ) → AreLeast files names words → length words ≡ length names
+word_count files names words are = ap length are ∙ length-map names (least files)
+
+pub those : (files : List LoadedFile) (names : List (List ℕ)) (fs : List FoundIn) (table : List Best) (chosen : List Chosen) → AreNamed names files → held fs ≡ found files → AreBests files names fs table → IsPermutation (filter_map chosen_of table) chosen → AreThose files names fs chosen
+those files names fs table chosen named is bests order = record {
+  order = subst (λ (cs : List Chosen). IsPermutation cs chosen) (table_chosen files names fs table bests.are) order;
+  named = named;
+  held = is;
+}
+
+pub winners_are : (command : Command) (files : List LoadedFile) (names : List (List ℕ)) (fs : List FoundIn) (chosen : List Chosen) (list : List Winner) → AreThose files names fs chosen → IsDistinct bytes_eq names → IsSortedBy (λ (a : Chosen) (b : Chosen). is_lt (slice_cmp nat_cmp (chosen_name a) (chosen_name b))) chosen → map Some list ≡ map (winner_chosen command) chosen → AreWinners command files list
+winners_are command files names fs chosen list are apart sorted is = record {
+  rising = rising command files names fs chosen list are apart sorted is;
+  each = each_winner command files names fs chosen list are is;
+}
+
+pub all_those : (files read : List LoadedFile) (names : List (List ℕ)) (found_ones fs : List FoundIn) (table tables : List Best) (chosen : List Chosen) → AreNamed names files → read ≡ files → fs ≡ found_ones → held found_ones ≡ found read → AreBests files names fs table → tables ≡ table → IsPermutation (filter_map chosen_of tables) chosen → AreThose files names fs chosen
+all_those files read names found_ones fs table tables chosen named e f is bests g order =
+    those files names fs table chosen named (ap held f ∙ is ∙ ap found e) bests (rw g at order)

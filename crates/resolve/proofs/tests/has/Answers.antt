@@ -1,5 +1,0 @@
-use Rattle.resolve.proofs.NamedLemmas.{gathered_named}
-use Rattle.resolve.proofs.tests.has.Goals as goal
-
-pub duplicate-requires-clause-named : goal.duplicate-requires-clause-named
-duplicate-requires-clause-named c = gathered_named c.in-Some.loaded.files _ c.in-Ok.names c.in-Ok.ensures

@@ -1,6 +1,0 @@
-use Rattle.std.proofs.Common.{All}
-use Rattle.mo_types.specs.Loaded.{IsWholeFile}
-use Rattle.resolve.proofs.tests.loaded_literals.Given as goal
-
-abbrev pub invariant-loop-row : goal.invariant-loop-row
-invariant-loop-row l = All IsWholeFile l.files.items

@@ -1,0 +1,32 @@
+-- How the code finds what stands under a name.
+use Rattle.std.specs.Prelude.{◌≡◌, ℕ, ◌<◌, List, get_or, slice_get, Option, Some, IsSome}
+use Rattle.std.specs.Option.{option_and_then}
+use Rattle.std.specs.HashMap.{get}
+use Rattle.std.specs.Str.{bytes_eq}
+use Rattle.mo_cmd.specs.declared.command.Command.{Command}
+use Rattle.resolve.specs.Winners.{lists, winner_named}
+use Rattle.resolve.specs.declared.chosen.Chosen.{Chosen}
+use Rattle.resolve.specs.declared.exports.ExportRules.{ExportRules}
+use Rattle.resolve.specs.declared.name_index.NameIndex.{NameIndex}
+use Rattle.resolve.specs.declared.winner.Winner.{Winner}
+use Rattle.resolve.specs.inner.Best.{chosen_name}
+
+-- the place of a name
+abbrev pub known : NameIndex → List ℕ → Option ℕ
+known index name = get bytes_eq index.map name
+
+-- the rules are a command's
+pub record AreRules (command : Command) (rules : ExportRules) : Type 0 where
+  pub given : rules.given ≡ command.export_given
+  pub exports : (name : List ℕ) → lists rules.exports name ≡ lists command.exports name
+  pub unexports : (name : List ℕ) → lists rules.unexports name ≡ lists command.unexports name
+
+-- of the winning candidates before a place, each name leads to one that has it
+pub record IsIndexOf (chosen : List Chosen) (n : ℕ) (index : NameIndex) : Type 0 where
+  pub within : (name : List ℕ) (k : ℕ) → known index name ≡ Some k → k < n
+  pub found : (name : List ℕ) (k : ℕ) (d : Chosen) → known index name ≡ Some k → chosen_name (get_or chosen k d) ≡ name
+  pub all : (k : ℕ) (d : Chosen) → k < n → IsSome (known index (chosen_name (get_or chosen k d)))
+
+-- the index leads to the winners of a list
+pub record IsIndexed (winners : List Winner) (index : NameIndex) : Type 0 where
+  pub leads : (name : List ℕ) → option_and_then (slice_get winners) (known index name) ≡ winner_named winners name

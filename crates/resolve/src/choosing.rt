@@ -1,0 +1,148 @@
+//! The winners of all names.
+ghost use Rattle.std.specs.Prelude.{◌≡◌, ◌≤◌, ◌<◌, ◌++◌, ◌∷◌, ℕ, [], List, Some, IfOk, length, map, position};
+ghost use Rattle.std.specs.Str.{bytes_eq};
+ghost use Rattle.mo_cmd.specs.declared.command.Command.{Command as Commanded};
+ghost use Rattle.mo_types.specs.declared.loaded.LoadedFile.{LoadedFile};
+ghost use Rattle.name_ids.specs.Names.{IsNumbering};
+ghost use Rattle.resolve.specs.Places as places;
+ghost use Rattle.resolve.specs.Winners as winners;
+ghost use Rattle.resolve.specs.Winners.{AreLeast};
+ghost use Rattle.resolve.specs.declared.found.FoundIn.{FoundIn as Held};
+ghost use Rattle.resolve.specs.inner.Best.{AreBests, AreCandidates, AreChosen, IsCandidateOf, candidate_wins, winner_chosen};
+ghost use Rattle.resolve.specs.inner.Index.{AreRules, IsIndexOf};
+ghost use Rattle.resolve.specs.inner.Tables.{found_of};
+
+use crate::best::Best;
+use crate::chosen::Chosen;
+use crate::exports::{ExportRules, is_exported};
+use crate::found::FoundIn;
+use crate::name_index::NameIndex;
+use crate::places::{Place, place_of};
+use crate::winner::Winner;
+use mo_types::{AtomKey, OutOfMemory, SymbolKind};
+use name_ids::NameTable;
+use std::alloc::Global;
+
+// Whether a candidate has the least word of its name, by the name's number.
+#[tactic(auto, using(crate::proofs::TableSteps::word_at))]
+fn wins(words: &[u64], id: u32, candidate: FoundIn) -> bool
+    requires words { id < length words.now }
+    requires candidate { IsCandidateOf (found_of candidate) }
+    ensures { (files : List LoadedFile) (names : List (List ℕ)) → AreLeast files names words.now → position (bytes_eq candidate.entry.symbol.now.name) names ≡ Some id → result ≡ candidate_wins files candidate.entry }
+{
+    candidate.file.id.word_of(candidate.index, candidate.symbol) == words[id as usize]
+}
+
+// Notes a candidate of a name.
+fn note<'a>(table: &mut Vec<Best<'a>>, names: &NameTable, words: &[u64], candidate: FoundIn<'a>)
+    requires numbering { IsNumbering names.now }
+    requires table { length table.old.items ≡ length names.now }
+    requires words { length words.now ≡ length names.now }
+    requires candidate { IsCandidateOf (found_of candidate) }
+    ensures size { length table.new.items ≡ length table.old.items }
+    ensures bests { (files : List LoadedFile) (fs : List Held) → AreLeast files names.now words.now → AreBests files names.now fs table.old.items → AreBests files names.now (fs ++ candidate.entry ∷ []) table.new.items }
+{
+    if let Some(id) = names.id_of(candidate.symbol.name.as_slice()) {
+        let wins = wins(words, id, candidate);
+        let place = &mut table[id as usize];
+        *place = place.with(candidate, wins);
+    }
+}
+
+/// What is held of the candidates of each name, by its number.
+pub(crate) fn bests_of<'a>(
+    alloc: Global,
+    names: &NameTable,
+    words: &[u64],
+    found: &[FoundIn<'a>],
+) -> Result<Vec<Best<'a>>, OutOfMemory>
+    requires words { length words.now ≡ length names.now }
+    requires candidates { AreCandidates found.now }
+    ensures bests { IfOk result (λ table. (files : List LoadedFile) → AreLeast files names.now words.now → AreBests files names.now found.now table.items) }
+    ensures numbering { IsNumbering names.now }
+{
+    let mut table = vec![in alloc; Best::none(); names.len() as usize]?;
+    for candidate in found {
+        note(&mut table, names, words, *candidate);
+    }
+    Ok(table)
+}
+
+// Where a candidate stands.
+fn place(found: FoundIn) -> Place
+    requires { IsCandidateOf (found_of found) }
+    ensures { Some result ≡ places.place_of found.entry.file.now found.entry.index found.entry.symbol.now.kind }
+{
+    match place_of(found.file, found.index) {
+        Some(place) => place,
+        None => Place {
+            atom: AtomKey {
+                file: found.file.id,
+                section: 0,
+                offset: 0,
+            },
+            offset: 0,
+        },
+    }
+}
+
+fn is_common(kind: SymbolKind) -> bool
+    ensures { result ≡ winners.is_common kind }
+{
+    matches!(kind, SymbolKind::Common { .. })
+}
+
+// A candidate as the winner.
+fn winner(chosen: &Chosen, rules: &ExportRules) -> Result<Winner, OutOfMemory>
+    requires { IsCandidateOf (found_of chosen.now.found) }
+    ensures { IfOk result (λ winner. (command : Commanded) → AreRules command rules.now → Some winner ≡ winner_chosen command chosen.now) }
+{
+    let FoundIn {
+        file,
+        index,
+        symbol,
+    } = chosen.found;
+    let common = is_common(symbol.kind);
+    let place = place(chosen.found);
+    Ok(Winner {
+        name: symbol.name.clone()?,
+        word: file.id.word_of(index, symbol),
+        file: file.id,
+        atom: place.atom,
+        offset: place.offset,
+        size: if common { chosen.size } else { 0 },
+        align: if common { chosen.align } else { 0 },
+        weak: symbol.strength() == 1,
+        exported: is_exported(rules, symbol),
+    })
+}
+
+/// The winners, in the order of the winning candidates.
+pub(crate) fn winners_of(
+    alloc: Global,
+    chosen: &[Chosen],
+    rules: &ExportRules,
+) -> Result<Vec<Winner>, OutOfMemory>
+    requires { AreChosen chosen.now }
+    ensures { IfOk result (λ list. (command : Commanded) → AreRules command rules.now → map Some list.items ≡ map (winner_chosen command) chosen.now) }
+{
+    let mut list = Vec::with_capacity(alloc, chosen.len())?;
+    for one in chosen {
+        list.push(winner(one, rules)?)?;
+    }
+    Ok(list)
+}
+
+/// The places of the winning candidates, by their names.
+pub(crate) fn index_of<'a>(
+    alloc: Global,
+    chosen: &[Chosen<'a>],
+) -> Result<NameIndex<'a>, OutOfMemory>
+    ensures { IfOk result (IsIndexOf chosen.now (length chosen.now)) }
+{
+    let mut index = NameIndex::new(alloc);
+    for (i, one) in chosen.iter().enumerate() {
+        index = index.with(one.found.symbol.name.as_slice(), i)?;
+    }
+    Ok(index)
+}

@@ -1,0 +1,67 @@
+//! The winning candidates in the order of their names.
+ghost use Rattle.std.specs.Prelude.{◌≡◌, IfOk, IsPermutation};
+ghost use Rattle.std.specs.List.{filter_map};
+ghost use Rattle.std.specs.List.Sorted.{IsSortedBy};
+ghost use Rattle.std.specs.Ordering.{is_lt, nat_cmp};
+ghost use Rattle.std.specs.Cmp.Lexicographic.{slice_cmp};
+ghost use Rattle.resolve.specs.inner.Best as bests;
+
+use crate::best::Best;
+use crate::found::FoundIn;
+use mo_types::OutOfMemory;
+use std::alloc::Global;
+
+/// A winning candidate, with the greatest size and alignment of the common symbols of its name.
+#[derive(Clone, Copy)]
+pub(crate) struct Chosen<'a> {
+    pub found: FoundIn<'a>,
+    pub size: u64,
+    pub align: u8,
+}
+
+fn chosen_of<'a>(best: &Best<'a>) -> Option<Chosen<'a>>
+    ensures { result ≡ bests.chosen_of best.now }
+{
+    match best.winner {
+        Some(found) => Some(Chosen {
+            found,
+            size: best.size,
+            align: best.align,
+        }),
+        None => None,
+    }
+}
+
+// Those of a table.
+#[tactic(auto, using(crate::proofs::ChosenLemmas::choosing))]
+fn chosen_in<'a>(alloc: Global, table: &[Best<'a>]) -> Result<Vec<Chosen<'a>>, OutOfMemory>
+    ensures { IfOk result (λ list. list.items ≡ filter_map bests.chosen_of table.now) }
+{
+    let mut list = Vec::new(alloc);
+    for best in table {
+        if let Some(chosen) = chosen_of(best) {
+            list.push(chosen)?;
+        }
+    }
+    Ok(list)
+}
+
+fn put_in_order(list: &mut Vec<Chosen>)
+    ensures permutation { IsPermutation list.old.items list.new.items }
+    ensures sorted { IsSortedBy (λ a b. is_lt (slice_cmp nat_cmp (bests.chosen_name a) (bests.chosen_name b))) list.new.items }
+{
+    list.sort_unstable_by(|a, b| a.found.symbol.name.cmp(&b.found.symbol.name));
+}
+
+/// Those of a table, in the byte order of their names.
+pub(crate) fn chosen_by_name<'a>(
+    alloc: Global,
+    table: &[Best<'a>],
+) -> Result<Vec<Chosen<'a>>, OutOfMemory>
+    ensures permutation { IfOk result (λ list. IsPermutation (filter_map bests.chosen_of table.now) list.items) }
+    ensures sorted { IfOk result (λ list. IsSortedBy (λ a b. is_lt (slice_cmp nat_cmp (bests.chosen_name a) (bests.chosen_name b))) list.items) }
+{
+    let mut list = chosen_in(alloc, table)?;
+    put_in_order(&mut list);
+    Ok(list)
+}

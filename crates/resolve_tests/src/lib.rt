@@ -1,0 +1,8 @@
+//! Tests of what resolves names, outside of the crates: the check of a crate's tests proves the crate once more, and here
+//! it needn't.
+#![tactic(auto)]
+
+#[cfg(test)]
+mod numbers;
+#[cfg(test)]
+mod resolving;

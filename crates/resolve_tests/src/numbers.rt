@@ -1,0 +1,134 @@
+//! Numbers of names, against tables that were written by hand.
+use mo_types::{
+    AtomList, Bytes, FileId, Loaded, LoadedFile, LoadedList, NameList, Object, OutOfMemory,
+    RefList, SectionList, Symbol, SymbolKind, SymbolList, UnwindList,
+};
+use name_ids::{NameTable, gather};
+use std::alloc::Global;
+use std::test::Fail;
+
+// An undefined symbol.
+fn symbol(name: Bytes, external: bool) -> Symbol {
+    Symbol {
+        name,
+        kind: SymbolKind::Undefined,
+        external,
+        hidden: false,
+        weak_def: false,
+        weak_ref: false,
+        no_strip: false,
+        alt: false,
+    }
+}
+
+// A file with these symbols.
+fn file(alloc: Global, position: u16, symbols: SymbolList) -> LoadedFile {
+    let id = FileId {
+        position,
+        member: 0,
+    };
+    LoadedFile {
+        id,
+        label: Bytes::new(),
+        object: Object {
+            subsections: true,
+            sections: SectionList::new(alloc),
+            symbols,
+        },
+        atoms: AtomList::new(alloc),
+        refs: RefList::new(alloc, id),
+        unwinds: UnwindList::new(alloc),
+    }
+}
+
+// Two files and two further names. A name that begins with `l` is local.
+fn sample(alloc: Global) -> Result<Loaded, OutOfMemory> {
+    let rows: [&[&'static [u8]]; 2] = [
+        &[b"_main", b"l_one", b"_a"],
+        &[b"_a", b"_b", b"l_one", b"_main"],
+    ];
+    let mut files = LoadedList::new(alloc);
+    for (row, position) in rows.iter().zip(0u16..) {
+        let mut symbols = SymbolList::new(alloc);
+        for name in *row {
+            symbols.push(symbol(Bytes::from_static(*name), !name.starts_with(b"l")))?;
+        }
+        files.push(file(alloc, position, symbols))?;
+    }
+    Ok(Loaded { files })
+}
+
+// Whether these are the names of a table, by their numbers.
+fn holds(table: &NameTable, names: &[&[u8]]) -> bool {
+    table.len() as usize == names.len()
+        && names
+            .iter()
+            .zip(0u32..)
+            .all(|(name, id)| table.id_of(*name) == Some(id))
+}
+
+#[test]
+fn names_get_numbers(rt: HostRuntime) -> Result<(), Fail> {
+    let alloc = rt.alloc();
+    let loaded = sample(alloc)?;
+    let mut extra = NameList::new(alloc);
+    extra.push(Bytes::from_static(b"_b"))?;
+    extra.push(Bytes::from_static(b""))?;
+    let table = gather(alloc, &loaded, &extra).ok();
+    assert!(rt;
+        table.is_some_and(|table| {
+            holds(&table, &[b"_main", b"_a", b"_b", b""])
+                && table.id_of(b"l_one").is_none()
+                && table.id_of(b"_").is_none()
+        })
+    );
+    Ok(())
+}
+
+// A name of a number: `_n` and seven digits, the lowest first.
+fn name_of(alloc: Global, number: u32) -> Result<Bytes, OutOfMemory> {
+    let mut name = Vec::from_slice(alloc, b"_n")?;
+    let mut rest = number;
+    for _i in 0..7 {
+        name.push(b'0' + (rest % 10) as u8)?;
+        rest /= 10;
+    }
+    Ok(Bytes::from_vec(name)?)
+}
+
+// A file with so many external symbols, whose names come again after so many.
+fn large(alloc: Global, count: u32, names: u32) -> Result<Loaded, OutOfMemory> {
+    let mut symbols = SymbolList::new(alloc);
+    for i in 0..count {
+        let number = i.checked_rem(names).unwrap_or(0);
+        symbols.push(symbol(name_of(alloc, number)?, true))?;
+    }
+    let mut files = LoadedList::new(alloc);
+    files.push(file(alloc, 0, symbols))?;
+    Ok(Loaded { files })
+}
+
+// Whether each number leads to its name, and the name back to it.
+fn leads_back(alloc: Global, table: &NameTable) -> Result<bool, OutOfMemory> {
+    for id in 0..table.len() {
+        let name = table.name_of(id);
+        if name != name_of(alloc, id)?.as_slice() || table.id_of(name) != Some(id) {
+            return Ok(false);
+        }
+    }
+    Ok(true)
+}
+
+#[test]
+fn thousands_of_names(rt: HostRuntime) -> Result<(), Fail> {
+    let alloc = rt.alloc();
+    let loaded = large(alloc, 100_000, 20_000)?;
+    let extra = NameList::new(alloc);
+    let table = gather(alloc, &loaded, &extra).ok();
+    assert!(rt; table.is_some());
+    if let Some(table) = table {
+        assert!(rt; table.len() == 20_000);
+        assert!(rt; leads_back(alloc, &table)?);
+    }
+    Ok(())
+}

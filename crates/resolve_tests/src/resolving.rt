@@ -1,0 +1,448 @@
+//! Duplicates, representatives and places against tables that were written by hand.
+ghost use Rattle.std.specs.Prelude.{All, IfOk, IfSome, IsTrue};
+ghost use Rattle.std.specs.List.{AllPairs};
+ghost use Rattle.mo_types.specs.Loaded.{IsBefore, IsWholeFile, IsWholeLoaded};
+
+use atom_cut::cut;
+use mo_types::{
+    AtomKey, Bytes, FileId, Loaded, LoadedFile, LoadedList, NameList, Object, OutOfMemory,
+    RelocList, Section, SectionList, Symbol, SymbolKind, SymbolList, UnwindList,
+};
+use name_ids::gather;
+use reloc_read::refs_of;
+use resolve::{Place, duplicate, place_of, representatives};
+use std::alloc::Global;
+use std::cmp::Ordering;
+use std::test::Fail;
+
+// What a symbol is: strong, weak, common with a size and an alignment, or undefined.
+#[derive(Clone, Copy)]
+enum Is {
+    Strong,
+    Weak,
+    Common(u64, u8),
+    Undefined,
+}
+
+// A file's position and member, and its symbols.
+type Row<'a> = ((u16, u32), &'a [(&'static [u8], Is)]);
+
+fn id_of(place: (u16, u32)) -> FileId {
+    FileId {
+        position: place.0,
+        member: place.1,
+    }
+}
+
+fn kind_of(is: Is) -> SymbolKind {
+    match is {
+        Is::Strong | Is::Weak => SymbolKind::Defined {
+            section: 1,
+            value: 0,
+        },
+        Is::Common(size, align) => SymbolKind::Common { size, align },
+        Is::Undefined => SymbolKind::Undefined,
+    }
+}
+
+fn symbol(name: &'static [u8], is: Is) -> Symbol {
+    Symbol {
+        name: Bytes::from_static(name),
+        kind: kind_of(is),
+        external: true,
+        hidden: false,
+        weak_def: matches!(is, Is::Weak),
+        weak_ref: false,
+        no_strip: false,
+        alt: false,
+    }
+}
+
+// `__TEXT,__text` with one return.
+fn text(alloc: Global) -> Section {
+    Section {
+        segment: Bytes::from_static(b"__TEXT"),
+        name: Bytes::from_static(b"__text"),
+        address: 0,
+        size: 4,
+        align: 2,
+        kind: 0,
+        attributes: 0x8000_0400,
+        file_offset: 0,
+        reloc_offset: 0,
+        bytes: Bytes::from_static(b"\xc0\x03\x5f\xd6"),
+        relocs: RelocList::new(alloc),
+    }
+}
+
+fn object(
+    alloc: Global,
+    section: Section,
+    rows: &[(&'static [u8], Is)],
+) -> Result<Object, OutOfMemory> {
+    let mut sections = SectionList::new(alloc);
+    sections.push(section)?;
+    let mut symbols = SymbolList::new(alloc);
+    for (name, is) in rows {
+        symbols.push(symbol(*name, *is))?;
+    }
+    Ok(Object {
+        subsections: true,
+        sections,
+        symbols,
+    })
+}
+
+// The file of a whole object.
+fn whole_file(alloc: Global, id: FileId, object: Object) -> Result<Option<LoadedFile>, OutOfMemory>
+    ensures { IfOk result (λ file. IfSome file IsWholeFile) }
+{
+    if id.member >= 1 << 20 || object.symbols.len() >= 1 << 24 || !object.is_whole() {
+        return Ok(None);
+    }
+    let atoms = cut(alloc, &object, id)?;
+    match refs_of(alloc, &object, &atoms, id) {
+        Ok(refs) => Ok(Some(LoadedFile {
+            id,
+            label: Bytes::new(),
+            object,
+            atoms,
+            refs,
+            unwinds: UnwindList::new(alloc),
+        })),
+        Err(_) => Ok(None),
+    }
+}
+
+fn is_rising(files: &[LoadedFile]) -> bool
+    ensures { IsTrue result → AllPairs (λ a b. IsBefore a.id b.id) files.now }
+{
+    for i in 1..files.len() {
+        match files[i - 1].id.cmp(&files[i].id) {
+            Ordering::Less => {}
+            _ => return false,
+        }
+    }
+    true
+}
+
+// Some files with one file more.
+fn add(
+    files: Vec<LoadedFile>,
+    alloc: Global,
+    place: (u16, u32),
+    object: Object,
+) -> Result<Option<Vec<LoadedFile>>, OutOfMemory>
+    requires { All IsWholeFile files.items }
+    ensures { IfOk result (λ more. IfSome more (λ files. All IsWholeFile files.items)) }
+{
+    let mut more = files;
+    match whole_file(alloc, id_of(place), object)? {
+        Some(file) => {
+            more.push(file)?;
+            Ok(Some(more))
+        }
+        None => Ok(None),
+    }
+}
+
+// The files, where they rise.
+fn risen(files: Vec<LoadedFile>) -> Option<Loaded>
+    requires { All IsWholeFile files.items }
+    ensures { IfSome result IsWholeLoaded }
+{
+    if !is_rising(files.as_slice()) {
+        return None;
+    }
+    Some(Loaded {
+        files: LoadedList::from_vec(files),
+    })
+}
+
+// The files of some rows, where they are whole and rise.
+fn loaded(alloc: Global, rows: &[Row]) -> Result<Option<Loaded>, OutOfMemory>
+    ensures { IfOk result (λ loaded. IfSome loaded IsWholeLoaded) }
+{
+    let mut files = Vec::new(alloc);
+    for (place, symbols) in rows {
+        match add(files, alloc, *place, object(alloc, text(alloc), *symbols)?)? {
+            Some(more) => files = more,
+            None => return Ok(None),
+        }
+    }
+    Ok(risen(files))
+}
+
+// The files of the least duplicate, by the name that it is to have.
+type Pair<'a> = Option<(&'a [u8], (u16, u32), (u16, u32))>;
+
+// Whether the files of some rows have this duplicate.
+fn has(alloc: Global, rows: &[Row], wanted: Pair) -> Result<bool, OutOfMemory> {
+    let Some(loaded) = loaded(alloc, rows)? else {
+        return Ok(false);
+    };
+    let extra = NameList::new(alloc);
+    let Ok(names) = gather(alloc, &loaded, &extra) else {
+        return Ok(false);
+    };
+    Ok(match (duplicate(alloc, &loaded, &names)?, wanted) {
+        (Some((id, first, second)), Some((name, a, b))) => {
+            names.id_of(name) == Some(id) && first == id_of(a) && second == id_of(b)
+        }
+        (None, None) => true,
+        _ => false,
+    })
+}
+
+#[test]
+fn duplicates(rt: HostRuntime) -> Result<(), Fail> {
+    let alloc = rt.alloc();
+    let main: Row = ((0, 0), &[(b"_main", Is::Strong), (b"_f", Is::Undefined)]);
+    let strong: &[(&'static [u8], Is)] = &[(b"_f", Is::Strong)];
+    let weak: &[(&'static [u8], Is)] = &[(b"_f", Is::Weak), (b"_f", Is::Common(8, 3))];
+    let rows: [(&[Row], Pair); 7] = [
+        (&[main], None),
+        (
+            &[main, ((1, 0), strong), ((2, 0), strong)],
+            Some((b"_f", (1, 0), (2, 0))),
+        ),
+        (
+            &[main, ((1, 0), &[(b"_f", Is::Strong), (b"_f", Is::Strong)])],
+            Some((b"_f", (1, 0), (1, 0))),
+        ),
+        // strong_beats_weak
+        (&[main, ((1, 0), weak), ((2, 0), strong)], None),
+        (&[((0, 0), weak), ((1, 0), weak)], None),
+        // member_duplicate
+        (
+            &[
+                (
+                    (0, 0),
+                    &[
+                        (b"_main", Is::Strong),
+                        (b"_f", Is::Strong),
+                        (b"_g", Is::Undefined),
+                    ],
+                ),
+                ((1, 1), &[(b"_g", Is::Strong), (b"_h", Is::Undefined)]),
+                ((1, 2), &[(b"_h", Is::Strong), (b"_f", Is::Strong)]),
+            ],
+            Some((b"_f", (0, 0), (1, 2))),
+        ),
+        // the least name, whichever has the lesser number
+        (
+            &[
+                (
+                    (0, 0),
+                    &[
+                        (b"_z", Is::Strong),
+                        (b"_b", Is::Strong),
+                        (b"_z", Is::Strong),
+                    ],
+                ),
+                ((1, 3), &[(b"_a", Is::Weak), (b"_b", Is::Strong)]),
+                ((1, 4), &[(b"_a", Is::Weak), (b"_b", Is::Strong)]),
+            ],
+            Some((b"_b", (0, 0), (1, 3))),
+        ),
+    ];
+    for (files, wanted) in rows {
+        assert!(rt; has(alloc, files, wanted)?, "{wanted:?}");
+    }
+    Ok(())
+}
+
+// A file's position, and of its one section the name, the type, the alignment and the bytes.
+type Section1 = (u16, &'static [u8], u8, u8, &'static [u8]);
+
+fn literal_section(alloc: Global, row: &Section1) -> Section {
+    Section {
+        segment: Bytes::from_static(b"__TEXT"),
+        name: Bytes::from_static(row.1),
+        address: 0x40,
+        size: row.4.len() as u64,
+        align: row.3,
+        kind: row.2,
+        attributes: 0,
+        file_offset: 0x200,
+        reloc_offset: 0,
+        bytes: Bytes::from_static(row.4),
+        relocs: RelocList::new(alloc),
+    }
+}
+
+// The files of some sections, where they are whole and rise.
+fn loaded_literals(alloc: Global, rows: &[Section1]) -> Result<Option<Loaded>, OutOfMemory>
+    ensures { IfOk result (λ loaded. IfSome loaded IsWholeLoaded) }
+{
+    let mut files = Vec::new(alloc);
+    for row in rows {
+        match add(
+            files,
+            alloc,
+            (row.0, 0),
+            object(alloc, literal_section(alloc, row), &[])?,
+        )? {
+            Some(more) => files = more,
+            None => return Ok(None),
+        }
+    }
+    Ok(risen(files))
+}
+
+// The file and offset of a literal, those of its representative, and the alignment.
+type Stands = ((u16, u64), (u16, u64), u8);
+
+fn key_of(place: (u16, u64)) -> AtomKey {
+    AtomKey {
+        file: id_of((place.0, 0)),
+        section: 1,
+        offset: place.1,
+    }
+}
+
+// Whether the literals of some sections have these representatives.
+fn stand(alloc: Global, rows: &[Section1], wanted: &[Stands]) -> Result<bool, OutOfMemory> {
+    let Some(loaded) = loaded_literals(alloc, rows)? else {
+        return Ok(false);
+    };
+    let list = representatives(alloc, &loaded)?;
+    Ok(
+        list.len() == wanted.len()
+            && list.as_slice().iter().zip(wanted).all(|(found, row)| {
+                found.literal == key_of(row.0)
+                    && found.representative == key_of(row.1)
+                    && found.align == row.2
+            }),
+    )
+}
+
+#[test]
+fn literals_have_representatives(rt: HostRuntime) -> Result<(), Fail> {
+    let alloc = rt.alloc();
+    let strings: &'static [u8] = b"__cstring";
+    let words: &'static [u8] = b"__literal4";
+    let rows: [(&[Section1], &[Stands]); 5] = [
+        // one_string
+        (
+            &[(0, strings, 2, 0, b"hi\0"), (1, strings, 2, 3, b"hi\0")],
+            &[((0, 0), (0, 0), 3), ((1, 0), (0, 0), 3)],
+        ),
+        // another section of the image
+        (
+            &[(0, strings, 2, 0, b"hi\0"), (1, b"__other", 2, 3, b"hi\0")],
+            &[((0, 0), (0, 0), 0), ((1, 0), (1, 0), 3)],
+        ),
+        (
+            &[
+                (2, words, 3, 3, b"aaaabbbbaaaa"),
+                (5, words, 3, 2, b"bbbbcccc"),
+            ],
+            &[
+                ((2, 0), (2, 0), 3),
+                ((2, 4), (2, 4), 2),
+                ((2, 8), (2, 0), 3),
+                ((5, 0), (2, 4), 2),
+                ((5, 4), (5, 4), 2),
+            ],
+        ),
+        // empty sections have one empty literal each
+        (
+            &[(0, strings, 2, 0, b""), (1, strings, 2, 0, b"\0\0")],
+            &[
+                ((0, 0), (0, 0), 0),
+                ((1, 0), (1, 0), 0),
+                ((1, 1), (1, 0), 0),
+            ],
+        ),
+        (&[(0, b"__const", 0, 0, b"hi\0")], &[]),
+    ];
+    for (sections, wanted) in rows {
+        assert!(rt; stand(alloc, sections, wanted)?, "{sections:?}");
+    }
+    Ok(())
+}
+
+// What symbols are, and the section and offset of their atoms and their offsets in these. The section has two strings
+// from the address 0x40 on.
+const PLACES: [(SymbolKind, Option<(u16, u64, u64)>); 8] = [
+    (
+        SymbolKind::Defined {
+            section: 1,
+            value: 0x40,
+        },
+        Some((1, 0, 0)),
+    ),
+    (
+        SymbolKind::Defined {
+            section: 1,
+            value: 0x42,
+        },
+        Some((1, 0, 2)),
+    ),
+    (
+        SymbolKind::Defined {
+            section: 1,
+            value: 0x43,
+        },
+        Some((1, 3, 0)),
+    ),
+    (
+        SymbolKind::Defined {
+            section: 1,
+            value: 0x46,
+        },
+        Some((1, 3, 3)),
+    ),
+    (SymbolKind::Common { size: 8, align: 3 }, Some((256, 4, 0))),
+    (SymbolKind::Undefined, None),
+    (SymbolKind::Absolute, None),
+    (SymbolKind::Passed, None),
+];
+
+// The file of those symbols.
+fn placed(alloc: Global, id: FileId) -> Result<Option<LoadedFile>, OutOfMemory>
+    ensures { IfOk result (λ file. IfSome file IsWholeFile) }
+{
+    let row = (0, b"__cstring".as_slice(), 2, 0, b"ab\0cd\0".as_slice());
+    let mut object = object(alloc, literal_section(alloc, &row), &[])?;
+    for (kind, _) in &PLACES {
+        let mut symbol = symbol(b"_s", Is::Strong);
+        symbol.kind = *kind;
+        object.symbols.push(symbol)?;
+    }
+    whole_file(alloc, id, object)
+}
+
+// Whether a file's symbols stand where they are to.
+fn are_placed(file: &LoadedFile) -> bool
+    requires { IsWholeFile file.now }
+{
+    let count = file.object.symbols.len();
+    for (i, (_, wanted)) in PLACES.iter().enumerate() {
+        let found = if i < count {
+            place_of(file, i as u32)
+        } else {
+            None
+        };
+        let wanted = wanted.map(|row| Place {
+            atom: AtomKey {
+                file: file.id,
+                section: row.0,
+                offset: row.1,
+            },
+            offset: row.2,
+        });
+        if found != wanted {
+            return false;
+        }
+    }
+    count == PLACES.len()
+}
+
+#[test]
+fn symbols_have_places(rt: HostRuntime) -> Result<(), Fail> {
+    let file = placed(rt.alloc(), id_of((3, 9)))?;
+    assert!(rt; file.is_some_and(|file| are_placed(&file)));
+    Ok(())
+}
