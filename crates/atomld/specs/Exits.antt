@@ -4,7 +4,7 @@ use Rattle.mo_types.specs.Answer.{code_of}
 use Rattle.mo_types.specs.declared.answer.Status.{Status}
 use Rattle.link_engine.specs.declared.plan.Plan.{Plan}
 use Rattle.link_engine.specs.Settles.{Seen, Settles}
-use Rattle.link_engine.specs.Stop.{Stop}
+use Rattle.link_engine.specs.declared.stop.Stop.{Stop}
 
 -- the exit status is that of an answer that agrees with the verdict, as what was written and told does
 pub record Exits (given : Result Plan Stop) (code : ℕ) (out_fault quiet : Type 0) (old new : Seen) : Type 0 where

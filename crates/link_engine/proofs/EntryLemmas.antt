@@ -1,12 +1,14 @@
 -- No symbol is an external definition of the entry exactly where the search finds none.
 use Rattle.std.proofs.Common.{◌≡◌, ℕ, ◌∷◌, [], ◌&&◌, List, Bool, true, false, Option, Some, None, if◌then◌else◌, refl, sym, ap, ◌∙◌}
 use Rattle.std.proofs.lemmas.Slice.Eq.{bytes_eq-Decides}
+use Rattle.std.specs.List.{AllByRecursion}
 use Rattle.std.specs.Str.{bytes_eq}
 use Rattle.mo_types.specs.Scan.{first_some, option_or_else}
 use Rattle.mo_types.specs.declared.object.Symbol.{Symbol}
 use Rattle.mo_types.specs.declared.object.SymbolKind.{SymbolKind}
 use Rattle.mo_types.specs.declared.object.SymbolKind.TheVariants as kind
-use Rattle.link_engine.specs.Entry.{HasNoEntry, IsDefined, IsEntry, address_of, entry_name, entry_value}
+use Rattle.link_engine.specs.declared.read.InputObject.{InputObject}
+use Rattle.link_engine.specs.Entry.{HasNoEntry, IsDefined, IsEntry, address_of, entry_in, entry_name, entry_value}
 use Rattle.link_engine.proofs.BranchLemmas.{both}
 
 both_none : (x rest : Option ℕ) → option_or_else x rest ≡ None → (x ≡ None) × (rest ≡ None)
@@ -43,13 +45,26 @@ no_entry symbol other = by_test (symbol.external && bytes_eq symbol.name entry_n
         let parts = both _ _ e in
         no_address symbol.kind (λ defined. other (record { external = parts.0; named = (bytes_eq-Decides symbol.name entry_name).0 parts.1; defined = defined }))
 
-pub entry_missed : (symbols : List Symbol) → first_some entry_value symbols ≡ None → HasNoEntry symbols
-entry_missed [] e = tt
-entry_missed (symbol ∷ symbols) e =
+symbols_missed : (symbols : List Symbol) → first_some entry_value symbols ≡ None → AllByRecursion (λ symbol. IsEntry symbol → ⊥) symbols
+symbols_missed [] e = tt
+symbols_missed (symbol ∷ symbols) e =
     let parts = both_none (entry_value symbol) (first_some entry_value symbols) e in
-    (an_entry symbol parts.0, entry_missed symbols parts.1)
+    (an_entry symbol parts.0, symbols_missed symbols parts.1)
 
-pub entry_found : (symbols : List Symbol) → HasNoEntry symbols → first_some entry_value symbols ≡ None
+symbols_without : (symbols : List Symbol) → AllByRecursion (λ symbol. IsEntry symbol → ⊥) symbols → first_some entry_value symbols ≡ None
+symbols_without [] none = refl
+symbols_without (symbol ∷ symbols) (other, none) =
+    ap (λ found. option_or_else found (first_some entry_value symbols)) (no_entry symbol other) ∙ symbols_without symbols none
+
+pub entry_missed : (objects : List InputObject) → first_some entry_in objects ≡ None → HasNoEntry objects
+unfolding entry_in
+entry_missed [] e = tt
+entry_missed (input ∷ objects) e =
+    let parts = both_none (first_some entry_value input.object.symbols) (first_some entry_in objects) e in
+    (symbols_missed input.object.symbols parts.0, entry_missed objects parts.1)
+
+pub entry_found : (objects : List InputObject) → HasNoEntry objects → first_some entry_in objects ≡ None
+unfolding entry_in
 entry_found [] none = refl
-entry_found (symbol ∷ symbols) (other, none) =
-    ap (λ found. option_or_else found (first_some entry_value symbols)) (no_entry symbol other) ∙ entry_found symbols none
+entry_found (input ∷ objects) (other, none) =
+    ap (λ found. option_or_else found (first_some entry_in objects)) (symbols_without input.object.symbols other) ∙ entry_found objects none

@@ -1,5 +1,5 @@
 -- What fetches answered, one after the other.
-use Rattle.std.proofs.Common.{suc, ◌≡◌, ◌≢◌, ℕ, ◌+◌, ◌<◌, ◌≤◌, ◌++◌, ◌∷◌, [], List, length, take, drop, map, get_or, Bool, true, false, Option, Some, None, Result, Ok, Err, IfOk, IsErrAnd, refl, sym, ap, ◌∙◌, subst, arith, append_assoc}
+use Rattle.std.proofs.Common.{◌≡◌, ◌≢◌, ℕ, ◌+◌, ◌<◌, ◌≤◌, ◌++◌, ◌∷◌, [], List, length, take, drop, get_or, Bool, true, false, Option, Some, None, Result, Ok, Err, IfOk, IsErrAnd, refl, sym, ap, ◌∙◌, subst, arith, append_assoc}
 use Rattle.std.proofs.lemmas.List.{append-nil, take-append-drop, take_all, length-append}
 use Rattle.std.proofs.lemmas.Result.{err_from_is_err_and}
 use Rattle.mo_cmd.specs.declared.command.CommandInput.{CommandInput}
@@ -10,16 +10,18 @@ use Rattle.mo_outside.specs.Log.{Logs}
 use Rattle.mo_outside.specs.Tells.{Tells}
 use Rattle.mo_outside.specs.declared.traits.FetchFault.{FetchFault}
 use Rattle.mo_types.specs.Gives.{◌>>=◌}
-use Rattle.mo_types.specs.declared.answer.Status.{Status}
-use Rattle.mo_types.specs.declared.answer.Status.TheVariants as status
+use Rattle.link_engine.specs.declared.stop.StepFault.{StepFault}
+use Rattle.link_engine.specs.declared.stop.StepFault.TheVariants as fault
+use Rattle.link_engine.specs.declared.stop.Stop.TheVariants as stop
 use Rattle.link_engine.specs.Asks.{AllAgree, Answered, AnsweredOnce, Asks, FilesSeen, after, answers_in, asked_for, paths_in}
 use Rattle.link_engine.specs.Input.{content_of, contents_of}
-use Rattle.link_engine.specs.Stop.{Answers, Stop}
+use Rattle.link_engine.specs.declared.stop.Stop.{Stop}
+use Rattle.link_engine.specs.Stop.{Answers}
 use Rattle.link_engine.specs.Steps.{IsFileStop}
 use Rattle.link_engine.proofs.DistinctLemmas.{from_place}
 use Rattle.link_engine.proofs.FilesLemmas.{map-append, one_more}
 use Rattle.link_engine.proofs.StopLemmas.{first_ends, passed_on}
-use Rattle.link_engine.proofs.WritingLemmas.{tells_both, tells_more}
+use Rattle.link_engine.proofs.WritingLemmas.{tells_both}
 
 -- a fetch's answer is that of the files that are told
 pub agrees : (held : Option FileMap) (path bytes : List ℕ) (fetched : Result Bool FetchFault) → IfOk fetched (λ there. Fetches held path there bytes) → Agrees held path (answer_of fetched bytes)
@@ -177,9 +179,9 @@ all_there fetches held inputs at contents ends old new past before =
         }
 
 -- memory ran out after some inputs
-pub out_of_memory : {S : Type 0} (fetches : S → List ℕ → Answer → S → Type 0) (held : Option FileMap) (inputs : List CommandInput) (at : ℕ) (contents : List (List ℕ)) (returned : Result (List (List ℕ)) Status) (old new : FilesSeen S)
-    → IsErrAnd returned (λ passed. passed ≡ status.OutOfMemory) → AreThere fetches held (take at inputs) contents old new
-    → Answered fetches held inputs (returned ≢ Err status.OutOfMemory) (λ answers. Answers returned (contents_of inputs answers)) old new
+pub out_of_memory : {S : Type 0} (fetches : S → List ℕ → Answer → S → Type 0) (held : Option FileMap) (inputs : List CommandInput) (at : ℕ) (contents : List (List ℕ)) (returned : Result (List (List ℕ)) StepFault) (old new : FilesSeen S)
+    → IsErrAnd returned (λ passed. passed ≡ fault.OutOfMemory) → AreThere fetches held (take at inputs) contents old new
+    → Answered fetches held inputs (returned ≢ Err fault.OutOfMemory) (λ answers. Answers returned (contents_of inputs answers)) old new
 out_of_memory fetches held inputs at contents returned old new is here =
     let front : List CommandInput = take at inputs in
     let asked : List Asked = theres front contents in
@@ -195,26 +197,24 @@ out_of_memory fetches held inputs at contents returned old new is here =
       logged = here.logged;
       all = λ ends. absurd (ends (passed.1 ∙ ap Err passed.2));
       some = (length (paths_in asked), sym (ap (take (length (paths_in asked))) paths ∙ first_ones (paths_in asked) (asked_for (drop at inputs) [])));
-      holds = passed_on status.OutOfMemory returned (contents_of inputs (answers_in asked)) is tt;
+      holds = passed_on fault.OutOfMemory returned (contents_of inputs (answers_in asked)) is tt;
     }
 
 -- an answer that ends the fetches isn't that of a file that is there
-ends_there : (ended : Status) (path : List ℕ) (given : Answer) (more : List (List ℕ)) → IsFileStop ended → ended ≢ status.OutOfMemory → Answers {A = List ℕ} (Err ended) (content_of path given) → after given more ≡ []
+ends_there : (ended : StepFault) (path : List ℕ) (given : Answer) (more : List (List ℕ)) → IsFileStop ended → ended ≢ fault.OutOfMemory → Answers {A = List ℕ} (Err ended) (content_of path given) → after given more ≡ []
 ends_there ended path Absent more kind other answers = refl
 ends_there ended path Unread more kind other answers = refl
 ends_there ended path answer.Refused more kind other answers = refl
-ends_there status.Done path (There bytes) more kind other answers = absurd kind
-ends_there (status.Usage word rule) path (There bytes) more kind other answers = absurd kind
-ends_there (status.ReadFault file) path (There bytes) more kind other answers = absurd cc
-ends_there (status.Refused refusal) path (There bytes) more kind other answers = absurd cc
-ends_there status.WriteFault path (There bytes) more kind other answers = absurd kind
-ends_there status.OutOfMemory path (There bytes) more kind other answers = absurd (other refl)
+ends_there (fault.Stop (stop.Usage word rule)) path (There bytes) more kind other answers = absurd kind
+ends_there (fault.Stop (stop.ReadFault file)) path (There bytes) more kind other answers = absurd cc
+ends_there (fault.Stop (stop.Refused refusal)) path (There bytes) more kind other answers = absurd cc
+ends_there fault.OutOfMemory path (There bytes) more kind other answers = absurd (other refl)
 
 -- the input at a place isn't there, or wasn't read
-one_missing : {S : Type 0} (fetches : S → List ℕ → Answer → S → Type 0) (held : Option FileMap) (inputs : List CommandInput) (at : ℕ) (input : CommandInput) (contents : List (List ℕ)) (ended : Status) (returned : Result (List (List ℕ)) Status) (old now new : FilesSeen S)
+one_missing : {S : Type 0} (fetches : S → List ℕ → Answer → S → Type 0) (held : Option FileMap) (inputs : List CommandInput) (at : ℕ) (input : CommandInput) (contents : List (List ℕ)) (ended : StepFault) (returned : Result (List (List ℕ)) StepFault) (old now new : FilesSeen S)
     → at < length inputs → input ≡ get_or inputs at input → IsErrAnd returned (λ passed. passed ≡ ended) → IsFileStop ended → AreThere fetches held (take at inputs) contents old now
     → AnsweredOnce fetches held input.value (λ given. Answers {A = List ℕ} (Err ended) (content_of input.value given)) now.self new.self → Tells (Logs input.value) now.told new.told
-    → Answered fetches held inputs (returned ≢ Err status.OutOfMemory) (λ answers. Answers returned (contents_of inputs answers)) old new
+    → Answered fetches held inputs (returned ≢ Err fault.OutOfMemory) (λ answers. Answers returned (contents_of inputs answers)) old new
 one_missing fetches held inputs at input contents ended returned old now new within is passes kind here once logs =
     let front : List CommandInput = take at inputs in
     let rest : List CommandInput = drop (at + 1) inputs in
@@ -243,7 +243,7 @@ one_missing fetches held inputs at input contents ended returned old now new wit
       logged = subst (λ (list : List (List ℕ)). Tells (Asks list) old.told new.told) (sym names)
           (log-append (paths_in before) input.value old.told now.told new.told here.logged logs);
       all = λ ends.
-          let other : ended ≢ status.OutOfMemory = λ same. ends (passed.1 ∙ ap Err (passed.2 ∙ same)) in
+          let other : ended ≢ fault.OutOfMemory = λ same. ends (passed.1 ∙ ap Err (passed.2 ∙ same)) in
           names ∙ sym (paths ∙ ap (λ (more : List (List ℕ)). paths_in before ++ input.value ∷ more) (ends_there ended input.value given (asked_for rest []) kind other once.holds));
       some = (
         length (paths_in before ++ input.value ∷ []),
@@ -253,7 +253,7 @@ one_missing fetches held inputs at input contents ended returned old now new wit
           (subst (λ (r : Result (List (List ℕ)) Stop). Answers {A = List (List ℕ)} (Err ended) r) (sym gives) stops);
     }
 
-pub once_fetched : {S : Type 0} (fetches : S → List ℕ → Answer → S → Type 0) (held : Option FileMap) (path sent bytes : List ℕ) (fetched : Result Bool FetchFault) (result : Result (List ℕ) Status) (old new : S)
+pub once_fetched : {S : Type 0} (fetches : S → List ℕ → Answer → S → Type 0) (held : Option FileMap) (path sent bytes : List ℕ) (fetched : Result Bool FetchFault) (result : Result (List ℕ) StepFault) (old new : S)
     → sent ≡ path → fetches old sent (answer_of fetched bytes) new → IfOk fetched (λ there. Fetches held sent there bytes) → Answers result (content_of path (answer_of fetched bytes))
     → AnsweredOnce fetches held path (λ given. Answers result (content_of path given)) old new
 once_fetched fetches held path sent bytes fetched result old new same shows tells answers = record {
@@ -282,10 +282,10 @@ then_there fetches holding held inputs at input contents pushed bytes old now ne
     (one_there fetches held inputs at input contents bytes old now new within is before
     (again fetches holding held input.value (λ given. Answers (Ok bytes) (content_of input.value given)) now.self new.self same once) logs)
 
-pub then_missing : {S : Type 0} (fetches : S → List ℕ → Answer → S → Type 0) (holding held : Option FileMap) (inputs : List CommandInput) (at : ℕ) (input : CommandInput) (contents : List (List ℕ)) (ended : Status) (returned : Result (List (List ℕ)) Status) (old now new : FilesSeen S)
+pub then_missing : {S : Type 0} (fetches : S → List ℕ → Answer → S → Type 0) (holding held : Option FileMap) (inputs : List CommandInput) (at : ℕ) (input : CommandInput) (contents : List (List ℕ)) (ended : StepFault) (returned : Result (List (List ℕ)) StepFault) (old now new : FilesSeen S)
     → holding ≡ held → at < length inputs → input ≡ get_or inputs at input → IsErrAnd returned (λ passed. passed ≡ ended) → IsFileStop ended → AreThere fetches held (take at inputs) contents old now
     → AnsweredOnce fetches holding input.value (λ given. Answers {A = List ℕ} (Err ended) (content_of input.value given)) now.self new.self → Tells (Logs input.value) now.told new.told
-    → Answered fetches held inputs (returned ≢ Err status.OutOfMemory) (λ answers. Answers returned (contents_of inputs answers)) old new
+    → Answered fetches held inputs (returned ≢ Err fault.OutOfMemory) (λ answers. Answers returned (contents_of inputs answers)) old new
 then_missing fetches holding held inputs at input contents ended returned old now new same within is passes kind here once logs =
     one_missing fetches held inputs at input contents ended returned old now new within is passes kind here
     (again fetches holding held input.value (λ given. Answers {A = List ℕ} (Err ended) (content_of input.value given)) now.self new.self same once) logs

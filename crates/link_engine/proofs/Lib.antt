@@ -1,5 +1,6 @@
 pub mod ApartLemmas
 pub mod BranchLemmas
+pub mod CauseLemmas
 pub mod DistinctLemmas
 pub mod EntryLemmas
 pub mod FetchLemmas
@@ -15,6 +16,7 @@ pub mod PatchLemmas
 pub mod PatchedLemmas
 pub mod PlacedLemmas
 pub mod PlanLemmas
+pub mod ReadingLemmas
 pub mod SaysLemmas
 pub mod StopLemmas
 pub mod WritingLemmas

@@ -1,11 +1,12 @@
 -- Definitions lie in their section.
-use Rattle.std.proofs.Common.{◌≡◌, ℕ, ◌++◌, ◌∷◌, [], List, Bool, true, false, Option, Some, None, if◌then◌else◌, subst}
+use Rattle.std.proofs.Common.{◌≡◌, ℕ, inl, inr, ◌++◌, ◌∷◌, [], List, Bool, true, false, Option, Some, None, if◌then◌else◌, subst}
 use Rattle.mo_types.specs.Scan.{first_some, option_or_else}
 use Rattle.mo_types.specs.declared.object.Symbol.{Symbol}
 use Rattle.mo_types.specs.declared.object.SymbolKind.{SymbolKind}
 use Rattle.mo_types.specs.declared.object.SymbolKind.TheVariants.{Undefined, Common, Defined, Absolute, Passed}
-use Rattle.link_engine.specs.Entry.{address_of, entry_value}
-use Rattle.link_engine.specs.Object.{ArePlaced, IsPlaced, IsWithin}
+use Rattle.link_engine.specs.declared.read.InputObject.{InputObject}
+use Rattle.link_engine.specs.Entry.{address_of, entry_in, entry_value}
+use Rattle.link_engine.specs.Object.{AreLinkable, ArePlaced, IsPlaced, IsWithin, LiesInOne}
 
 pub none_placed : (start size : ℕ) → ArePlaced start size []
 none_placed start size = tt
@@ -30,11 +31,25 @@ either_within : (start size : ℕ) (first rest : Option ℕ) (value : ℕ) → (
 either_within start size None rest value here there e = there value e
 either_within start size (Some v) rest value here there e = here value e
 
-pub found_within : (start size : ℕ) (symbols : List Symbol) (value : ℕ) → ArePlaced start size symbols → first_some entry_value symbols ≡ Some value → IsWithin start size value
-found_within start size [] value all e = cc
-found_within start size (symbol ∷ symbols) value all e =
+value_within : (start size : ℕ) (symbols : List Symbol) (value : ℕ) → ArePlaced start size symbols → first_some entry_value symbols ≡ Some value → IsWithin start size value
+value_within start size [] value all e = cc
+value_within start size (symbol ∷ symbols) value all e =
     either_within start size (entry_value symbol) (first_some entry_value symbols) value
     (λ v here. chosen_within start size _ symbol.kind v all.0 here)
-    (λ v there. found_within start size symbols v all.1 there) e
+    (λ v there. value_within start size symbols v all.1 there) e
+
+either_lies : (input : InputObject) (objects : List InputObject) (first rest : Option ℕ) (value : ℕ)
+    → ((v : ℕ) → first ≡ Some v → IsWithin input.object.text.address input.object.text.size v) → ((v : ℕ) → rest ≡ Some v → LiesInOne objects v)
+    → option_or_else first rest ≡ Some value → LiesInOne (input ∷ objects) value
+either_lies input objects None rest value here there e = inr (there value e)
+either_lies input objects (Some v) rest value here there e = inl (here value e)
+
+pub found_within : (objects : List InputObject) (value : ℕ) → AreLinkable objects → first_some entry_in objects ≡ Some value → LiesInOne objects value
+unfolding entry_in
+found_within [] value all e = cc
+found_within (input ∷ objects) value all e =
+    either_lies input objects (first_some entry_value input.object.symbols) (first_some entry_in objects) value
+    (λ v here. value_within input.object.text.address input.object.text.size input.object.symbols v all.0.placed here)
+    (λ v there. found_within objects v all.1 there) e
 
 pub ruleset entries = (found_within)

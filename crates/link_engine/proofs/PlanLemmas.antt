@@ -1,5 +1,5 @@
 -- The steps before writing, by the answers of the files.
-use Rattle.std.proofs.Common.{◌≡◌, ◌≢◌, ℕ, ◌++◌, List, [], Option, Some, None, Result, Ok, Err, IsErrAnd, refl, sym, ap, ◌∙◌, subst, arith}
+use Rattle.std.proofs.Common.{◌≡◌, ◌≢◌, ℕ, inl, inr, List, [], ◌∷◌, Option, Some, None, Result, Ok, Err, IsErrAnd, refl, sym, ap, ◌∙◌, subst}
 use Rattle.std.proofs.lemmas.List.{append-nil}
 use Rattle.std.proofs.lemmas.Result.{err_from_is_err_and}
 use Rattle.mo_cmd.specs.declared.command.CommandInput.{CommandInput}
@@ -7,18 +7,22 @@ use Rattle.mo_outside.specs.Answers.{Answer}
 use Rattle.mo_outside.specs.Files.{FileMap}
 use Rattle.mo_outside.specs.Tells.{Tells}
 use Rattle.mo_types.specs.Gives.{◌>>=◌}
-use Rattle.mo_types.specs.declared.answer.Status.{Status}
-use Rattle.mo_types.specs.declared.answer.Status.TheVariants.{Done, Usage, ReadFault, Refused, WriteFault, OutOfMemory}
 use Rattle.link_engine.specs.declared.plan.Plan.{Plan}
+use Rattle.link_engine.specs.declared.read.InputObject.{InputObject}
+use Rattle.link_engine.specs.declared.stop.StepFault.{StepFault}
+use Rattle.link_engine.specs.declared.stop.StepFault.TheVariants as fault
+use Rattle.link_engine.specs.declared.stop.StepFault.TheVariants.{OutOfMemory}
 use Rattle.link_engine.specs.declared.words.Command.{Command}
 use Rattle.link_engine.specs.Asks.{Answered, Asks, FilesSeen, asked_for, inputs_of}
 use Rattle.link_engine.specs.Command.{command_of}
-use Rattle.link_engine.specs.Input.{contents_of}
+use Rattle.link_engine.specs.Input.{contents_of, files_of}
+use Rattle.link_engine.specs.Object.{AreLinkable, IsLinkable, IsWithin, LiesInOne}
 use Rattle.link_engine.specs.Steps.{IsWordsStop}
-use Rattle.link_engine.specs.Stop as stop
-use Rattle.link_engine.specs.Stop.{Answers, Stop}
+use Rattle.link_engine.specs.declared.stop.Stop.TheVariants as stop
+use Rattle.link_engine.specs.declared.stop.Stop.{Stop}
+use Rattle.link_engine.specs.Stop.{Answers}
 use Rattle.link_engine.specs.Verdict.{plan_for, verdict}
-use Rattle.link_engine.proofs.StopLemmas.{first_ends, next_answers, passed_on}
+use Rattle.link_engine.proofs.StopLemmas.{first_ends, first_passed_on, next_answers, passed_on}
 
 -- what holds of the answers leads to something else that does
 pub answered_then : {S : Type 0} (fetches : S → List ℕ → Answer → S → Type 0) (held : Option FileMap) (inputs : List CommandInput) (ends more_ends : Type 0) (meets then : List Answer → Type 0) (old new : FilesSeen S)
@@ -34,7 +38,7 @@ answered_then fetches held inputs ends more_ends meets then old new given fewer 
 }
 
 -- the words are at fault, or memory for them ran out: nothing is asked for
-pub words_decide : {S : Type 0} (fetches : S → List ℕ → Answer → S → Type 0) (held : Option FileMap) (words : List (List ℕ)) (ended : Status) (returned : Result Plan Status) (told : Option (List (List ℕ))) (self : S)
+pub words_decide : {S : Type 0} (fetches : S → List ℕ → Answer → S → Type 0) (held : Option FileMap) (words : List (List ℕ)) (ended : StepFault) (returned : Result Plan StepFault) (told : Option (List (List ℕ))) (self : S)
     → IsErrAnd returned (λ passed. passed ≡ ended) → Answers {A = Command} (Err ended) (command_of words) → IsWordsStop ended
     → Answered fetches held (inputs_of (command_of words)) (returned ≢ Err OutOfMemory) (λ answers. Answers returned (verdict words answers)) (record { told = told; self = self }) (record { told = told; self = self })
 unfolding verdict
@@ -46,7 +50,7 @@ words_decide fetches held words ended returned told self is answers kind =
       logged = nothing told;
       all = λ ends. none ended answers kind (λ same. ends (passed.1 ∙ ap Err (passed.2 ∙ same)));
       some = (0, refl);
-      holds = passed_on ended returned (verdict words []) is (first_ends ended (command_of words) (λ command. contents_of command.inputs [] >>= λ contents. plan_for command contents) answers);
+      holds = passed_on ended returned (verdict words []) is (first_ends ended (command_of words) (λ command. contents_of command.inputs [] >>= λ contents. plan_for command (files_of command.inputs contents)) answers);
     }
   where
     nothing : (x : Option (List (List ℕ))) → Tells (Asks []) x x
@@ -56,12 +60,10 @@ words_decide fetches held words ended returned told self is answers kind =
     no_inputs : (given : Result Command Stop) (why : Stop) → given ≡ Err why → [] ≡ asked_for (inputs_of given) []
     no_inputs given why same = sym (ap (λ (r : Result Command Stop). asked_for (inputs_of r) []) same)
 
-    none : (status : Status) → Answers {A = Command} (Err status) (command_of words) → IsWordsStop status → status ≢ OutOfMemory → [] ≡ asked_for (inputs_of (command_of words)) []
-    none Done told kind other = absurd kind
-    none (Usage word rule) told kind other = no_inputs (command_of words) (stop.Usage word rule) told
-    none (ReadFault path) told kind other = absurd kind
-    none (Refused refusal) told kind other = absurd kind
-    none WriteFault told kind other = absurd kind
+    none : (end : StepFault) → Answers {A = Command} (Err end) (command_of words) → IsWordsStop end → end ≢ OutOfMemory → [] ≡ asked_for (inputs_of (command_of words)) []
+    none (fault.Stop (stop.Usage word rule)) told kind other = no_inputs (command_of words) (stop.Usage word rule) told
+    none (fault.Stop (stop.ReadFault path)) told kind other = absurd kind
+    none (fault.Stop (stop.Refused refusal)) told kind other = absurd kind
     none OutOfMemory told kind other = absurd (other refl)
 
 -- the inputs of words that are a command
@@ -70,7 +72,7 @@ by_words : {S : Type 0} (fetches : S → List ℕ → Answer → S → Type 0) (
 by_words fetches held words command ends meets old new reads given =
     subst (λ (r : Result Command Stop). Answered fetches held (inputs_of r) ends meets old new) (sym reads) given
 
-by_sent : {S : Type 0} (fetches : S → List ℕ → Answer → S → Type 0) (held : Option FileMap) (command : Command) (sent : List CommandInput) (fetched : Result (List (List ℕ)) Status) (old new : FilesSeen S)
+by_sent : {S : Type 0} (fetches : S → List ℕ → Answer → S → Type 0) (held : Option FileMap) (command : Command) (sent : List CommandInput) (fetched : Result (List (List ℕ)) StepFault) (old new : FilesSeen S)
     → sent ≡ command.inputs → Answered fetches held sent (fetched ≢ Err OutOfMemory) (λ answers. Answers fetched (contents_of sent answers)) old new
     → Answered fetches held command.inputs (fetched ≢ Err OutOfMemory) (λ answers. Answers fetched (contents_of command.inputs answers)) old new
 by_sent fetches held command sent fetched old new same given =
@@ -80,7 +82,7 @@ same_fault : {A E : Type 0} {x y : E} → ◌≡◌ {A = Result A E} (Err x) (Er
 same_fault e = cc
 
 -- a file isn't there, or wasn't read
-pub files_decide : {S : Type 0} (fetches : S → List ℕ → Answer → S → Type 0) (held : Option FileMap) (words : List (List ℕ)) (command : Command) (sent : List CommandInput) (ended : Status) (fetched : Result (List (List ℕ)) Status) (returned : Result Plan Status) (old new : FilesSeen S)
+pub files_decide : {S : Type 0} (fetches : S → List ℕ → Answer → S → Type 0) (held : Option FileMap) (words : List (List ℕ)) (command : Command) (sent : List CommandInput) (ended : StepFault) (fetched : Result (List (List ℕ)) StepFault) (returned : Result Plan StepFault) (old new : FilesSeen S)
     → IsErrAnd returned (λ passed. passed ≡ ended) → command_of words ≡ Ok command → fetched ≡ Err ended
     → sent ≡ command.inputs → Answered fetches held sent (fetched ≢ Err OutOfMemory) (λ answers. Answers fetched (contents_of sent answers)) old new
     → Answered fetches held (inputs_of (command_of words)) (returned ≢ Err OutOfMemory) (λ answers. Answers returned (verdict words answers)) old new
@@ -91,12 +93,12 @@ files_decide fetches held words command sent ended fetched returned old new is r
     (answered_then fetches held command.inputs (fetched ≢ Err OutOfMemory) (returned ≢ Err OutOfMemory) (λ answers. Answers fetched (contents_of command.inputs answers)) _ old new (by_sent fetches held command sent fetched old new same given)
     (λ ends same. let last : ended ≡ OutOfMemory = same_fault (sym failed ∙ same) in ends (passed.1 ∙ ap Err (passed.2 ∙ last)))
     (λ answers told. passed_on ended returned (verdict words answers) is
-    (next_answers command (Err ended) (command_of words) (λ command. contents_of command.inputs answers >>= λ contents. plan_for command contents) reads
-    (first_ends ended (contents_of command.inputs answers) (λ contents. plan_for command contents) (subst (λ (r : Result (List (List ℕ)) Status). Answers r (contents_of command.inputs answers)) failed told)))))
+    (next_answers command (Err ended) (command_of words) (λ command. contents_of command.inputs answers >>= λ contents. plan_for command (files_of command.inputs contents)) reads
+    (first_ends ended (contents_of command.inputs answers) (λ contents. plan_for command (files_of command.inputs contents)) (subst (λ (r : Result (List (List ℕ)) StepFault). Answers r (contents_of command.inputs answers)) failed told)))))
 
 -- all files are there
-pub contents_decide : {S : Type 0} (fetches : S → List ℕ → Answer → S → Type 0) (held : Option FileMap) (words : List (List ℕ)) (command : Command) (sent : List CommandInput) (contents : List (List ℕ)) (fetched : Result (List (List ℕ)) Status) (returned : Result Plan Status) (old new : FilesSeen S)
-    → command_of words ≡ Ok command → fetched ≡ Ok contents → Answers returned (plan_for command contents)
+pub contents_decide : {S : Type 0} (fetches : S → List ℕ → Answer → S → Type 0) (held : Option FileMap) (words : List (List ℕ)) (command : Command) (sent : List CommandInput) (contents : List (List ℕ)) (fetched : Result (List (List ℕ)) StepFault) (returned : Result Plan StepFault) (old new : FilesSeen S)
+    → command_of words ≡ Ok command → fetched ≡ Ok contents → Answers returned (plan_for command (files_of command.inputs contents))
     → sent ≡ command.inputs → Answered fetches held sent (fetched ≢ Err OutOfMemory) (λ answers. Answers fetched (contents_of sent answers)) old new
     → Answered fetches held (inputs_of (command_of words)) (returned ≢ Err OutOfMemory) (λ answers. Answers returned (verdict words answers)) old new
 unfolding verdict
@@ -104,10 +106,25 @@ contents_decide fetches held words command sent contents fetched returned old ne
     by_words fetches held words command (returned ≢ Err OutOfMemory) (λ answers. Answers returned (verdict words answers)) old new reads
     (answered_then fetches held command.inputs (fetched ≢ Err OutOfMemory) (returned ≢ Err OutOfMemory) (λ answers. Answers fetched (contents_of command.inputs answers)) _ old new (by_sent fetches held command sent fetched old new same given)
     (λ ends same. absurd (no_error (sym is ∙ same)))
-    (λ answers told. next_answers command returned (command_of words) (λ command. contents_of command.inputs answers >>= λ contents. plan_for command contents) reads
-    (next_answers contents returned (contents_of command.inputs answers) (λ contents. plan_for command contents) (subst (λ (r : Result (List (List ℕ)) Status). Answers r (contents_of command.inputs answers)) is told) plans)))
+    (λ answers told. next_answers command returned (command_of words) (λ command. contents_of command.inputs answers >>= λ contents. plan_for command (files_of command.inputs contents)) reads
+    (next_answers contents returned (contents_of command.inputs answers) (λ contents. plan_for command (files_of command.inputs contents)) (subst (λ (r : Result (List (List ℕ)) StepFault). Answers r (contents_of command.inputs answers)) is told) plans)))
   where
     no_error : {A E : Type 0} {x : A} {e : E} → ◌≡◌ {A = Result A E} (Ok x) (Err e) → ⊥
     no_error e = absurd cc
 
+-- the one object of a list, with the address of its entry
+pub entry_lies : (input : InputObject) (objects : List InputObject) (address : ℕ) → objects ≡ input ∷ [] → LiesInOne objects address → IsWithin input.object.text.address input.object.text.size address
+entry_lies input objects address same lies = only (subst (λ (list : List InputObject). LiesInOne list address) same lies)
+  where
+    only : LiesInOne (input ∷ []) address → IsWithin input.object.text.address input.object.text.size address
+    only (inl here) = here
+    only (inr none) = absurd none
+
+pub one_linkable : (input : InputObject) (objects : List InputObject) → objects ≡ input ∷ [] → AreLinkable objects → IsLinkable input.object
+one_linkable input objects same linkable =
+    let all : AreLinkable (input ∷ []) = subst AreLinkable same linkable in
+    all.0
+
 pub ruleset plans = (answered_then)
+
+pub ruleset inputs = (first_passed_on, next_answers, entry_lies, one_linkable)

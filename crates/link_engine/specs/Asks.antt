@@ -7,7 +7,7 @@ use Rattle.mo_outside.specs.Files.{FileMap}
 use Rattle.mo_outside.specs.Tells.{Tells}
 use Rattle.link_engine.specs.declared.words.Command.{Command}
 use Rattle.link_engine.specs.Command.{command_of}
-use Rattle.link_engine.specs.Stop.{Stop}
+use Rattle.link_engine.specs.declared.stop.Stop.{Stop}
 
 abbrev pub inputs_of : Result Command Stop → List CommandInput
 inputs_of (Ok command) = command.inputs

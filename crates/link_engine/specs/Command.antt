@@ -1,13 +1,13 @@
 -- What the link takes of the command that its words are.
-use Rattle.std.specs.Prelude.{ℕ, List, [], ◌∷◌, Result, Ok, Err}
+use Rattle.std.specs.Prelude.{ℕ, List, Result, Ok, Err}
 use Rattle.mo_types.specs.declared.cause.UsageRule.TheVariants.{NoInput}
 use Rattle.mo_cmd.specs.Command as whole
 use Rattle.mo_cmd.specs.declared.command.Command.{Command as WholeCommand}
-use Rattle.mo_cmd.specs.declared.command.CommandInput.{CommandInput}
 use Rattle.mo_cmd.specs.declared.command.UsageFault.{UsageFault}
 use Rattle.mo_cmd.specs.declared.command.UsageFault.TheVariants as fault
 use Rattle.link_engine.specs.declared.words.Command.{Command}
-use Rattle.link_engine.specs.Stop.{Stop, Usage}
+use Rattle.link_engine.specs.declared.stop.Stop.{Stop}
+use Rattle.link_engine.specs.declared.stop.Stop.TheVariants.{Usage}
 
 abbrev pub taken : WholeCommand → Command
 taken command = record { inputs = command.inputs; output = command.output }
@@ -20,12 +20,3 @@ told (Err fault.OutOfMemory) = Err (Usage 0 NoInput)
 
 unfoldable pub command_of : List (List ℕ) → Result Command Stop
 command_of words = told (whole.command_of words)
-
--- WHAT THE LINK HAS YET. Words that are let through have one input: its path, and its bytes among those of all inputs.
-abbrev pub first_path : List CommandInput → List ℕ
-first_path [] = []
-first_path (input ∷ _) = input.value
-
-abbrev pub first_bytes : List (List ℕ) → List ℕ
-first_bytes [] = []
-first_bytes (bytes ∷ _) = bytes

@@ -7,7 +7,9 @@ use Rattle.mo_types.specs.declared.answer.Refusal.TheVariants.{Undefined}
 use Rattle.mo_types.specs.declared.object.Symbol.{Symbol}
 use Rattle.mo_types.specs.declared.object.SymbolKind.{SymbolKind}
 use Rattle.mo_types.specs.declared.object.SymbolKind.TheVariants.{Defined}
-use Rattle.link_engine.specs.Stop.{Stop, Refused}
+use Rattle.link_engine.specs.declared.read.InputObject.{InputObject}
+use Rattle.link_engine.specs.declared.stop.Stop.{Stop}
+use Rattle.link_engine.specs.declared.stop.Stop.TheVariants.{Refused}
 
 -- the name of the entry
 abbrev pub entry_name : List ℕ
@@ -25,9 +27,13 @@ abbrev pub or_undefined : Option ℕ → Result ℕ Stop
 or_undefined (Some value) = Ok value
 or_undefined None = Err (Refused (Undefined entry_name []))
 
--- the entry's address in the object
-unfoldable pub entry_of : List Symbol → Result ℕ Stop
-entry_of symbols = or_undefined (first_some entry_value symbols)
+-- the address of an object's external definition of the entry
+unfoldable pub entry_in : InputObject → Option ℕ
+entry_in input = first_some entry_value input.object.symbols
+
+-- the entry's address in the first object that has one
+unfoldable pub entry_of : List InputObject → Result ℕ Stop
+entry_of objects = or_undefined (first_some entry_in objects)
 
 -- a symbol that is defined in a section
 abbrev pub IsDefined : SymbolKind → Type 0
@@ -40,6 +46,10 @@ pub record IsEntry (symbol : Symbol) : Type 0 where
   pub named : symbol.name ≡ entry_name
   pub defined : IsDefined symbol.kind
 
--- no symbol is one
-abbrev pub HasNoEntry : List Symbol → Type 0
-HasNoEntry symbols = AllByRecursion (λ symbol. IsEntry symbol → ⊥) symbols
+-- no symbol of an object is one
+abbrev pub IsWithoutEntry : InputObject → Type 0
+IsWithoutEntry input = AllByRecursion (λ symbol. IsEntry symbol → ⊥) input.object.symbols
+
+-- no symbol of any object is one
+abbrev pub HasNoEntry : List InputObject → Type 0
+HasNoEntry objects = AllByRecursion IsWithoutEntry objects

@@ -6,7 +6,8 @@ use Rattle.mo_outside.specs.Answers as answer
 use Rattle.mo_outside.specs.Files.{FileMap, fetched}
 use Rattle.mo_types.specs.Gives.{◌>>=◌}
 use Rattle.mo_types.specs.declared.answer.Refusal.TheVariants.{Missing}
-use Rattle.link_engine.specs.Stop.{Stop, ReadFault, Refused}
+use Rattle.link_engine.specs.declared.stop.Stop.{Stop}
+use Rattle.link_engine.specs.declared.stop.Stop.TheVariants.{ReadFault, Refused}
 
 -- The bytes of a file, or why there are none. An answer that lacked memory counts as that of a file that wasn't read:
 -- that row only makes the table whole, since want of memory is left to the code.
@@ -22,6 +23,12 @@ contents_of [] answers = Ok []
 contents_of (input ∷ inputs) [] = Err (ReadFault input.value)
 contents_of (input ∷ inputs) (answer ∷ answers) =
     content_of input.value answer >>= λ bytes. contents_of inputs answers >>= λ more. Ok (bytes ∷ more)
+
+-- the inputs that are there, each with its path and its bytes
+abbrev pub files_of : List CommandInput → List (List ℕ) → List (List ℕ × List ℕ)
+files_of [] contents = []
+files_of (input ∷ inputs) [] = []
+files_of (input ∷ inputs) (bytes ∷ contents) = (input.value, bytes) ∷ files_of inputs contents
 
 -- what files that can be read answer of a path
 abbrev pub found : Option (List ℕ) → Answer

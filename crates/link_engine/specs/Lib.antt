@@ -10,6 +10,7 @@ pub mod Input
 pub mod Joined
 pub mod Names
 pub mod Object
+pub mod One
 pub mod Patching
 pub mod Reading
 pub mod Settles

@@ -1,5 +1,5 @@
 -- What holds of an object that is linked.
-use Rattle.std.specs.Prelude.{ℕ, ◌+◌, ◌^◌, ◌≡◌, ◌≤◌, ◌<◌, true, List, length}
+use Rattle.std.specs.Prelude.{ℕ, ◌+◌, ◌^◌, ◌≡◌, ◌≤◌, ◌<◌, ◌⊎◌, true, List, [], ◌∷◌, length}
 use Rattle.std.specs.List.{AllByRecursion, list_all}
 use Rattle.mo_types.specs.declared.object.Section.{Section}
 use Rattle.mo_types.specs.declared.object.Symbol.{Symbol}
@@ -7,6 +7,7 @@ use Rattle.mo_types.specs.declared.object.SymbolKind.{SymbolKind}
 use Rattle.mo_types.specs.declared.object.SymbolKind.TheVariants.{Defined}
 use Rattle.mo_obj.specs.Read.{AreBytes}
 use Rattle.link_engine.specs.declared.form.TextObject.{TextObject}
+use Rattle.link_engine.specs.declared.read.InputObject.{InputObject}
 use Rattle.link_engine.specs.Branches.{is_branch}
 use Rattle.link_engine.specs.Patching.{AreApart}
 
@@ -37,6 +38,15 @@ pub record IsLinkable (object : TextObject) : Type 0 where
   pub placed : ArePlaced object.text.address object.text.size object.symbols
   pub branches : list_all (is_branch object.text object.symbols) object.text.relocs ≡ true
   pub apart : AreApart object.text.relocs
+
+-- each object does so
+abbrev pub AreLinkable : List InputObject → Type 0
+AreLinkable objects = AllByRecursion (λ input. IsLinkable input.object) objects
+
+-- an address lies in the section of one of the objects
+abbrev pub LiesInOne : List InputObject → ℕ → Type 0
+LiesInOne [] address = ⊥
+LiesInOne (input ∷ objects) address = IsWithin input.object.text.address input.object.text.size address ⊎ LiesInOne objects address
 
 -- an object that is linkable, whose code is bytes
 pub record IsLinked (object : TextObject) : Type 0 where

@@ -1,5 +1,5 @@
--- What is read of the input, or why it is refused.
-use Rattle.std.specs.Prelude.{ℕ, ◌^◌, nat_le, List, length, Result, Ok, Err, if◌then◌else◌}
+-- What is read of the inputs, or why one is refused.
+use Rattle.std.specs.Prelude.{ℕ, ◌^◌, nat_le, List, [], ◌∷◌, length, Result, Ok, Err, if◌then◌else◌}
 use Rattle.mo_types.specs.Gives.{◌>>=◌}
 use Rattle.mo_types.specs.Kind.{kind_of}
 use Rattle.mo_types.specs.declared.answer.Refusal.TheVariants as refusal
@@ -12,9 +12,10 @@ use Rattle.mo_types.specs.declared.object_fault.ObjFault.{ObjFault}
 use Rattle.mo_types.specs.declared.object_fault.ObjFault.TheVariants.{Malformed, Unsupported, Limit, OutOfMemory}
 use Rattle.mo_obj.specs.Object.{object_of}
 use Rattle.link_engine.specs.declared.form.TextObject.{TextObject}
+use Rattle.link_engine.specs.declared.read.InputObject.{InputObject}
 use Rattle.link_engine.specs.Form.{later, linked_of}
-use Rattle.link_engine.specs.Stop as stop
-use Rattle.link_engine.specs.Stop.{Stop}
+use Rattle.link_engine.specs.declared.stop.Stop.TheVariants as stop
+use Rattle.link_engine.specs.declared.stop.Stop.{Stop}
 
 -- libraries come with a later version
 abbrev pub by_kind : List ℕ → Kind → Result Object ObjFault
@@ -40,9 +41,15 @@ refused path (Unsupported feature) = stop.Refused (refusal.Unsupported path feat
 refused path (Limit which) = stop.Refused (refusal.Limit which)
 refused path OutOfMemory = stop.Refused (refusal.Malformed path 0 rule.NotAnInput)
 
-abbrev pub or_refused : List ℕ → Result TextObject ObjFault → Result TextObject Stop
-or_refused path (Ok object) = Ok object
+abbrev pub or_refused : List ℕ → Result TextObject ObjFault → Result InputObject Stop
+or_refused path (Ok object) = Ok (record { label = path; object = object })
 or_refused path (Err fault) = Err (refused path fault)
 
-unfoldable pub read : List ℕ → List ℕ → Result TextObject Stop
-read path bytes = or_refused path (text_object bytes)
+-- the object of a file, of its path and its bytes
+unfoldable pub read_file : List ℕ × List ℕ → Result InputObject Stop
+read_file file = or_refused file.0 (text_object file.1)
+
+-- the objects of all files, in their order, or the first file's refusal that has one
+abbrev pub read : List (List ℕ × List ℕ) → Result (List InputObject) Stop
+read [] = Ok []
+read (file ∷ files) = read_file file >>= λ object. read files >>= λ more. Ok (object ∷ more)

@@ -7,7 +7,8 @@ use Rattle.mo_types.specs.Message.{line_of}
 use Rattle.mo_types.specs.declared.answer.Status.{Status}
 use Rattle.mo_types.specs.declared.answer.Status.TheVariants.{Done, WriteFault, OutOfMemory}
 use Rattle.link_engine.specs.declared.plan.Plan.{Plan}
-use Rattle.link_engine.specs.Stop.{Stop, status_of}
+use Rattle.link_engine.specs.declared.stop.Stop.{Stop}
+use Rattle.link_engine.specs.Stop.{status_of}
 use Rattle.link_engine.specs.Writing.{AreCallsUpTo, AreFilesCalls, Hands, WritesAll, WritesUpTo}
 
 -- The answer is given only where the cause stands. Where it stands the answer is given, unless memory ran out.

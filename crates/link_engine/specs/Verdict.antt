@@ -3,26 +3,28 @@ use Rattle.std.specs.Prelude.{ℕ, List, [], ◌∷◌, Result, Ok}
 use Rattle.mo_outside.specs.Answers.{Answer}
 use Rattle.mo_outside.specs.Files.{FileMap}
 use Rattle.mo_types.specs.Gives.{◌>>=◌}
-use Rattle.link_engine.specs.declared.form.TextObject.{TextObject}
 use Rattle.link_engine.specs.declared.plan.Plan.{Plan}
+use Rattle.link_engine.specs.declared.read.InputObject.{InputObject}
 use Rattle.link_engine.specs.declared.words.Command.{Command}
 use Rattle.link_engine.specs.Asks.{inputs_of}
-use Rattle.link_engine.specs.Command.{command_of, first_bytes, first_path}
+use Rattle.link_engine.specs.Command.{command_of}
 use Rattle.link_engine.specs.Entry.{entry_of}
 use Rattle.link_engine.specs.Image.{image_of}
-use Rattle.link_engine.specs.Input.{answers_from, contents_of}
+use Rattle.link_engine.specs.Input.{answers_from, contents_of, files_of}
+use Rattle.link_engine.specs.One.{only_one}
 use Rattle.link_engine.specs.Reading.{read}
-use Rattle.link_engine.specs.Stop.{Stop}
+use Rattle.link_engine.specs.declared.stop.Stop.{Stop}
 
 -- what is to be written for a command and its object, whose entry has an address: the image, and no line
-abbrev pub plan_of : Command → TextObject → ℕ → Plan
-plan_of command object entry = record { files = (command.output, image_of object entry) ∷ []; line = [] }
+abbrev pub plan_of : Command → InputObject → ℕ → Plan
+plan_of command input entry = record { files = (command.output, image_of input.object entry) ∷ []; line = [] }
 
--- what is to be written for a command and the bytes of its inputs, or the first refusal in the order of the steps
-unfoldable pub plan_for : Command → List (List ℕ) → Result Plan Stop
-plan_for command contents = do
-  object ← read (first_path command.inputs) (first_bytes contents)
-  entry ← entry_of object.symbols
+-- what is to be written for a command and its files, or the first refusal in the order of the steps
+unfoldable pub plan_for : Command → List (List ℕ × List ℕ) → Result Plan Stop
+plan_for command files = do
+  objects ← read files
+  object ← only_one objects
+  entry ← entry_of objects
   Ok (plan_of command object entry)
 
 -- what is to be written for the words and the answers of the files, or the first stop in the order of the steps: all
@@ -31,7 +33,7 @@ unfoldable pub verdict : List (List ℕ) → List Answer → Result Plan Stop
 verdict words answers = do
   command ← command_of words
   contents ← contents_of command.inputs answers
-  plan_for command contents
+  plan_for command (files_of command.inputs contents)
 
 -- the same for files that can all be read
 abbrev pub verdict_over : List (List ℕ) → FileMap → Result Plan Stop

@@ -1,16 +1,15 @@
 //! Where the program begins.
 
-ghost use Rattle.std.specs.Prelude.{◌≡◌, IfErr, IfOk};
+ghost use Rattle.std.specs.Prelude.{◌≡◌, ℕ, None, IfErr, IfOk, Err};
 ghost use Rattle.mo_types.specs.Scan.{first_some};
 ghost use Rattle.link_engine.specs.Entry as entry;
-ghost use Rattle.link_engine.specs.Object.{IsLinkable};
+ghost use Rattle.link_engine.specs.Object.{AreLinkable, LiesInOne};
 ghost use Rattle.link_engine.specs.Steps.{IsRefusal};
 ghost use Rattle.link_engine.specs.Stop.{Answers};
-ghost use Rattle.link_engine.specs.Object.{IsWithin};
 
-use crate::form::TextObject;
-use mo_types::{Bytes, Refusal, Status, Symbol, SymbolKind};
-use std::alloc::Global;
+use crate::read::InputObject;
+use crate::stop::{StepFault, refused};
+use mo_types::{Bytes, Refusal, Symbol, SymbolKind};
 
 const ENTRY: &[u8] = b"_main";
 
@@ -27,7 +26,7 @@ fn entry_value(symbol: &Symbol) -> Option<u64>
 }
 
 #[tactic(auto, using(mo_types::proofs::Scanning::scans))]
-fn find_entry(symbols: &[Symbol]) -> Option<u64>
+fn find_value(symbols: &[Symbol]) -> Option<u64>
     ensures { result ≡ first_some entry.entry_value symbols.now }
 {
     for symbol in symbols {
@@ -38,19 +37,46 @@ fn find_entry(symbols: &[Symbol]) -> Option<u64>
     None
 }
 
-/// The address in the object at which the program begins: that of the external symbol `_main`.
-#[tactic(auto, using(crate::proofs::PlacedLemmas::entries), unfolding(crate::specs::Entry::entry_of))]
-pub fn entry_of(alloc: Global, object: &TextObject) -> Result<u64, Status>
-    requires { IsLinkable object.now }
-    ensures exact { Answers result (entry.entry_of object.now.symbols) }
-    ensures kind { IfErr result IsRefusal }
-    ensures within { IfOk result (IsWithin object.now.text.address object.now.text.size) }
+#[tactic(auto, unfolding(crate::specs::Entry::entry_in))]
+fn entry_in(input: &InputObject) -> Option<u64>
+    ensures { result ≡ entry.entry_in input.now }
 {
-    match find_entry(object.symbols.as_slice()) {
+    find_value(input.object.symbols.as_slice())
+}
+
+#[tactic(auto, using(mo_types::proofs::Scanning::scans))]
+fn find_entry(objects: &[InputObject]) -> Option<u64>
+    ensures { result ≡ first_some entry.entry_in objects.now }
+{
+    for input in objects {
+        if let Some(value) = entry_in(input) {
+            return Some(value);
+        }
+    }
+    None
+}
+
+/// The fault of inputs that don't define the entry.
+pub fn no_entry() -> StepFault
+    ensures undefined { Answers {A = ℕ} (Err result) (entry.or_undefined None) }
+    ensures kind { IsRefusal result }
+{
+    refused(Refusal::Undefined {
+        name: Bytes::from_static(ENTRY),
+        file: Bytes::new(),
+    })
+}
+
+/// The address at which the program begins, in its object: that of the first external symbol `_main`.
+#[tactic(auto, using(crate::proofs::PlacedLemmas::entries), unfolding(crate::specs::Entry::entry_of))]
+pub fn entry_of(objects: &[InputObject]) -> Result<u64, StepFault>
+    requires { AreLinkable objects.now }
+    ensures exact { Answers result (entry.entry_of objects.now) }
+    ensures kind { IfErr result IsRefusal }
+    ensures within { IfOk result (LiesInOne objects.now) }
+{
+    match find_entry(objects) {
         Some(value) => Ok(value),
-        None => Err(Status::Refused(Refusal::Undefined {
-            name: Bytes::from_slice(alloc, ENTRY)?,
-            file: Bytes::new(),
-        })),
+        None => Err(no_entry()),
     }
 }

@@ -15,7 +15,7 @@ ghost use Rattle.link_engine.specs.Joined.{IsJoined, LieApart, Parts, joined};
 ghost use Rattle.link_engine.specs.Object.{IsLinkable, IsLinked};
 ghost use Rattle.link_engine.specs.Patching.{ArePatched, IsApart, contents_of};
 ghost use Rattle.link_engine.specs.Reading.{text_object};
-ghost use Rattle.link_engine.specs.Stop.{Refused};
+ghost use Rattle.link_engine.specs.declared.stop.Stop.TheVariants.{Refused};
 ghost use Rattle.link_engine.specs.Verdict.{verdict};
 
 /// In the code of the image of an object that was read, each relocation's instruction is that of the object with

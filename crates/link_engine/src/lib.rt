@@ -12,7 +12,7 @@ ghost use Rattle.link_engine.specs.Asks.{Answered, inputs_of};
 ghost use Rattle.link_engine.specs.Command.{command_of};
 ghost use Rattle.link_engine.specs.Settles.{ExactlyWhere, Settles, Stopped};
 ghost use Rattle.link_engine.specs.Steps.{IsReadWell, IsStop};
-ghost use Rattle.link_engine.specs.Stop as stop;
+ghost use Rattle.link_engine.specs.declared.stop.Stop.TheVariants as stop;
 ghost use Rattle.link_engine.specs.Verdict.{verdict, verdict_over};
 
 mod branches;
@@ -22,10 +22,12 @@ mod form;
 mod image;
 mod laws;
 mod names;
+mod one;
 mod patch;
 mod plan;
 mod read;
 mod run;
+mod stop;
 mod words;
 mod write;
 
@@ -84,9 +86,6 @@ pub fn link<F: Files, O: Out, D: Diag, G: Gate + Sync>(
 {
     match make_plan(alloc, words, files) {
         Ok(plan) => carry_out(out, diag, &plan),
-        Err(status) => ended(diag, b"", status),
+        Err(fault) => ended(diag, b"", fault.into_status()),
     }
 }
-
-#[cfg(test)]
-mod tests;

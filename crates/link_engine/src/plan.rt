@@ -1,26 +1,27 @@
 //! All steps before writing.
 
-ghost use Rattle.std.specs.Prelude.{◌≡◌, ◌≤◌, ◌≢◌, ℕ, List, ◌⊎◌, OnOk, IfErr, Err};
+ghost use Rattle.std.specs.Prelude.{◌≡◌, ◌≤◌, ◌≢◌, ℕ, List, ◌⊎◌, length, OnOk, IfErr, Err};
 ghost use Rattle.mo_outside.specs.Faults.{Rises};
-ghost use Rattle.mo_types.specs.declared.answer.Status.TheVariants.{OutOfMemory, ReadFault, Usage};
 ghost use Rattle.mo_types.specs.declared.cause.UsageRule.{UsageRule};
 ghost use Rattle.link_engine.specs.Asks.{Answered, inputs_of};
-ghost use Rattle.link_engine.specs.Command as words;
 ghost use Rattle.link_engine.specs.Command.{command_of};
-ghost use Rattle.link_engine.specs.Steps.{IsReadWell, IsRefusal, IsStop};
-ghost use Rattle.link_engine.specs.Stop as stop;
-ghost use Rattle.link_engine.specs.Stop.{Answers, status_of};
+ghost use Rattle.link_engine.specs.Input.{files_of};
+ghost use Rattle.link_engine.specs.Steps.{IsReadWell, IsRefusal};
+ghost use Rattle.link_engine.specs.Stop.{Answers, status_for};
 ghost use Rattle.link_engine.specs.Verdict as plans;
 ghost use Rattle.link_engine.specs.Verdict.{verdict};
+ghost use Rattle.link_engine.specs.declared.stop.StepFault.TheVariants as fault;
+ghost use Rattle.link_engine.specs.declared.stop.Stop.TheVariants as stop;
 
 use crate::entry::entry_of;
 use crate::fetch::{ContentList, fetch_all};
 use crate::image::image;
+use crate::one::the_one;
 use crate::read::read;
+use crate::stop::StepFault;
 use crate::words::{Command, read_words};
-use mo_cmd::CommandInputList;
 use mo_outside::{FileList, Files};
-use mo_types::{ArgList, Bytes, Status};
+use mo_types::{ArgList, Bytes};
 use std::alloc::Global;
 
 /// What a link writes.
@@ -32,41 +33,19 @@ pub struct Plan {
     pub line: Bytes,
 }
 
-fn first_path(inputs: CommandInputList) -> Bytes
-    ensures { result ≡ words.first_path inputs }
-{
-    let mut inputs = inputs.into_vec();
-    inputs.truncate(1);
-    match inputs.pop() {
-        Some(input) => input.value,
-        None => Bytes::new(),
-    }
-}
-
-fn first_bytes(contents: ContentList) -> Bytes
-    ensures { result ≡ words.first_bytes contents }
-{
-    let mut contents = contents.into_vec();
-    contents.truncate(1);
-    match contents.pop() {
-        Some(bytes) => bytes,
-        None => Bytes::new(),
-    }
-}
-
 // What is to be written for a command and the bytes of its inputs.
-#[tactic(auto, using(crate::proofs::StopLemmas::answers), unfolding(crate::specs::Verdict::plan_for))]
-fn plan_for(alloc: Global, command: Command, contents: ContentList) -> Result<Plan, Status>
-    ensures exact { Answers result (plans.plan_for command contents) }
+#[tactic(auto, using(crate::proofs::PlanLemmas::inputs), unfolding(crate::specs::Verdict::plan_for))]
+fn plan_for(alloc: Global, command: Command, contents: ContentList) -> Result<Plan, StepFault>
+    requires { length contents ≡ length command.inputs }
+    ensures exact { Answers result (plans.plan_for command (files_of command.inputs contents)) }
     ensures kind { IfErr result IsRefusal }
 {
     let Command { inputs, output } = command;
-    let path = first_path(inputs);
-    let file = first_bytes(contents);
-    let object = read(alloc, &path, &file)?;
-    drop(file);
-    let entry = entry_of(alloc, &object)?;
-    let image = image(alloc, &object, entry)?;
+    let objects = read(alloc, inputs.as_slice(), contents.as_slice())?;
+    drop(contents);
+    let input = the_one(objects.as_slice())?;
+    let entry = entry_of(objects.as_slice())?;
+    let image = image(alloc, &input.object, entry)?;
     let mut files = FileList::new(alloc);
     files.push((output, image))?;
     Ok(Plan {
@@ -77,16 +56,15 @@ fn plan_for(alloc: Global, command: Command, contents: ContentList) -> Result<Pl
 
 /// What is to be written for the words and the files, or why nothing is.
 #[tactic(auto, using(crate::proofs::PlanLemmas::plans))]
-pub fn make_plan<F: Files>(alloc: Global, words: &ArgList, files: &mut F) -> Result<Plan, Status>
+pub fn make_plan<F: Files>(alloc: Global, words: &ArgList, files: &mut F) -> Result<Plan, StepFault>
     ensures holds { F.holds files.new ≡ F.holds files.old }
     ensures faults { F.faults files.old ≤ F.faults files.new }
-    ensures kind { IfErr result IsStop }
-    ensures usage { (word : ℕ) (rule : UsageRule) → result ≡ Err (Usage word rule) → command_of words.now ≡ Err (stop.Usage word rule) }
-    ensures misused { IfErr (command_of words.now) (λ why. (result ≡ Err (status_of why)) ⊎ (result ≡ Err OutOfMemory)) }
-    ensures read_fault { (path : List ℕ) → result ≡ Err (ReadFault path) → Rises (F.faults files.old) (F.faults files.new) }
+    ensures usage { (word : ℕ) (rule : UsageRule) → result ≡ Err (fault.Stop (stop.Usage word rule)) → command_of words.now ≡ Err (stop.Usage word rule) }
+    ensures misused { IfErr (command_of words.now) (λ why. (result ≡ Err (fault.Stop why)) ⊎ (result ≡ Err fault.OutOfMemory)) }
+    ensures read_fault { (path : List ℕ) → result ≡ Err (fault.Stop (stop.ReadFault path)) → Rises (F.faults files.old) (F.faults files.new) }
     ensures still { OnOk result (F.faults files.new ≡ F.faults files.old) }
-    ensures still_err { IfErr result (λ status. IsReadWell status → F.faults files.new ≡ F.faults files.old) }
-    ensures answered { Answered F.answers (F.holds files.old) (inputs_of (command_of words.now)) (result ≢ Err OutOfMemory)
+    ensures still_err { IfErr result (λ why. IsReadWell (status_for why) → F.faults files.new ≡ F.faults files.old) }
+    ensures answered { Answered F.answers (F.holds files.old) (inputs_of (command_of words.now)) (result ≢ Err fault.OutOfMemory)
         (λ answers. Answers result (verdict words.now answers))
         (record { told = F.asked files.old; self = files.old }) (record { told = F.asked files.new; self = files.new }) }
 {

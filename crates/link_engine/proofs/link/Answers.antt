@@ -1,5 +1,4 @@
-use Rattle.std.proofs.Common.{Err, Ok, ap, sym, ◌∙◌}
-use Rattle.link_engine.proofs.LinkLemmas.{settles_ended, settles_plan, settles_told, still_ends}
+use Rattle.link_engine.proofs.LinkLemmas.{read_fault_told, settles_ended, settles_plan, settles_told, still_ends}
 use Rattle.link_engine.proofs.PlanLemmas.{answered_then}
 use Rattle.link_engine.proofs.link.Goals as goal
 
@@ -10,8 +9,8 @@ returns-in-Ok-clause-settles g c =
 
 pub returns-in-Err-clause-settles : goal.returns-in-Err-clause-settles
 returns-in-Err-clause-settles g c =
-    answered_then g.F.Files.answers _ _ _ _ _ _ _ _ c.in-Err.ensures.answered (still_ends c.in-Err.status c.ended.result c.ended.ensures.same)
-    (λ answers gives. settles_ended _ c.in-Err.status c.ended.result _ _ _ _ c.ended.ensures.same gives c.in-Err.ensures.kind)
+    answered_then g.F.Files.answers _ _ _ _ _ _ _ _ c.in-Err.ensures.answered (still_ends c.in-Err.fault _ c.ended.result c.into_status.ensures c.ended.ensures.same)
+    (λ answers gives. settles_ended _ c.in-Err.fault _ c.ended.result _ _ _ _ c.into_status.ensures c.ended.ensures.same gives)
 
 pub returns-in-Ok-clause-told : goal.returns-in-Ok-clause-told
 returns-in-Ok-clause-told g c = settles_told g.F.Files.answers _ _ _ _ _ _ _ _ _ (returns-in-Ok-clause-settles g c)
@@ -20,4 +19,4 @@ pub returns-in-Err-clause-told : goal.returns-in-Err-clause-told
 returns-in-Err-clause-told g c = settles_told g.F.Files.answers _ _ _ _ _ _ _ _ _ (returns-in-Err-clause-settles g c)
 
 pub returns-in-Err-clause-read_fault : goal.returns-in-Err-clause-read_fault
-returns-in-Err-clause-read_fault g c path is = c.in-Err.ensures.read_fault path (ap Err (sym c.ended.ensures.same ∙ is))
+returns-in-Err-clause-read_fault g c path is = c.in-Err.ensures.read_fault path (read_fault_told c.in-Err.fault _ c.ended.result path c.into_status.ensures c.ended.ensures.same is)

@@ -1,6 +1,6 @@
 use Rattle.mo_types.proofs.Scanning.{IsScanning}
-use Rattle.link_engine.specs.Entry.{entry_value}
+use Rattle.link_engine.specs.Entry.{entry_in}
 use Rattle.link_engine.proofs.entry.find_entry.Given as goal
 
-abbrev pub invariant-loop-symbol : goal.invariant-loop-symbol
-invariant-loop-symbol l = IsScanning entry_value l.symbols l.symbol-index
+abbrev pub invariant-loop-input : goal.invariant-loop-input
+invariant-loop-input l = IsScanning entry_in l.objects l.input-index

@@ -1,4 +1,4 @@
-use Rattle.link_engine.proofs.LinkLemmas.{cause_refuses, refusal_cause}
+use Rattle.link_engine.proofs.CauseLemmas.{cause_refuses, refusal_cause}
 use Rattle.link_engine.proofs.laws.every_refusal_has_its_cause.Goals as goal
 
 pub returns : goal.returns

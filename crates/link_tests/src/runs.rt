@@ -1,6 +1,6 @@
 ghost use Rattle.std.specs.Prelude.{◌≢◌, AllPairs, IfOk};
 
-use crate::link;
+use link_engine::link;
 use mo_outside::{CallList, FileList, FreeGate, MemDiag, MemFiles, MemOut};
 use mo_types::{Arg, ArgList, Bytes, Items, OutOfMemory};
 use std::alloc::Global;

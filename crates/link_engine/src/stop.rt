@@ -1,0 +1,79 @@
+//! Why a link ends before anything is written.
+
+ghost use Rattle.std.specs.Prelude.{◌≡◌, Err, Ok, Result};
+ghost use Rattle.mo_types.specs.declared.answer.Refusal.{Refusal};
+ghost use Rattle.link_engine.specs.Stop.{refused_for, status_for};
+
+use mo_types::{Bytes, OutOfMemory, Refusal, Status, UsageRule};
+use std::alloc::{AllocError, AllocFailed};
+
+/// Why the words and the files have no image.
+#[derive(Debug, Drop)]
+pub enum Stop {
+    /// The command line isn't well written: the least word at fault, counted from 1, or 0 for a rule on all words.
+    Usage { word: u64, rule: UsageRule },
+    /// A file couldn't be read.
+    ReadFault { path: Bytes },
+    /// The inputs have no image.
+    Refused(Refusal),
+}
+
+/// Why a step has no value.
+#[derive(Debug, Drop)]
+pub enum StepFault {
+    /// The words and the files have no image.
+    Stop(Stop),
+    /// Memory was asked for and refused.
+    OutOfMemory,
+}
+
+impl StepFault {
+    /// The answer that tells it.
+    pub fn into_status(self) -> Status
+        ensures { result ≡ status_for self }
+    {
+        match self {
+            StepFault::Stop(Stop::Usage { word, rule }) => Status::Usage { word, rule },
+            StepFault::Stop(Stop::ReadFault { path }) => Status::ReadFault { path },
+            StepFault::Stop(Stop::Refused(refusal)) => Status::Refused(refusal),
+            StepFault::OutOfMemory => Status::OutOfMemory,
+        }
+    }
+}
+
+/// The fault of inputs that are refused.
+pub fn refused(refusal: Refusal) -> StepFault
+    ensures { result ≡ refused_for refusal }
+{
+    StepFault::Stop(Stop::Refused(refusal))
+}
+
+impl From<OutOfMemory> for StepFault {
+    ghost use Rattle.link_engine.specs.declared.stop.StepFault.TheVariants as fault;
+
+    ghost from_gives = { λ _ e. e ≡ fault.OutOfMemory };
+
+    fn from(_e: OutOfMemory) -> StepFault {
+        StepFault::OutOfMemory
+    }
+}
+
+impl From<AllocError> for StepFault {
+    ghost use Rattle.link_engine.specs.declared.stop.StepFault.TheVariants as fault;
+
+    ghost from_gives = { λ _ e. e ≡ fault.OutOfMemory };
+
+    fn from(_e: AllocError) -> StepFault {
+        StepFault::OutOfMemory
+    }
+}
+
+impl<T: Drop> From<AllocFailed<T>> for StepFault {
+    ghost use Rattle.link_engine.specs.declared.stop.StepFault.TheVariants as fault;
+
+    ghost from_gives = { λ _ e. e ≡ fault.OutOfMemory };
+
+    fn from(_e: AllocFailed<T>) -> StepFault {
+        StepFault::OutOfMemory
+    }
+}
