@@ -58,7 +58,7 @@ apart_later x [] id name all is = cc
 apart_later x (y ∷ ks) zero name all is = let same : y ≡ name = (let f : Some y ≡ Some name = is in cc) in other_way x name (subst (λ (n : List ℕ). bytes_eq x n ≡ false) same all.0)
 apart_later x (y ∷ ks) (suc id) name all is = apart_later x ks id name all.1 is
 
-stands : (ks : List (List ℕ)) (id : ℕ) (name : List ℕ) → IsDistinct bytes_eq ks → slice_get ks id ≡ Some name → (position_or_len (bytes_eq name) ks ≡ id) × (id < length ks)
+pub stands : (ks : List (List ℕ)) (id : ℕ) (name : List ℕ) → IsDistinct bytes_eq ks → slice_get ks id ≡ Some name → (position_or_len (bytes_eq name) ks ≡ id) × (id < length ks)
 unfolding IsDistinct
 stands [] id name distinct is = cc
 stands (x ∷ ks) zero name distinct is =

@@ -7,7 +7,7 @@ use Rattle.resolve.specs.declared.best.Best.{Best}
 use Rattle.resolve.specs.declared.chosen.Chosen.{Chosen}
 use Rattle.resolve.specs.inner.Best.{chosen_of}
 
-filter_map_more : {X Y : Type 0} (f : X → Option Y) (xs : List X) (x : X) (y : Y) → f x ≡ Some y → filter_map f (xs ++ x ∷ []) ≡ filter_map f xs ++ y ∷ []
+pub filter_map_more : {X Y : Type 0} (f : X → Option Y) (xs : List X) (x : X) (y : Y) → f x ≡ Some y → filter_map f (xs ++ x ∷ []) ≡ filter_map f xs ++ y ∷ []
 filter_map_more f [] x y is = rw is refl
 filter_map_more {Y = Y} f (z ∷ zs) x y is = by (filter_map_more f zs x y is) (f z) refl
   where
@@ -15,7 +15,7 @@ filter_map_more {Y = Y} f (z ∷ zs) x y is = by (filter_map_more f zs x y is) (
     by rest None e = rw e rest
     by rest (Some w) e = rw e (ap (λ (ys : List Y). w ∷ ys) rest)
 
-filter_map_pass : {X Y : Type 0} (f : X → Option Y) (xs : List X) (x : X) → f x ≡ None → filter_map f (xs ++ x ∷ []) ≡ filter_map f xs
+pub filter_map_pass : {X Y : Type 0} (f : X → Option Y) (xs : List X) (x : X) → f x ≡ None → filter_map f (xs ++ x ∷ []) ≡ filter_map f xs
 filter_map_pass f [] x is = rw is refl
 filter_map_pass {Y = Y} f (z ∷ zs) x is = by (filter_map_pass f zs x is) (f z) refl
   where

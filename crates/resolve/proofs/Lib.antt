@@ -19,3 +19,7 @@ pub mod CandidateLemmas
 pub mod WinnerLemmas
 pub mod WeakLemmas
 pub mod KnownLemmas
+pub mod StandsLemmas
+pub mod GoalLemmas
+pub mod WordsLemmas
+pub mod OneLemmas

@@ -1,9 +1,10 @@
 -- What stands for a literal is one of those that are the same, and has the least key of them.
 use Rattle.std.proofs.Common.{◌≡◌, ℕ, suc, ◌+◌, ◌<◌, ◌⊎◌, Bool, true, false, ◌&&◌, ◌==◌, List, [], ◌∷◌, ◌++◌, length, filter, Contains, refl, sym, ap, subst, ◌∙◌, inl, inr, arith, Some, None}
-use Rattle.std.specs.Prelude.{All, Option}
+use Rattle.std.specs.Prelude.{All, Option, map}
 use Rattle.std.specs.List.{AllByRecursion, AllPairs, filter_map}
 use Rattle.std.specs.Str.{bytes_eq}
-use Rattle.std.specs.Ordering.{is_gt, nat_cmp, ordering_then}
+use Rattle.std.specs.List.Sorted.{IsStrictlySortedBy}
+use Rattle.std.specs.Ordering.{is_gt, nat_cmp, on, ordering_then}
 use Rattle.std.specs.declared.cmp.Ordering.TheVariants.{Less, Equal}
 use Rattle.std.specs.Cmp.{nat_cmp_is}
 use Rattle.std.proofs.lemmas.Bool.{eqb-true, eq-eqb}
@@ -25,7 +26,8 @@ use Rattle.mo_types.specs.Whole.{is_dropped}
 use Rattle.mo_types.proofs.KeyOrder.{compare_files_total, compare_keys_total}
 use Rattle.atom_cut.specs.Laws as cut_laws
 use Rattle.atom_cut.proofs.KeyLemmas.{atoms_rise}
-use Rattle.resolve.specs.Representatives.{IsRepresentative, Literal, is_same, literal_at, literals, literals_in, is_literal, representative_among, representative_of}
+use Rattle.resolve.specs.inner.Literals.{AreInOrder, literal_key as key_in}
+use Rattle.resolve.specs.Representatives.{representatives_of, IsRepresentative, Literal, is_same, literal_at, literals, literals_in, is_literal, representative_among, representative_of}
 use Rattle.resolve.proofs.NamedLemmas.{in_either}
 
 -- ---- literals that are the same
@@ -278,6 +280,30 @@ is_least loaded whole literal there =
       named = sym m.3;
       least = λ other at same. rw m.3 (first_least (is_same literal) all m.0 m.1 other order m.2 (in_filter (is_same literal) all other (in_from_Contains all other at) same));
     }
+  where
+    recursion : (files : List LoadedFile) → All IsWholeFile files → AllByRecursion IsWholeFile files
+    recursion [] h = tt
+    recursion (file ∷ files) h = (h 0 file (omega arith), recursion files (λ k d low. h (suc k) d (omega (arith, low))))
+
+-- ---- the order of what stands for literals
+
+key_kept : (l : Literal) (xs : List Literal) → (representative_among l xs).literal ≡ l.key
+unfolding representative_among
+key_kept l [] = refl
+key_kept l (x ∷ xs) = refl
+
+mapped : (all ls : List Literal) → InOrder ls → IsStrictlySortedBy (on key_in compare_keys) (map (representative_of all) ls)
+unfolding InOrder IsStrictlySortedBy representative_of
+mapped all [] h = tt
+mapped all (l ∷ ls) h = (others ls h.0, mapped all ls h.1)
+  where
+    others : (xs : List Literal) → AllByRecursion (Precedes l) xs → AllByRecursion (λ r. on key_in compare_keys (representative_among l (filter (is_same l) all)) r ≡ Less) (map (representative_of all) xs)
+    others [] k = tt
+    others (x ∷ xs) k = (rw (key_kept l (filter (is_same l) all), key_kept x (filter (is_same x) all)) k.0, others xs k.1)
+
+pub in_order : (loaded : Loaded) → IsWholeLoaded loaded → AreInOrder (representatives_of loaded.files)
+unfolding representatives_of
+in_order loaded whole = record { rise = mapped (literals loaded.files) (literals loaded.files) (files_order loaded.files whole.rises (recursion loaded.files whole.files)) }
   where
     recursion : (files : List LoadedFile) → All IsWholeFile files → AllByRecursion IsWholeFile files
     recursion [] h = tt

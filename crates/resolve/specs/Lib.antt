@@ -6,3 +6,4 @@ pub mod Representatives
 pub mod inner
 pub mod Winners
 pub mod Known
+pub mod Goals

@@ -3,3 +3,5 @@ pub mod Groups
 pub mod Tables
 pub mod Best
 pub mod Index
+pub mod Literals
+pub mod Words

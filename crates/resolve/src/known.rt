@@ -1,14 +1,37 @@
 //! The winners with what a look-up of a name takes.
 ghost use Rattle.std.specs.Prelude.{◌≡◌};
 ghost use Rattle.std.specs.Option.{option_copied};
-ghost use Rattle.resolve.specs.Winners.{winner_named};
+ghost use Rattle.mo_types.specs.Keys.{compare_keys};
+ghost use Rattle.resolve.specs.Goals as goals;
+ghost use Rattle.resolve.specs.Winners.{lists, winner_named};
+ghost use Rattle.resolve.specs.inner.Literals.{AreInOrder};
 ghost use Rattle.resolve.specs.inner.Index.{IsIndexed};
 
 use crate::name_index::NameIndex;
 use crate::name_set::NameSet;
 use crate::representative::{Representative, RepresentativeList};
 use crate::winner::{Winner, WinnerList};
+use mo_types::AtomKey;
+use std::cmp::Ordering;
 use std::marker::Model;
+
+// The order of atoms.
+fn compare(a: &AtomKey, b: &AtomKey) -> Ordering
+    ensures { result ≡ compare_keys a.now b.now }
+{
+    a.cmp(b)
+}
+
+// The atom that stands for one.
+fn stands_for(literals: &[Representative], key: AtomKey) -> AtomKey
+    requires { AreInOrder literals.now }
+    ensures { result ≡ goals.stands_for literals.now key }
+{
+    match literals.binary_search_by(|literal| compare(&literal.literal, &key)) {
+        Ok(at) => literals[at].representative,
+        Err(_) => key,
+    }
+}
 
 /// The winner of each name and the representative of each literal, of some files and a command. Contracts see their
 /// lists, the names to which the files refer weakly alone, and those that the command looks up in all images. A private
@@ -30,7 +53,7 @@ impl<'a> Model for Winners<'a> {
 
     ghost view = { λ w. record { winners = w.winners; literals = w.literals; weak = w.weak; flats = w.flats } };
 
-    ghost invariant = { λ w. IsIndexed w.winners w.index };
+    ghost invariant = { λ w. IsIndexed w.winners w.literals w.index };
 }
 
 impl<'a> Winners<'a> {
@@ -58,6 +81,27 @@ impl<'a> Winners<'a> {
         }
     }
 
+    /// The atom that stands for one in the image: of a literal its representative, of any other itself. Takes no memory.
+    pub fn representative(&self, atom: AtomKey) -> AtomKey
+        ensures { result ≡ goals.stands_for self.now.literals atom }
+    {
+        stands_for(self.literals.as_slice(), atom)
+    }
+
+    /// Whether the files refer to a name weakly alone, so that it may be missing.
+    pub(crate) fn is_weak(&self, name: &[u8]) -> bool
+        ensures { result ≡ lists self.now.weak name.now }
+    {
+        self.weak.contains(name)
+    }
+
+    /// Whether the command looks a name up in all images.
+    pub(crate) fn is_flat(&self, name: &[u8]) -> bool
+        ensures { result ≡ lists self.now.flats name.now }
+    {
+        self.flats.contains(name)
+    }
+
     // Those of some lists, and an index that leads to the winners.
     pub(crate) fn of_lists(
         winners: WinnerList,
@@ -66,7 +110,7 @@ impl<'a> Winners<'a> {
         flats: NameSet<'a>,
         index: NameIndex<'a>,
     ) -> Winners<'a>
-        requires { IsIndexed winners index }
+        requires { IsIndexed winners literals index }
         ensures { result ≡ record { winners = winners; literals = literals; weak = weak.entry; flats = flats.entry } }
     {
         Winners {

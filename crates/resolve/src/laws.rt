@@ -1,6 +1,7 @@
 //! What the words of candidates and the representatives of literals mean, each on a call that does nothing.
 ghost use Rattle.std.specs.Prelude.{◌≡◌, ◌<◌, ℕ, List, Contains, Ok, true};
 ghost use Rattle.std.specs.declared.cmp.Ordering.TheVariants.{Less};
+ghost use Rattle.mo_cmd.specs.declared.command.Command.{Command};
 ghost use Rattle.mo_types.specs.Candidates.{Candidate, candidate_word, strength};
 ghost use Rattle.mo_types.specs.Keys.{compare_files};
 ghost use Rattle.mo_types.specs.Loaded.{IsWholeLoaded};
@@ -9,6 +10,8 @@ ghost use Rattle.mo_types.specs.declared.loaded.LoadedFile.{LoadedFile};
 ghost use Rattle.name_ids.specs.Names.{gathered};
 ghost use Rattle.resolve.specs.Found.{AreNamed};
 ghost use Rattle.resolve.specs.Laws.{HasRoom};
+ghost use Rattle.resolve.specs.Winners.{AreWinners};
+ghost use Rattle.resolve.specs.declared.winner.Winner.{Winner};
 ghost use Rattle.resolve.specs.Representatives.{IsRepresentative, Literal, is_same, literals, representative_of};
 
 /// Of two candidates the one with the lesser strength has the lesser word, wherever it stands.
@@ -41,4 +44,9 @@ pub fn representatives_have_the_least_keys()
 #[tactic(auto, using(crate::proofs::RepresentativeLemmas::representatives))]
 pub fn the_same_literals_have_one_representative()
     ensures { (all : List Literal) (a b : Literal) → is_same a b ≡ true → Contains all a → Contains all b → (representative_of all a).representative ≡ (representative_of all b).representative }
+{}
+
+/// No two winners have one name.
+pub fn a_name_has_one_winner()
+    ensures { (command : Command) (files : List LoadedFile) (winners : List Winner) → AreWinners command files winners → (a b : Winner) → Contains winners a → Contains winners b → a.name ≡ b.name → a ≡ b }
 {}

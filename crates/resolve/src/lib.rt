@@ -8,6 +8,7 @@ mod duplicates;
 mod exports;
 mod firsts;
 mod found;
+mod goals;
 mod groups;
 mod known;
 mod laws;
@@ -19,15 +20,18 @@ mod representative;
 mod weak;
 mod winner;
 mod winning;
+mod words;
 
 pub use duplicates::duplicate;
+pub use goals::{goal_of, goal_of_name, goals_of_symbols};
 pub use groups::representatives;
 pub use known::Winners;
 pub use laws::{
-    candidates_have_numbers, representatives_have_the_least_keys, the_earlier_wins,
-    the_same_literals_have_one_representative, the_stronger_wins,
+    a_name_has_one_winner, candidates_have_numbers, representatives_have_the_least_keys,
+    the_earlier_wins, the_same_literals_have_one_representative, the_stronger_wins,
 };
 pub use places::{Place, place_of};
 pub use representative::{Representative, RepresentativeList};
 pub use winner::{Winner, WinnerList};
 pub use winning::winners;
+pub use words::least_words;

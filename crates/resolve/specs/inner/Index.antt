@@ -8,8 +8,10 @@ use Rattle.resolve.specs.Winners.{lists, winner_named}
 use Rattle.resolve.specs.declared.chosen.Chosen.{Chosen}
 use Rattle.resolve.specs.declared.exports.ExportRules.{ExportRules}
 use Rattle.resolve.specs.declared.name_index.NameIndex.{NameIndex}
+use Rattle.resolve.specs.declared.representative.Representative.{Representative}
 use Rattle.resolve.specs.declared.winner.Winner.{Winner}
 use Rattle.resolve.specs.inner.Best.{chosen_name}
+use Rattle.resolve.specs.inner.Literals.{AreInOrder}
 
 -- the place of a name
 abbrev pub known : NameIndex → List ℕ → Option ℕ
@@ -27,6 +29,7 @@ pub record IsIndexOf (chosen : List Chosen) (n : ℕ) (index : NameIndex) : Type
   pub found : (name : List ℕ) (k : ℕ) (d : Chosen) → known index name ≡ Some k → chosen_name (get_or chosen k d) ≡ name
   pub all : (k : ℕ) (d : Chosen) → k < n → IsSome (known index (chosen_name (get_or chosen k d)))
 
--- the index leads to the winners of a list
-pub record IsIndexed (winners : List Winner) (index : NameIndex) : Type 0 where
+-- the index leads to the winners of a list, and literals are in order
+pub record IsIndexed (winners : List Winner) (literals : List Representative) (index : NameIndex) : Type 0 where
+  pub order : AreInOrder literals
   pub leads : (name : List ℕ) → option_and_then (slice_get winners) (known index name) ≡ winner_named winners name

@@ -6,6 +6,7 @@ use Rattle.resolve.specs.inner.Best.{winner_chosen}
 use Rattle.resolve.specs.inner.Tables.{held}
 use Rattle.resolve.proofs.CandidateLemmas.{candidates_are}
 use Rattle.resolve.proofs.KnownLemmas.{all_those, winners_are}
+use Rattle.resolve.proofs.RepresentativeLemmas.{in_order}
 use Rattle.resolve.proofs.WinnerLemmas.{chosen_stand, indexed}
 use Rattle.resolve.proofs.winning.winners.Goals as goal
 
@@ -24,6 +25,7 @@ pub of_lists-requires : goal.of_lists-requires
 of_lists-requires c =
     rw c.from_vec.ensures
     record {
+      order = rw c.in_ok-literals.ensures (in_order c.args.loaded.now c.requires.whole);
       leads = indexed c.args.command.now c.args.loaded.now.files c.args.names.now c.as_slice.result.now c.in_ok-chosen.chosen.items c.in_ok-list.list.items c.in_ok-index.index
           (all_those c.args.loaded.now.files c.as_slice-files.result.now c.args.names.now c.in_ok-found.found.items c.as_slice.result.now c.in_ok-table.table.items c.as_slice-2.result.now c.in_ok-chosen.chosen.items c.requires.named c.as_slice-files.ensures c.as_slice.ensures.value c.in_ok-found.ensures (c.in_ok-table.ensures.bests c.args.loaded.now.files c.requires.words) c.as_slice-2.ensures.value c.in_ok-chosen.ensures.permutation)
           (c.in_ok-list.ensures c.args.command.now c.in_ok-rules.ensures ∙ ap (map (winner_chosen c.args.command.now)) c.as_slice-3.ensures.value)
