@@ -446,7 +446,8 @@ fn fixups_and_names(rt: HostRuntime) -> Result<(), Fail> {
     }
     assert!(rt; import_name(sample().get(..496).unwrap_or(b""), 1) == Some(b"_bc".as_slice()));
     expect_numbers(&rt, rt.alloc(), "", numbers_of_format_1())?;
-    expect_numbers(&rt, rt.alloc(), "468=03 456=40", numbers_of_format_3())
+    expect_numbers(&rt, rt.alloc(), "468=03 456=40", numbers_of_format_3())?;
+    Ok(())
 }
 
 #[test]
