@@ -1,4 +1,5 @@
 pub mod Graph
 pub mod Paths
 pub mod Provides
+pub mod Reexported
 pub mod inner

@@ -11,6 +11,7 @@ mod named;
 mod paths;
 mod provider;
 mod reach;
+mod stub_text;
 #[cfg(test)]
 mod tests;
 
@@ -24,3 +25,4 @@ pub use library::{Library, LibraryGraph, LibraryList, LinkList, NumberList};
 pub use named::{NamedStub, StubFileList};
 pub use paths::reexport_paths;
 pub use provider::{Offer, Provider, offer_of, provider_of};
+pub use stub_text::{read_reexported, read_stub_text};
