@@ -7,7 +7,6 @@ pub mod FetchLemmas
 pub mod FilesLemmas
 pub mod FormLemmas
 pub mod ImageLemmas
-pub mod JoinedLemmas
 pub mod LinkLemmas
 pub mod LinkedLemmas
 pub mod NameLemmas

@@ -1,8 +1,5 @@
 -- Patching a word.
-use Rattle.std.proofs.Common.{◌≡◌, ℕ, zero, suc, ◌+◌, ◌-◌, ◌%◌, ◌<◌, ◌≤◌, ◌∷◌, [], List, length, drop, get_or, Bool, true, Option, Some, None, IsSome, SomeIff, unwrap_or, option_and_then, refl, sym, ap, ◌∙◌, subst, arith, pos, ◌-ℤ◌, ◌++◌, take, append_assoc, append-nil, zero-add}
-use Rattle.std.proofs.Math.Seq.{drop-append-add, take-append-add}
-use Rattle.arm64_insn.specs.Branch.{branch_word}
-use Rattle.mo_bytes.specs.Number.{number, number_bytes}
+use Rattle.std.proofs.Common.{◌≡◌, ℕ, zero, suc, ◌+◌, ◌-◌, ◌%◌, ◌<◌, ◌≤◌, ◌∷◌, [], List, length, drop, get_or, Bool, true, Option, Some, None, IsSome, SomeIff, unwrap_or, option_and_then, refl, sym, ap, ◌∙◌, subst, arith, pos, ◌-ℤ◌, ◌++◌, take, append-nil}
 use Rattle.std.specs.List.{list_all, slice_get}
 use Rattle.std.proofs.lemmas.List.{drop_all, take_all}
 use Rattle.std.proofs.lemmas.Bool.{eqb-true}
@@ -12,7 +9,7 @@ use Rattle.mo_types.specs.declared.object.Symbol.{Symbol}
 use Rattle.mo_types.specs.declared.object.SymbolKind.{SymbolKind}
 use Rattle.mo_types.specs.declared.object.SymbolKind.TheVariants.{Undefined, Common, Defined, Absolute, Passed}
 use Rattle.link_engine.specs.Branches.{is_branch, is_whole_words, offset_of, target_of}
-use Rattle.link_engine.specs.Patching.{branch_at, contents_of, distance_of, patched, patched_by, with_word}
+use Rattle.link_engine.specs.Patching.{branch_at, distance_of, patched, patched_by}
 use Rattle.link_engine.specs.Object.{ArePlaced, IsPlaced}
 use Rattle.link_engine.proofs.BranchLemmas.{IsBranch, both, branch_is, get_or_any}
 use Rattle.link_engine.proofs.DistinctLemmas.{from_place}
@@ -66,61 +63,31 @@ branch_there text symbols relocs at d all within =
     branch_is text symbols (get_or relocs at d) (passes_at (is_branch text symbols) relocs at (get_or relocs at d) all within (get_or_any relocs at d (get_or relocs at d) within))
 
 -- the branches of the relocations before a place are patched
-pub record IsPatching (text : Section) (symbols : List Symbol) (start : ℕ) (relocs : List RawReloc) (before : List ℕ) (at : ℕ) (now : List ℕ) : Type 0 where
-  pub same : patched text symbols start (drop at relocs) now ≡ patched text symbols start relocs before
+pub record IsPatching (text : Section) (symbols : List Symbol) (relocs : List RawReloc) (before : List ℕ) (at : ℕ) (now : List ℕ) : Type 0 where
+  pub same : patched text symbols (drop at relocs) now ≡ patched text symbols relocs before
 
-pub patching_starts : (text : Section) (symbols : List Symbol) (start : ℕ) (relocs : List RawReloc) (image : List ℕ) → IsPatching text symbols start relocs image 0 image
-patching_starts text symbols start relocs image = record { same = refl }
+pub patching_starts : (text : Section) (symbols : List Symbol) (relocs : List RawReloc) (image : List ℕ) → IsPatching text symbols relocs image 0 image
+patching_starts text symbols relocs image = record { same = refl }
 
-pub patching_goes_on : (text : Section) (symbols : List Symbol) (start : ℕ) (relocs : List RawReloc) (before : List ℕ) (at : ℕ) (now new : List ℕ) (reloc : RawReloc) → IsPatching text symbols start relocs before at now → at < length relocs → reloc ≡ get_or relocs at reloc → new ≡ patched_by text symbols start reloc now → IsPatching text symbols start relocs before (at + 1) new
-patching_goes_on text symbols start relocs before at now new reloc patching within is e = record {
+pub patching_goes_on : (text : Section) (symbols : List Symbol) (relocs : List RawReloc) (before : List ℕ) (at : ℕ) (now new : List ℕ) (reloc : RawReloc) → IsPatching text symbols relocs before at now → at < length relocs → reloc ≡ get_or relocs at reloc → new ≡ patched_by text symbols reloc now → IsPatching text symbols relocs before (at + 1) new
+patching_goes_on text symbols relocs before at now new reloc patching within is e = record {
   same =
-      ap (patched text symbols start (drop (at + 1) relocs)) e
-      ∙ sym (ap (λ rest. patched text symbols start rest now) (from_place relocs at reloc within is))
+      ap (patched text symbols (drop (at + 1) relocs)) e
+      ∙ sym (ap (λ rest. patched text symbols rest now) (from_place relocs at reloc within is))
       ∙ patching.same;
 }
 
-pub patching_ends : (text : Section) (symbols : List Symbol) (start : ℕ) (relocs : List RawReloc) (before : List ℕ) (at : ℕ) (now : List ℕ) → IsPatching text symbols start relocs before at now → length relocs ≤ at → now ≡ patched text symbols start relocs before
-patching_ends text symbols start relocs before at now patching past =
-    sym (ap (λ rest. patched text symbols start rest now) (drop_all at relocs past)) ∙ patching.same
+pub patching_ends : (text : Section) (symbols : List Symbol) (relocs : List RawReloc) (before : List ℕ) (at : ℕ) (now : List ℕ) → IsPatching text symbols relocs before at now → length relocs ≤ at → now ≡ patched text symbols relocs before
+patching_ends text symbols relocs before at now patching past =
+    sym (ap (λ rest. patched text symbols rest now) (drop_all at relocs past)) ∙ patching.same
 
-pub one_patched : (text : Section) (symbols : List Symbol) (start : ℕ) (reloc : RawReloc) (now new : List ℕ) (target place : ℕ) → target ≡ unwrap_or (target_of text symbols reloc) 0 → place ≡ reloc.address → new ≡ branch_at (start + reloc.address) (pos target -ℤ pos place) now → new ≡ patched_by text symbols start reloc now
+pub one_patched : (text : Section) (symbols : List Symbol) (reloc : RawReloc) (now new : List ℕ) (target place : ℕ) → target ≡ unwrap_or (target_of text symbols reloc) 0 → place ≡ reloc.address → new ≡ branch_at reloc.address (pos target -ℤ pos place) now → new ≡ patched_by text symbols reloc now
 unfolding patched_by distance_of
-one_patched text symbols start reloc now new target place is at e =
-    e ∙ ap (λ (n : ℕ). branch_at (start + reloc.address) (pos n -ℤ pos place) now) is
-    ∙ ap (λ (n : ℕ). branch_at (start + reloc.address) (pos (unwrap_or (target_of text symbols reloc) 0) -ℤ pos n) now) at
+one_patched text symbols reloc now new target place is at e =
+    e ∙ ap (λ (n : ℕ). branch_at reloc.address (pos n -ℤ pos place) now) is
+    ∙ ap (λ (n : ℕ). branch_at reloc.address (pos (unwrap_or (target_of text symbols reloc) 0) -ℤ pos n) now) at
 
 pub ruleset patches = (branch_is, passes_at, patching_starts, patching_ends)
-
--- patching bytes after others leaves those
-number_after : (front bytes : List ℕ) (at : ℕ) → number 4 (front ++ bytes) (length front + at) ≡ number 4 bytes at
-unfolding number
-number_after front bytes at = rw drop-append-add refl
-
-word_after : (front bytes : List ℕ) (at word : ℕ) → with_word (length front + at) word (front ++ bytes) ≡ front ++ with_word at word bytes
-word_after front bytes at word = rw (take-append-add, drop-append-add) (append_assoc front (take at bytes) (number_bytes 4 word ++ drop 4 (drop at bytes)))
-
-one_after : (text : Section) (symbols : List Symbol) (front : List ℕ) (reloc : RawReloc) (bytes : List ℕ) → patched_by text symbols (length front) reloc (front ++ bytes) ≡ front ++ patched_by text symbols 0 reloc bytes
-unfolding patched_by
-one_after text symbols front reloc bytes =
-    ap (λ (n : ℕ). with_word (length front + reloc.address) (branch_word n (distance_of text symbols reloc)) (front ++ bytes)) (number_after front bytes reloc.address)
-    ∙ word_after front bytes reloc.address _
-    ∙ ap (λ (at : ℕ). front ++ branch_at at (distance_of text symbols reloc) bytes) (sym (zero-add reloc.address))
-
-patched_after : (text : Section) (symbols : List Symbol) (front : List ℕ) (relocs : List RawReloc) (bytes : List ℕ) → patched text symbols (length front) relocs (front ++ bytes) ≡ front ++ patched text symbols 0 relocs bytes
-patched_after text symbols front [] bytes = refl
-patched_after text symbols front (reloc ∷ relocs) bytes =
-    ap (patched text symbols (length front) relocs) (one_after text symbols front reloc bytes)
-    ∙ patched_after text symbols front relocs (patched_by text symbols 0 reloc bytes)
-
--- the contents that are put, in a vector whose bytes were those of the front
-pub contents_put : (text : Section) (symbols : List Symbol) (start : ℕ) (front with_bytes new : List ℕ) → start ≡ length front → with_bytes ≡ front ++ text.bytes → new ≡ patched text symbols start text.relocs with_bytes → new ≡ front ++ contents_of text symbols
-unfolding contents_of
-contents_put text symbols start front with_bytes new at whole e =
-    e
-    ∙ ap (patched text symbols start text.relocs) whole
-    ∙ ap (λ (n : ℕ). patched text symbols n text.relocs (front ++ text.bytes)) at
-    ∙ patched_after text symbols front text.relocs text.bytes
 
 -- a vector whose elements were written through a slice of all of them
 pub all_written : (n : ℕ) (old new : List ℕ) → n ≡ length new → length new ≡ length old → take n (new ++ drop (length new) old) ≡ new

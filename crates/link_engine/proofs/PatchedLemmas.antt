@@ -1,5 +1,5 @@
 -- What patching leaves: each branch has its distance, and all other bytes are as they were.
-use Rattle.std.proofs.Common.{◌≡◌, ℕ, ◌+◌, ◌-◌, ◌^◌, ◌<◌, ◌≤◌, ◌⊎◌, inl, inr, ◌++◌, ◌∷◌, [], List, length, take, drop, true, refl, sym, ap, ◌∙◌, subst, arith, append_assoc, length-append, length-drop, zero-add, get_or-drop}
+use Rattle.std.proofs.Common.{◌≡◌, ℕ, ◌+◌, ◌-◌, ◌^◌, ◌<◌, ◌≤◌, ◌⊎◌, inl, inr, ◌++◌, ◌∷◌, [], List, length, take, drop, true, refl, sym, ap, ◌∙◌, subst, arith, append_assoc, length-append, length-drop, get_or-drop}
 use Rattle.std.specs.List.{AllByRecursion, list_all}
 use Rattle.std.proofs.Math.Seq.{drop-append-add}
 use Rattle.std.proofs.lemmas.List.{drop-append-le, drop-drop, length-take-le, take-append-drop}
@@ -15,7 +15,7 @@ use Rattle.link_engine.specs.declared.form.TextObject.{TextObject}
 use Rattle.link_engine.specs.Branches.{is_branch}
 use Rattle.link_engine.specs.Object.{IsLinkable}
 use Rattle.mo_obj.specs.Read.{AreBytes}
-use Rattle.link_engine.specs.Patching.{AreApart, ArePatched, IsApart, branch_at, contents_of, distance_of, patched, patched_by, with_word}
+use Rattle.link_engine.specs.Patching.{AreApart, ArePatched, IsApart, contents_of, distance_of, patched, patched_by, with_word}
 use Rattle.link_engine.proofs.BranchLemmas.{both, branch_is}
 
 -- a number whose bytes lie in the front
@@ -69,16 +69,16 @@ number_apart width at word place bytes room (inr after) = number_after_word widt
 abbrev pub AreIn : ℕ → List RawReloc → Type 0
 AreIn size relocs = AllByRecursion (λ reloc. reloc.address + 4 ≤ size) relocs
 
-pub patched_by-is : (text : Section) (symbols : List Symbol) (reloc : RawReloc) (bytes : List ℕ) → patched_by text symbols 0 reloc bytes ≡ with_word reloc.address (branch_word (number 4 bytes reloc.address) (distance_of text symbols reloc)) bytes
+pub patched_by-is : (text : Section) (symbols : List Symbol) (reloc : RawReloc) (bytes : List ℕ) → patched_by text symbols reloc bytes ≡ with_word reloc.address (branch_word (number 4 bytes reloc.address) (distance_of text symbols reloc)) bytes
 unfolding patched_by
-patched_by-is text symbols reloc bytes = ap (λ (at : ℕ). branch_at at (distance_of text symbols reloc) bytes) (zero-add reloc.address)
+patched_by-is text symbols reloc bytes = refl
 
-pub others_stay : (text : Section) (symbols : List Symbol) (relocs : List RawReloc) (bytes : List ℕ) (width place : ℕ) → AreIn (length bytes) relocs → AllByRecursion (IsApart width place) relocs → number width (patched text symbols 0 relocs bytes) place ≡ number width bytes place
+pub others_stay : (text : Section) (symbols : List Symbol) (relocs : List RawReloc) (bytes : List ℕ) (width place : ℕ) → AreIn (length bytes) relocs → AllByRecursion (IsApart width place) relocs → number width (patched text symbols relocs bytes) place ≡ number width bytes place
 others_stay text symbols [] bytes width place within apart = refl
 others_stay text symbols (reloc ∷ relocs) bytes width place within apart =
     let word : ℕ = branch_word (number 4 bytes reloc.address) (distance_of text symbols reloc) in
-    let same : length (patched_by text symbols 0 reloc bytes) ≡ length bytes = ap length (patched_by-is text symbols reloc bytes) ∙ length-with_word reloc.address word bytes within.0 in
-    others_stay text symbols relocs (patched_by text symbols 0 reloc bytes) width place (subst (λ (n : ℕ). AreIn n relocs) (sym same) within.1) apart.1
+    let same : length (patched_by text symbols reloc bytes) ≡ length bytes = ap length (patched_by-is text symbols reloc bytes) ∙ length-with_word reloc.address word bytes within.0 in
+    others_stay text symbols relocs (patched_by text symbols reloc bytes) width place (subst (λ (n : ℕ). AreIn n relocs) (sym same) within.1) apart.1
     ∙ ap (λ (xs : List ℕ). number width xs place) (patched_by-is text symbols reloc bytes)
     ∙ number_apart width reloc.address word place bytes within.0 apart.0
 
@@ -90,7 +90,7 @@ turned : (place : ℕ) (reloc : RawReloc) (at : ℕ) → IsApart 4 at reloc → 
 turned place reloc at (inl before) e = inr (omega arith)
 turned place reloc at (inr after) e = inl (omega arith)
 
-words_stay : (text : Section) (symbols : List Symbol) (reloc : RawReloc) (bytes : List ℕ) (relocs : List RawReloc) → reloc.address + 4 ≤ length bytes → AllByRecursion (IsApart 4 reloc.address) relocs → AllByRecursion (λ other. number 4 (patched_by text symbols 0 reloc bytes) other.address ≡ number 4 bytes other.address) relocs
+words_stay : (text : Section) (symbols : List Symbol) (reloc : RawReloc) (bytes : List ℕ) (relocs : List RawReloc) → reloc.address + 4 ≤ length bytes → AllByRecursion (IsApart 4 reloc.address) relocs → AllByRecursion (λ other. number 4 (patched_by text symbols reloc bytes) other.address ≡ number 4 bytes other.address) relocs
 words_stay text symbols reloc bytes [] room apart = tt
 words_stay text symbols reloc bytes (other ∷ relocs) room apart = (
   ap (λ (xs : List ℕ). number 4 xs other.address) (patched_by-is text symbols reloc bytes)
@@ -109,18 +109,18 @@ patched_from text symbols final new old (reloc ∷ relocs) same patches = (
   patched_from text symbols final new old relocs same.1 patches.1,
 )
 
-pub all_patched : (text : Section) (symbols : List Symbol) (relocs : List RawReloc) (bytes : List ℕ) → AreIn (length bytes) relocs → AreApart relocs → AreWords bytes relocs → ArePatched text symbols (patched text symbols 0 relocs bytes) bytes relocs
+pub all_patched : (text : Section) (symbols : List Symbol) (relocs : List RawReloc) (bytes : List ℕ) → AreIn (length bytes) relocs → AreApart relocs → AreWords bytes relocs → ArePatched text symbols (patched text symbols relocs bytes) bytes relocs
 all_patched text symbols [] bytes within apart small = tt
 all_patched text symbols (reloc ∷ relocs) bytes within apart small =
     let word : ℕ = branch_word (number 4 bytes reloc.address) (distance_of text symbols reloc) in
-    let new : List ℕ = patched_by text symbols 0 reloc bytes in
+    let new : List ℕ = patched_by text symbols reloc bytes in
     let same : length new ≡ length bytes = ap length (patched_by-is text symbols reloc bytes) ∙ length-with_word reloc.address word bytes within.0 in
     let inside : AreIn (length new) relocs = subst (λ (n : ℕ). AreIn n relocs) (sym same) within.1 in
     let stay = words_stay text symbols reloc bytes relocs within.0 apart.0 in (
       others_stay text symbols relocs new 4 reloc.address inside apart.0
           ∙ ap (λ (xs : List ℕ). number 4 xs reloc.address) (patched_by-is text symbols reloc bytes)
           ∙ number_there reloc.address word bytes within.0 (branch_word-lt (number 4 bytes reloc.address) (distance_of text symbols reloc) small.0),
-      patched_from text symbols (patched text symbols 0 relocs new) new bytes relocs stay
+      patched_from text symbols (patched text symbols relocs new) new bytes relocs stay
           (all_patched text symbols relocs new inside apart.1 (words_small new bytes relocs stay small.1)),
     )
 

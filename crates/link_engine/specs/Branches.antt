@@ -1,5 +1,6 @@
 -- The relocations of the linked form: branches within the section (`reloc.h`: ARM64_RELOC_BRANCH26).
 use Rattle.std.specs.Prelude.{ℕ, ◌+◌, ◌-◌, ◌%◌, ◌==◌, ◌&&◌, Bool, false, nat_le, List, slice_get, Option, Some, None, option_and_then}
+use Rattle.mo_format.specs.declared.reloc.TheConstants.{ARM64_RELOC_BRANCH26}
 use Rattle.mo_types.specs.declared.object.RawReloc.{RawReloc}
 use Rattle.mo_types.specs.declared.object.Section.{Section}
 use Rattle.mo_types.specs.declared.object.Symbol.{Symbol}
@@ -22,5 +23,5 @@ is_whole_words (Some offset) = offset % 4 == 0
 -- a branch from an instruction in the section to an instruction's place in it
 unfoldable pub is_branch : Section → List Symbol → RawReloc → Bool
 is_branch text symbols reloc =
-    reloc.kind == 2 && reloc.pcrel && reloc.length == 2 && reloc.external && reloc.address % 4 == 0
+    reloc.kind == ARM64_RELOC_BRANCH26 && reloc.pcrel && reloc.length == 2 && reloc.external && reloc.address % 4 == 0
     && nat_le (reloc.address + 4) text.size && is_whole_words (target_of text symbols reloc)

@@ -3,6 +3,7 @@ use Rattle.std.specs.Prelude.{ℕ, ◌+◌, ◌^◌, ◌==◌, ◌&&◌, ◌||�
 use Rattle.std.specs.List.{list_all, list_any, position}
 use Rattle.std.specs.Option.{option_map_or}
 use Rattle.std.specs.Str.{bytes_eq}
+use Rattle.mo_format.specs.declared.loader.TheConstants.{S_REGULAR}
 use Rattle.mo_types.specs.Gives.{guarded}
 use Rattle.mo_types.specs.Whole.{is_dropped}
 use Rattle.mo_types.specs.declared.cause.Feature.TheVariants.{Later}
@@ -25,10 +26,10 @@ is_unwind section = bytes_eq section.segment (codes "__LD") && bytes_eq section.
 abbrev pub counts : Section → Bool
 counts section = not (is_dropped section) || is_unwind section
 
--- a linked `__TEXT,__text` of type 0, of at most 2^26 bytes, aligned to at most 2^14
+-- a linked `__TEXT,__text` of type S_REGULAR, of at most 2^26 bytes, aligned to at most 2^14
 abbrev pub is_text : Section → Bool
 is_text section =
-    not (is_dropped section) && bytes_eq section.name (codes "__text") && bytes_eq section.segment (codes "__TEXT") && section.kind == 0
+    not (is_dropped section) && bytes_eq section.name (codes "__text") && bytes_eq section.segment (codes "__TEXT") && section.kind == S_REGULAR
     && nat_le section.size (2 ^ 26) && nat_le section.align 14
 
 -- the section at a place is code, and none after it counts

@@ -5,9 +5,7 @@ pub mod Command
 pub mod Entry
 pub mod Form
 pub mod Image
-pub mod inner
 pub mod Input
-pub mod Joined
 pub mod Names
 pub mod Object
 pub mod One

@@ -20,17 +20,17 @@ branch_at at delta bytes = with_word at (branch_word (number 4 bytes at) delta) 
 unfoldable pub distance_of : Section → List Symbol → RawReloc → ℤ
 distance_of text symbols reloc = pos (unwrap_or (target_of text symbols reloc) 0) -ℤ pos reloc.address
 
--- bytes in which the section begins at a place, with the branch of each relocation at its distance
-unfoldable pub patched_by : Section → List Symbol → ℕ → RawReloc → List ℕ → List ℕ
-patched_by text symbols start reloc bytes = branch_at (start + reloc.address) (distance_of text symbols reloc) bytes
+-- the section's bytes with the branch of a relocation at its distance
+unfoldable pub patched_by : Section → List Symbol → RawReloc → List ℕ → List ℕ
+patched_by text symbols reloc bytes = branch_at reloc.address (distance_of text symbols reloc) bytes
 
-abbrev pub patched : Section → List Symbol → ℕ → List RawReloc → List ℕ → List ℕ
-patched text symbols start [] bytes = bytes
-patched text symbols start (reloc ∷ relocs) bytes = patched text symbols start relocs (patched_by text symbols start reloc bytes)
+abbrev pub patched : Section → List Symbol → List RawReloc → List ℕ → List ℕ
+patched text symbols [] bytes = bytes
+patched text symbols (reloc ∷ relocs) bytes = patched text symbols relocs (patched_by text symbols reloc bytes)
 
 -- the section's contents in the image
 unfoldable pub contents_of : Section → List Symbol → List ℕ
-contents_of text symbols = patched text symbols 0 text.relocs text.bytes
+contents_of text symbols = patched text symbols text.relocs text.bytes
 
 -- a number of some bytes at a place doesn't touch a relocation's word
 abbrev pub IsApart : ℕ → ℕ → RawReloc → Type 0

@@ -4,6 +4,7 @@ ghost use Rattle.std.specs.Prelude.{◌≡◌};
 ghost use Rattle.std.specs.List.{list_all};
 ghost use Rattle.link_engine.specs.Branches as branches;
 
+use mo_format::reloc::ARM64_RELOC_BRANCH26;
 use mo_types::{RawReloc, Section, Symbol, SymbolKind};
 
 // The offset in the section of a symbol that is defined there, which isn't before the section.
@@ -40,7 +41,7 @@ fn is_whole_words(offset: Option<u64>) -> bool
 fn is_branch(text: &Section, symbols: &[Symbol], reloc: &RawReloc) -> bool
     ensures { result ≡ branches.is_branch text.now symbols.now reloc.now }
 {
-    reloc.kind == 2
+    reloc.kind == ARM64_RELOC_BRANCH26
         && reloc.pcrel
         && reloc.length == 2
         && reloc.external

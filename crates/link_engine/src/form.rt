@@ -13,6 +13,7 @@ ghost use Rattle.link_engine.specs.Object.{IsLinkable};
 
 use crate::branches::are_branches;
 use crate::names::are_distinct_names;
+use mo_format::loader::S_REGULAR;
 use mo_types::{
     Feature, ObjFault, Object, OutOfMemory, Section, SectionList, Symbol, SymbolKind, SymbolList,
 };
@@ -47,7 +48,7 @@ fn is_text(section: &Section) -> bool
     !section.is_dropped()
         && section.name.as_slice() == b"__text".as_slice()
         && section.segment.as_slice() == b"__TEXT".as_slice()
-        && section.kind == 0
+        && u32::from(section.kind) == S_REGULAR
         && section.size <= 1 << 26
         && section.align <= 14
 }

@@ -1,17 +1,24 @@
 //! The image of an object: a header and load commands, the section of code, and zeros (`loader.h`).
 
-ghost use Rattle.std.specs.Prelude.{◌≡◌, ◌++◌, ◌+◌, ◌-◌, ◌≤◌, ◌<◌, ◌^◌, length, replicate, OnOk, IfOk};
+ghost use Rattle.std.specs.Prelude.{◌≡◌, ◌++◌, ◌+◌, ◌≤◌, ◌<◌, ◌^◌, drop, length, take, OnOk, IfOk};
+ghost use Rattle.image_join.specs.inner.Writing.{with_part};
 ghost use Rattle.mo_bytes.specs.Rounding.{least_multiple};
 ghost use Rattle.link_engine.specs.Image as image;
-ghost use Rattle.link_engine.specs.Image.{front, image_of, placement_of};
-ghost use Rattle.link_engine.specs.inner.Zeros.{zeros_to};
+ghost use Rattle.link_engine.specs.Image.{front, image_of, parts_with, placement_of};
 ghost use Rattle.link_engine.specs.Object.{IsLinkable, IsText};
 ghost use Rattle.link_engine.specs.Patching.{contents_of};
 ghost use Rattle.link_engine.specs.Object.{IsWithin};
 
 use crate::form::TextObject;
-use crate::patch::patch;
+use crate::patching::patch;
+use image_join::{Part, PartList, Parts, join};
 use mo_bytes::round_up;
+use mo_format::loader::{
+    CPU_SUBTYPE_ARM64_ALL, CPU_TYPE_ARM64, LC_BUILD_VERSION, LC_LOAD_DYLINKER, LC_MAIN,
+    LC_SEGMENT_64, MH_DYLDLINK, MH_EXECUTE, MH_MAGIC_64, MH_NOUNDEFS, MH_PIE, MH_TWOLEVEL,
+    PLATFORM_MACOS, S_ATTR_PURE_INSTRUCTIONS, S_ATTR_SOME_INSTRUCTIONS, VM_PROT_EXECUTE,
+    VM_PROT_NONE, VM_PROT_READ,
+};
 use mo_format::{
     BuildVersionCommand, DylinkerCommand, EntryPointCommand, MachHeader, SectionHeader,
     SegmentCommand,
@@ -28,7 +35,11 @@ pub struct Placement {
     pub segment_size: u64,
 }
 
-const LC_SEGMENT_64: u32 = 0x19;
+const HEADER_FLAGS: u32 = MH_NOUNDEFS | MH_DYLDLINK | MH_TWOLEVEL | MH_PIE;
+
+const CODE_PROTECTION: u32 = VM_PROT_READ | VM_PROT_EXECUTE;
+
+const CODE_ATTRIBUTES: u32 = S_ATTR_PURE_INSTRUCTIONS | S_ATTR_SOME_INSTRUCTIONS;
 
 const BASE: u64 = 0x1_0000_0000;
 
@@ -37,6 +48,9 @@ const PAGE_EXPONENT: u8 = 14;
 const COMMANDS_SIZE: u32 = 376;
 
 const FRONT_SIZE: u64 = 440;
+
+// The bytes of the header and the load commands.
+const FRONT_BYTES: usize = 408;
 
 const PAGEZERO_NAME: [u8; 16] = *b"__PAGEZERO\0\0\0\0\0\0";
 
@@ -79,13 +93,13 @@ fn image_header() -> MachHeader
     ensures { result ≡ image.image_header }
 {
     MachHeader {
-        magic: 0xfeed_facf,
-        cputype: 0x0100_000c,
-        cpusubtype: 0,
-        filetype: 2,
+        magic: MH_MAGIC_64,
+        cputype: CPU_TYPE_ARM64,
+        cpusubtype: CPU_SUBTYPE_ARM64_ALL,
+        filetype: MH_EXECUTE,
         ncmds: 6,
         sizeofcmds: COMMANDS_SIZE,
-        flags: 0x0020_0085,
+        flags: HEADER_FLAGS,
         reserved: 0,
     }
 }
@@ -101,8 +115,8 @@ fn page_zero() -> SegmentCommand
         vmsize: BASE,
         fileoff: 0,
         filesize: 0,
-        maxprot: 0,
-        initprot: 0,
+        maxprot: VM_PROT_NONE,
+        initprot: VM_PROT_NONE,
         nsects: 0,
         flags: 0,
     }
@@ -119,8 +133,8 @@ fn text_segment(placement: &Placement) -> SegmentCommand
         vmsize: placement.segment_size,
         fileoff: 0,
         filesize: placement.segment_size,
-        maxprot: 5,
-        initprot: 5,
+        maxprot: CODE_PROTECTION,
+        initprot: CODE_PROTECTION,
         nsects: 1,
         flags: 0,
     }
@@ -139,7 +153,7 @@ fn text_header(text: &Section, placement: &Placement) -> SectionHeader
         align: u32::from(text.align),
         reloff: 0,
         nreloc: 0,
-        flags: text.attributes & 0x8000_0400,
+        flags: text.attributes & CODE_ATTRIBUTES,
         reserved1: 0,
         reserved2: 0,
         reserved3: 0,
@@ -158,8 +172,8 @@ fn link_edit(placement: &Placement) -> SegmentCommand
         vmsize: 0,
         fileoff: placement.segment_size,
         filesize: 0,
-        maxprot: 1,
-        initprot: 1,
+        maxprot: VM_PROT_READ,
+        initprot: VM_PROT_READ,
         nsects: 0,
         flags: 0,
     }
@@ -169,7 +183,7 @@ fn dylinker() -> DylinkerCommand
     ensures { result ≡ image.dylinker }
 {
     DylinkerCommand {
-        cmd: 0xe,
+        cmd: LC_LOAD_DYLINKER,
         cmdsize: 32,
         name: 12,
     }
@@ -179,9 +193,9 @@ fn build_version() -> BuildVersionCommand
     ensures { result ≡ image.build_version }
 {
     BuildVersionCommand {
-        cmd: 0x32,
+        cmd: LC_BUILD_VERSION,
         cmdsize: 24,
-        platform: 1,
+        platform: PLATFORM_MACOS,
         minos: 0x000b_0000,
         sdk: 0x000b_0000,
         ntools: 0,
@@ -195,7 +209,7 @@ fn entry_point(text: &Section, placement: &Placement, entry: u64) -> EntryPointC
     ensures { result ≡ image.entry_point text.now placement.now entry }
 {
     EntryPointCommand {
-        cmd: 0x8000_0028,
+        cmd: LC_MAIN,
         cmdsize: 24,
         entryoff: placement.text_offset + (entry - text.address),
         stacksize: 0,
@@ -229,48 +243,63 @@ fn write_front(
     Ok(())
 }
 
-// Appends zeros, up to a size in bytes.
-#[tactic(auto, using(crate::proofs::ImageLemmas::zeros))]
-fn pad(out: &mut Vec<u8>, size: usize) -> Result<(), AllocError>
-    requires { length out.old.items ≤ size }
-    ensures zeros { OnOk result (out.new.items ≡ zeros_to size out.old.items) }
-    ensures size { OnOk result (length out.new.items ≡ size) }
+// The parts that the image has before its branches are patched.
+fn whole_parts(
+    alloc: Global,
+    text: &Section,
+    placement: &Placement,
+    entry: u64,
+) -> Result<Parts, OutOfMemory>
+    requires offset { placement.now.text_offset < 2 ^ 15 }
+    requires size { placement.now.segment_size < 2 ^ 27 }
+    requires within { IsWithin text.now.address text.now.size entry }
+    requires text { IsText text.now }
+    ensures { IfOk result (λ parts. parts ≡ parts_with placement.now text.now text.now.bytes entry) }
 {
-    out.resize(size, 0)
+    let mut front = Vec::with_capacity(alloc, FRONT_BYTES)?;
+    write_front(&mut front, text, placement, entry)?;
+    let mut parts = PartList::new(alloc);
+    parts.push(Part {
+        from: 0,
+        bytes: Bytes::from_vec(front)?,
+    })?;
+    parts.push(Part {
+        from: placement.text_offset,
+        bytes: text.bytes.clone()?,
+    })?;
+    Ok(Parts {
+        size: placement.segment_size,
+        parts,
+    })
 }
 
-// Appends the section's contents, with its branches patched.
-fn put_contents(out: &mut Vec<u8>, object: &TextObject) -> Result<(), AllocError>
-    requires room { length out.old.items < 2 ^ 32 }
+// Patches the branches of the section that stands at a place.
+fn patch_at(image: &mut [u8], at: usize, object: &TextObject)
     requires object { IsLinkable object.now }
-    ensures bytes { OnOk result (out.new.items ≡ out.old.items ++ contents_of object.now.text object.now.symbols) }
-    ensures size { OnOk result (length out.new.items ≡ length out.old.items + object.now.text.size) }
+    requires room { at + object.now.text.size ≤ length image.old }
+    requires contents { take object.now.text.size (drop at image.old) ≡ object.now.text.bytes }
+    ensures { image.new ≡ with_part image.old (record { from = at; bytes = contents_of object.now.text object.now.symbols }) }
 {
     let text = &object.text;
-    let start = out.len();
-    out.extend_from_slice(text.bytes.as_slice())?;
+    let end = at + text.size as usize;
     patch(
-        out,
-        start,
+        &mut image[at..end],
         text,
         object.symbols.as_slice(),
         text.relocs.as_slice(),
     );
-    Ok(())
 }
 
 /// The image of an object whose entry has an address in it.
+#[tactic(auto, using(crate::proofs::PartsLemmas::imaging))]
 pub fn image(alloc: Global, object: &TextObject, entry: u64) -> Result<Bytes, OutOfMemory>
     requires within { IsWithin object.now.text.address object.now.text.size entry }
     requires object { IsLinkable object.now }
     ensures { IfOk result (λ image. image ≡ image_of object.now entry) }
 {
-    let text = &object.text;
-    let placement = place(text);
-    let mut image = Vec::with_capacity(alloc, placement.segment_size as usize)?;
-    write_front(&mut image, text, &placement, entry)?;
-    pad(&mut image, placement.text_offset as usize)?;
-    put_contents(&mut image, object)?;
-    pad(&mut image, placement.segment_size as usize)?;
+    let placement = place(&object.text);
+    let parts = whole_parts(alloc, &object.text, &placement, entry)?;
+    let mut image = join(alloc, &parts)?;
+    patch_at(&mut image, placement.text_offset as usize, object);
     Ok(Bytes::from_vec(image)?)
 }

@@ -11,7 +11,7 @@ ghost use Rattle.mo_types.specs.declared.object_fault.ObjFault.{ObjFault};
 ghost use Rattle.link_engine.specs.declared.form.TextObject.{TextObject};
 ghost use Rattle.link_engine.specs.Causes.{Cause};
 ghost use Rattle.link_engine.specs.Image.{image_of, parts_of};
-ghost use Rattle.link_engine.specs.Joined.{IsJoined, LieApart, Parts, joined};
+ghost use Rattle.image_join.specs.Joined.{IsJoined, LieApart};
 ghost use Rattle.link_engine.specs.Object.{IsLinkable, IsLinked};
 ghost use Rattle.link_engine.specs.Patching.{ArePatched, IsApart, contents_of};
 ghost use Rattle.link_engine.specs.Reading.{text_object};
@@ -37,13 +37,6 @@ pub fn every_refusal_has_its_cause()
 pub fn what_is_linked_is_linkable()
     ensures linked { (bytes : List ℕ) (object : TextObject) → AreBytes bytes → text_object bytes ≡ Ok object → IsLinked object }
     ensures faults { (bytes : List ℕ) (fault : ObjFault) → text_object bytes ≡ Err fault → IsObjFault fault }
-{}
-
-/// Parts that rise without overlapping, and lie in a size, make up one image of this size: each part stands at its place,
-/// and zeros where no part is.
-pub fn parts_are_one_image()
-    ensures joined { (parts : Parts) → LieApart parts → IsJoined parts (joined parts) }
-    ensures only { (parts : Parts) (image : List ℕ) → IsJoined parts image → image ≡ joined parts }
 {}
 
 /// An image is its header with the load commands at its start, the section's contents at its place, and zeros

@@ -23,7 +23,7 @@ mod image;
 mod laws;
 mod names;
 mod one;
-mod patch;
+mod patching;
 mod plan;
 mod read;
 mod run;
@@ -32,8 +32,8 @@ mod words;
 mod write;
 
 pub use crate::laws::{
-    branches_have_their_distances, every_refusal_has_its_cause, parts_are_one_image,
-    parts_stand_at_their_places, what_is_linked_is_linkable,
+    branches_have_their_distances, every_refusal_has_its_cause, parts_stand_at_their_places,
+    what_is_linked_is_linkable,
 };
 use crate::plan::make_plan;
 use crate::run::{carry_out, ended};

@@ -1,18 +1,16 @@
-use Rattle.std.proofs.Common.{ap, length, ◌∙◌, arith}
-use Rattle.link_engine.proofs.ImageLemmas.{whole_image}
-use Rattle.link_engine.proofs.PartsLemmas.{put_image}
+use Rattle.std.proofs.Common.{◌∙◌, arith}
+use Rattle.link_engine.proofs.PartsLemmas.{patched_image, whole_ready}
+use Rattle.link_engine.proofs.PatchLemmas.{all_written}
 use Rattle.link_engine.proofs.image.image.Goals as goal
 
-pub pad-requires : goal.pad-requires
-pad-requires c = let none = ap length c.in_ok-image.ensures.items in omega (arith, c.in_ok-write_front.ensures.size)
-
-pub pad-requires-2 : goal.pad-requires-2
-pad-requires-2 c = omega (arith, c.in_ok-pad.ensures.size, c.in_ok-put_contents.ensures.size)
+pub patch_at-requires-clause-room : goal.patch_at-requires-clause-room
+patch_at-requires-clause-room c =
+    (whole_ready c.args.object.now.text c.place-placement.result c.in_ok-parts.parts c.args.entry c.deref_mut.result.now
+    c.requires.object.text.contents c.place-placement.ensures.exact c.in_ok-parts.ensures (c.deref_mut.ensures.value ∙ c.in_ok-image.ensures.joined)).room
 
 pub returns : goal.returns
 returns c =
     c.in_ok-from_vec.ensures
-    ∙ whole_image c.args.object.now c.args.entry c.place-placement.result _ _ _ _ _ c.place-placement.ensures.exact
-    c.in_ok-image.ensures.items c.in_ok-write_front.ensures.bytes c.in_ok-pad.ensures.zeros
-    c.in_ok-put_contents.ensures.bytes c.in_ok-pad-2.ensures.zeros
-    ∙ put_image c.args.object.now c.args.entry c.requires.object
+    ∙ all_written _ _ c.patch_at.new.image (omega (arith, c.deref_mut.ensures.len, c.patch_at.auto.image)) (omega (arith, c.deref_mut.ensures.len, c.patch_at.auto.image))
+    ∙ patched_image c.args.object.now c.place-placement.result c.in_ok-parts.parts c.args.entry c.deref_mut.result.now c.patch_at.new.image
+    c.requires.object c.place-placement.ensures.exact c.in_ok-parts.ensures (c.deref_mut.ensures.value ∙ c.in_ok-image.ensures.joined) c.patch_at.ensures

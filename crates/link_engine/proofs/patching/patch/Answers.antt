@@ -1,7 +1,7 @@
 use Rattle.std.proofs.Common.{arith}
 use Rattle.link_engine.proofs.BranchLemmas.{get_or_any}
 use Rattle.link_engine.proofs.PatchLemmas.{branch_there, one_patched, patching_goes_on}
-use Rattle.link_engine.proofs.patch.patch.Goals as goal
+use Rattle.link_engine.proofs.patching.patch.Goals as goal
 
 pub put_distance-requires : goal.put_distance-requires
 put_distance-requires c =
@@ -17,6 +17,6 @@ put_distance-requires c =
 pub loop-reloc-preserved : goal.loop-reloc-preserved
 loop-reloc-preserved c =
     let here = get_or_any c.args.relocs.now c.loop-reloc.reloc-index _ _ c.loop-reloc-test.true in
-    patching_goes_on c.args.text.now c.args.symbols.now c.args.start c.args.relocs.now c.args.image.now c.loop-reloc.reloc-index _ _ _
+    patching_goes_on c.args.text.now c.args.symbols.now c.args.relocs.now c.args.bytes.now c.loop-reloc.reloc-index _ _ _
     c.loop-reloc.invariant c.loop-reloc-test.true here
-    (one_patched c.args.text.now c.args.symbols.now c.args.start _ _ _ _ _ c.branch_target-target.ensures.value c.from-place.ensures c.put_distance.ensures)
+    (one_patched c.args.text.now c.args.symbols.now _ _ _ _ _ c.branch_target-target.ensures.value c.from-place.ensures c.put_distance.ensures)

@@ -53,24 +53,18 @@ fn put_distance(image: &mut [u8], at: usize, target: u64, place: u64)
     LittleEndian::write_u32(&mut image[at..], branch);
 }
 
-/// Patches the branches of a section whose bytes begin at `start`.
+/// Patches the branches in the bytes of a section.
 #[tactic(auto, using(crate::proofs::PatchLemmas::patches))]
-pub fn patch(
-    image: &mut [u8],
-    start: usize,
-    text: &Section,
-    symbols: &[Symbol],
-    relocs: &[RawReloc],
-)
-    requires room { start + text.now.size ≤ length image.old }
+pub fn patch(bytes: &mut [u8], text: &Section, symbols: &[Symbol], relocs: &[RawReloc])
+    requires room { text.now.size ≤ length bytes.old }
     requires text { IsText text.now }
     requires placed { ArePlaced text.now.address text.now.size symbols.now }
     requires branches { list_all (is_branch text.now symbols.now) relocs.now ≡ true }
-    ensures { image.new ≡ patched text.now symbols.now start relocs.now image.old }
+    ensures { bytes.new ≡ patched text.now symbols.now relocs.now bytes.old }
 {
     for reloc in relocs {
         let target = branch_target(text, symbols, reloc);
         let place = u64::from(reloc.address);
-        put_distance(image, start + reloc.address as usize, target, place);
+        put_distance(bytes, reloc.address as usize, target, place);
     }
 }
