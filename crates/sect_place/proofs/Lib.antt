@@ -6,3 +6,10 @@ pub mod Narrow
 pub mod Finish
 pub mod Sound
 pub mod Meaning
+pub mod Buckets
+pub mod Homes
+pub mod Gathering
+pub mod Ordering
+pub mod Low
+pub mod Listed
+pub mod Once

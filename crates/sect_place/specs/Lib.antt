@@ -2,4 +2,5 @@ pub mod Whole
 pub mod Arrangement
 pub mod Places
 pub mod Layout
+pub mod OutSections
 pub mod inner

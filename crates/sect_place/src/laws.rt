@@ -1,10 +1,16 @@
 //! What the definitions mean, each on a call that does nothing.
-ghost use Rattle.std.specs.Prelude.{◌≡◌, ℕ, ◌+◌, ◌*◌, ◌^◌, ◌≤◌, List, All, map};
+ghost use Rattle.std.specs.Prelude.{◌≡◌, ℕ, ◌+◌, ◌*◌, ◌^◌, ◌≤◌, ◌≢◌, List, All, Contains, Some, map};
 ghost use Rattle.std.specs.List.{AllPairs};
+ghost use Rattle.std.specs.List.Sorted.{IsStrictlySortedBy};
+ghost use Rattle.std.specs.Ordering.{on};
 ghost use Rattle.mo_bytes.specs.Rounding.{IsLeastMultiple};
 ghost use Rattle.mo_types.specs.declared.atom.Atom.{Atom};
-ghost use Rattle.tlv_plan.specs.Template.{stand};
+ghost use Rattle.mo_types.specs.Keys.{compare_keys};
+ghost use Rattle.mo_types.specs.declared.key.AtomKey.{AtomKey};
+ghost use Rattle.mo_types.specs.declared.loaded.LoadedFile.{LoadedFile};
+ghost use Rattle.tlv_plan.specs.Template.{keys_of, stand};
 ghost use Rattle.sect_place.specs.Layout.{Plan, image_stand, image_places, image_sections};
+ghost use Rattle.sect_place.specs.OutSections.{Home, home_of, out_sections};
 ghost use Rattle.sect_place.specs.Places.{AreLeast, places, part_from, page_up};
 ghost use Rattle.sect_place.specs.declared.layout.PlacedSection.{PlacedSection};
 ghost use Rattle.sect_place.specs.declared.part.Part.{Part};
@@ -33,4 +39,14 @@ pub fn places_are_least()
     ensures only { (at : ℕ) (atoms : List Atom) (places : List ℕ) → AreLeast at atoms places → places ≡ map (λ (p : Atom × ℕ). p.1) (stand at atoms) }
     ensures sections { (at : ℕ) (part : Part) → IsLeastMultiple (2 ^ part.section.align) at (part_from at part) }
     ensures segments { (at : ℕ) → IsLeastMultiple (2 ^ 14) at (page_up at) }
+{}
+
+/// Each atom of which the files have the section, or of a common symbol, is in a section of the image.
+pub fn each_kept_atom_is_listed()
+    ensures { (files : List LoadedFile) (kept : List Atom) (atom : Atom) (home : Home) → Contains kept atom → Some home ≡ home_of files atom.key.file atom.key.section → Contains (keys_of (out_sections files kept)) atom.key }
+{}
+
+/// No atom is in two sections of the image, nor twice in one, where the kept atoms rise.
+pub fn no_atom_is_listed_twice()
+    ensures { (files : List LoadedFile) (kept : List Atom) → IsStrictlySortedBy (on (λ (atom : Atom). atom.key) compare_keys) kept → AllPairs (λ (a : AtomKey) (b : AtomKey). a ≢ b) (keys_of (out_sections files kept)) }
 {}

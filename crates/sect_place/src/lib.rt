@@ -2,23 +2,33 @@
 #![tactic(auto)]
 
 mod arrange;
+mod gather;
+mod home;
 mod island;
 mod laws;
 mod layout;
+mod lead;
+mod listing;
 mod lookup;
+mod order;
 mod part;
 mod placing;
 mod size;
 #[cfg(test)]
 mod tests;
+mod to;
 mod walk;
 mod wide;
 
 pub use island::{AreaList, BranchTarget, BranchTargetList, IslandArea, IslandPlan, WayList};
-pub use laws::{atoms_stand_apart, places_are_least, sections_stand_apart};
+pub use laws::{
+    atoms_stand_apart, each_kept_atom_is_listed, no_atom_is_listed_twice, places_are_least,
+    sections_stand_apart,
+};
 pub use layout::{
     Layout, Placed, PlacedList, PlacedSection, PlacedSectionList, Segment, SegmentList,
 };
+pub use listing::out_sections;
 pub use lookup::address;
 pub use placing::place;
 pub use size::{PlaceFault, PlaceSizes};

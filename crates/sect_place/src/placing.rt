@@ -118,7 +118,7 @@ fn area_unit(sections: &[OutSection]) -> u8
 }
 
 // The larger of two numbers.
-fn larger(a: u8, b: u8) -> u8
+pub(crate) fn larger(a: u8, b: u8) -> u8
     ensures { result ≡ max a b }
 {
     if a < b { b } else { a }
