@@ -7,3 +7,4 @@ pub mod LeastLemmas
 pub mod ReadLemmas
 pub mod RoundLemmas
 pub mod AskLemmas
+pub mod AnswerLemmas

@@ -14,7 +14,7 @@ use Rattle.member_rounds.specs.Rounds.{asked_by, asked_ids, asks, files_of, is_f
 use Rattle.member_rounds.specs.declared.input.Input.{Input}
 use Rattle.member_rounds.proofs.GrowthLemmas.{has_from_in, in_from_has, round_closed, round_reason}
 
-in_filter_map : {X Y : Type 0} (f : X → Option Y) (xs : List X) (x : X) (y : Y) → In x xs → f x ≡ Some y → In y (filter_map f xs)
+pub in_filter_map : {X Y : Type 0} (f : X → Option Y) (xs : List X) (x : X) (y : Y) → In x xs → f x ≡ Some y → In y (filter_map f xs)
 in_filter_map f [] x y there is = absurd there
 in_filter_map {X = X} {Y = Y} f (z ∷ xs) x y there is = by (λ later. in_filter_map f xs x y later is) there (f z) refl
   where
@@ -24,7 +24,7 @@ in_filter_map {X = X} {Y = Y} f (z ∷ xs) x y there is = by (λ later. in_filte
     by rest (inr later) (Some v) o = rw o (inr (rest later))
     by rest (inr later) None o = rw o (rest later)
 
-from_filter_map : {X Y : Type 0} (f : X → Option Y) (xs : List X) (y : Y) → In y (filter_map f xs) → (x : X) × In x xs × (f x ≡ Some y)
+pub from_filter_map : {X Y : Type 0} (f : X → Option Y) (xs : List X) (y : Y) → In y (filter_map f xs) → (x : X) × In x xs × (f x ≡ Some y)
 from_filter_map f [] y there = absurd there
 from_filter_map {X = X} {Y = Y} f (z ∷ xs) y there = by (λ later. from_filter_map f xs y later) (f z) refl
   where

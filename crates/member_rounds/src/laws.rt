@@ -1,14 +1,15 @@
 //! What holds of races of names and of files that come round by round, each on a call that does nothing.
-ghost use Rattle.std.specs.Prelude.{◌≡◌, ℕ, ◌+◌, ◌<◌, ◌≤◌, ◌⊎◌, Bool, List, length, replicate, slice_get, slice_index, None, Some, Contains, true};
+ghost use Rattle.std.specs.Prelude.{◌≡◌, ℕ, ◌+◌, ◌<◌, ◌≤◌, ◌⊎◌, Bool, List, length, replicate, slice_get, slice_index, None, Ok, Some, Contains, true};
 ghost use Rattle.mo_types.specs.Candidates.{least, no_word};
 ghost use Rattle.mo_types.specs.declared.key.FileId.{FileId};
+ghost use Rattle.mo_types.specs.declared.loaded.Loaded.{Loaded};
 ghost use Rattle.mo_types.specs.declared.loaded.LoadedFile.{LoadedFile};
 ghost use Rattle.name_ids.specs.Names.{numbered};
 ghost use Rattle.race_core.specs.Run.{run};
 ghost use Rattle.member_rounds.specs.Growth.{after, union};
 ghost use Rattle.member_rounds.specs.Offers.{bids_of};
-ghost use Rattle.member_rounds.specs.Files.{all_ids};
-ghost use Rattle.member_rounds.specs.Rounds.{asked_by, files_of, is_first, is_header, loaded_ids, missing_names, round};
+ghost use Rattle.member_rounds.specs.Files.{all_ids, file_of};
+ghost use Rattle.member_rounds.specs.Rounds.{asked_by, files_of, is_first, is_header, loaded_ids, loaded_of, missing_names, round};
 ghost use Rattle.member_rounds.specs.declared.input.Input.{Input};
 ghost use Rattle.lib_bind.specs.Provides.{offer_of};
 ghost use Rattle.lib_bind.specs.declared.library.LibraryGraph.{LibraryGraph};
@@ -70,4 +71,10 @@ pub fn a_library_before_takes_the_name()
 #[tactic(auto, using(crate::proofs::RoundLemmas::loads))]
 pub fn headers_ask_nobody()
     ensures { (inputs : List Input) (libs : LibraryGraph) (name : List ℕ) → is_header name ≡ true → asked_by inputs libs name ≡ None }
+{}
+
+/// Where a link has an answer, each file of all rounds could be read and is in it, and nothing else is.
+pub fn what_is_loaded_could_be_read()
+    ensures all { (inputs : List Input) (libs : LibraryGraph) (wanted : List (List ℕ)) (loaded : Loaded) (id : FileId) → loaded_of inputs libs wanted ≡ Ok loaded → Contains (loaded_ids inputs libs wanted) id → (file : LoadedFile) × (file_of inputs id ≡ Ok file) × Contains loaded.files file }
+    ensures only { (inputs : List Input) (libs : LibraryGraph) (wanted : List (List ℕ)) (loaded : Loaded) (file : LoadedFile) → loaded_of inputs libs wanted ≡ Ok loaded → Contains loaded.files file → (id : FileId) × Contains (loaded_ids inputs libs wanted) id × (file_of inputs id ≡ Ok file) }
 {}
