@@ -1,7 +1,15 @@
+pub mod AskingLemmas
+pub mod BindingLemmas
 pub mod CheckedLemmas
+pub mod ChoosingLemmas
+pub mod ClosingLemmas
+pub mod EndLemmas
 pub mod FillLemmas
+pub mod GrowingLemmas
 pub mod IndexLemmas
 pub mod LawLemmas
 pub mod ReachLemmas
 pub mod ReachedLemmas
+pub mod SoughtLemmas
+pub mod StepLemmas
 pub mod WholeLemmas

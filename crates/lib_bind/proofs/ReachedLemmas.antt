@@ -1,12 +1,12 @@
 -- Documents that are looked at one by one, for the library that reaches them.
-use Rattle.std.proofs.Common.{◌≡◌, ◌≢◌, ℕ, ◌+◌, ◌<◌, ◌≤◌, ◌⊎◌, Bool, true, false, ◌&&◌, ◌||◌, nat_eq, List, [], ◌∷◌, ◌++◌, length, take, get_or, slice_get, Contains, Option, None, Some, IsSome, refl, sym, ap, subst, ◌∙◌, inl, inr, arith}
-use Rattle.std.specs.Prelude.{bytes_eq, is_some, zip, if◌then◌else◌}
+use Rattle.std.proofs.Common.{◌≡◌, ℕ, ◌+◌, ◌<◌, ◌≤◌, ◌⊎◌, Bool, true, false, ◌&&◌, ◌||◌, nat_eq, List, [], ◌∷◌, ◌++◌, length, take, get_or, slice_get, Contains, Option, None, Some, IsSome, refl, sym, ap, subst, ◌∙◌, inl, inr, arith}
+use Rattle.std.specs.Prelude.{bytes_eq, is_some, zip}
 use Rattle.std.specs.List.{list_any}
 use Rattle.std.proofs.lemmas.List.{get_or_default, take_all, take_more}
 use Rattle.std.proofs.lemmas.List.Elements.{Contains-push}
 use Rattle.std.proofs.lemmas.Slice.Zip.{get_or-zip, length-zip}
 use Rattle.std.proofs.lemmas.Option.{slice_get-get_or}
-use Rattle.list_lemmas.proofs.Members.{In, in_from_Contains, Contains_from_in, any_from_in, any_true}
+use Rattle.list_lemmas.proofs.Members.{In, in_from_Contains, Contains_from_in, any_from_in}
 use Rattle.mo_types.specs.Scan.{first_some, option_or_else}
 use Rattle.tbd_doc.specs.declared.stub.Export.{Export}
 use Rattle.tbd_doc.specs.declared.stub.Stub.{Stub}
@@ -17,7 +17,7 @@ use Rattle.lib_bind.specs.declared.library.Library.{Library}
 use Rattle.lib_bind.specs.declared.provider.Offer.{Offer}
 use Rattle.lib_bind.specs.inner.Filling.{Covers, IsBefore, merged}
 use Rattle.lib_bind.specs.inner.Index.{known}
-use Rattle.lib_bind.proofs.FillLemmas.{and_left, any_next, merged_none, step, weaker_any, whole}
+use Rattle.lib_bind.proofs.FillLemmas.{and_left, any_next, merged_none, step, weaker_any}
 
 -- a document that lists a name as weak exports it
 weak_exported : (name : List ℕ) (document : Stub) → weakens name document ≡ true → exports name document ≡ true

@@ -1,12 +1,12 @@
 -- What is found of libraries is what they reach and provide.
-use Rattle.std.proofs.Common.{◌≡◌, ℕ, ◌+◌, ◌<◌, ◌≤◌, ◌⊎◌, List, [], length, get_or, slice_get, Contains, refl, sym, ap, subst, ◌∙◌, inl, inr, arith}
+use Rattle.std.proofs.Common.{◌≡◌, ℕ, ◌<◌, ◌≤◌, ◌⊎◌, List, [], length, get_or, Contains, sym, ap, subst, ◌∙◌, inl, inr, arith}
 use Rattle.std.specs.Prelude.{zip}
 use Rattle.std.proofs.Math.ListN.{get_or-eq_default}
 use Rattle.std.proofs.lemmas.Option.{slice_get-get_or}
 use Rattle.list_lemmas.proofs.Members.{in_from_Contains}
 use Rattle.mo_types.specs.Scan.{first_some}
 use Rattle.tbd_doc.specs.declared.stub.Stub.{Stub}
-use Rattle.lib_bind.specs.Graph.{AreLibraries, AreLinks, AreReaches, IsWhole}
+use Rattle.lib_bind.specs.Graph.{AreLibraries, AreLinks, AreReaches}
 use Rattle.lib_bind.specs.Provides.{offer_by, offer_of}
 use Rattle.lib_bind.specs.declared.index.NameIndex.{NameIndex}
 use Rattle.lib_bind.specs.declared.library.Library.{Library}

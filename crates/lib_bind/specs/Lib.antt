@@ -1,4 +1,9 @@
+pub mod Asking
+pub mod Closing
+pub mod Closure
+pub mod Found
 pub mod Graph
+pub mod Named
 pub mod Paths
 pub mod Provides
 pub mod Reexported

@@ -7,8 +7,13 @@ use Rattle.mo_cmd.specs.Paths.{root_or_empty}
 abbrev pub stem_of : List ℕ → List ℕ
 stem_of install = if ends_with nat_eq install (codes ".dylib") then take (length install - 6) install else install
 
--- under the root, which is empty where there is none: the stub library that takes the place of the library, and then the
--- install name as it stands
+-- under the root, which is empty where there is none, the stub library that takes the place of the library
+abbrev pub stub_path : Option (List ℕ) → List ℕ → List ℕ
+stub_path root install = root_or_empty root ++ stem_of install ++ codes ".tbd"
+
+-- under the root, the install name as it stands
+abbrev pub plain_path : Option (List ℕ) → List ℕ → List ℕ
+plain_path root install = root_or_empty root ++ install
+
 abbrev pub reexport_paths : Option (List ℕ) → List ℕ → List (List ℕ)
-reexport_paths root install =
-    (root_or_empty root ++ stem_of install ++ codes ".tbd") ∷ (root_or_empty root ++ install) ∷ []
+reexport_paths root install = stub_path root install ∷ plain_path root install ∷ []

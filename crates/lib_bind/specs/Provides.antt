@@ -1,5 +1,5 @@
 -- Which library provides a name.
-use Rattle.std.specs.Prelude.{ℕ, ◌≡◌, ◌+◌, ◌<◌, ◌↔◌, ◌&&◌, Bool, IsTrue, List, [], ◌∷◌, get_or, slice_get, zip, Option, None, Some, option_map, bytes_eq, if◌then◌else◌}
+use Rattle.std.specs.Prelude.{ℕ, ◌≡◌, ◌+◌, ◌<◌, ◌↔◌, ◌&&◌, Bool, IsTrue, List, [], get_or, slice_get, zip, Option, None, Some, option_map, bytes_eq, if◌then◌else◌}
 use Rattle.std.specs.List.{list_any}
 use Rattle.mo_types.specs.Scan.{first_some}
 use Rattle.tbd_doc.specs.declared.stub.Stub.{Stub}

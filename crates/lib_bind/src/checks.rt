@@ -5,8 +5,8 @@ ghost use Rattle.lib_bind.specs.inner.Checked.{IsNext};
 
 use crate::library::{Library, NumberList};
 
-// The most libraries whose ordinals aren't special ones (`loader.h`: BIND_SPECIAL_DYLIB).
-const MOST: usize = 240;
+/// The most libraries whose ordinals aren't special ones (`loader.h`: BIND_SPECIAL_DYLIB).
+pub(crate) const MOST: usize = 240;
 
 // Whether all numbers are below one.
 fn are_below(numbers: &[usize], end: usize) -> bool

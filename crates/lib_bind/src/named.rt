@@ -1,3 +1,6 @@
+ghost use Rattle.std.specs.Prelude.{◌≡◌};
+ghost use Rattle.lib_bind.specs.Named as spec;
+
 use mo_types::{Bytes, Items};
 use tbd_doc::StubFile;
 
@@ -13,3 +16,26 @@ pub struct NamedStub {
 
 /// The stub libraries of a command line, by rising position.
 pub type StubFileList = Items<NamedStub>;
+
+// Whether a stub library has a position from one on, which is below a number of inputs, and a document.
+fn is_next(inputs: usize, least: usize, named: &NamedStub) -> bool
+    ensures { result ≡ spec.is_next inputs least named.now }
+{
+    let position = usize::from(named.position);
+    least <= position && position < inputs && named.file.docs.len() > 0
+}
+
+/// Whether the positions rise and are below a number of inputs, and each of the files has a document. Takes no memory.
+#[tactic(auto, using(crate::proofs::ClosingLemmas::naming))]
+pub fn are_named(inputs: usize, named: &[NamedStub]) -> bool
+    ensures { result ≡ spec.are_named inputs 0 named.now }
+{
+    let mut least = 0;
+    for stub in named {
+        if !is_next(inputs, least, stub) {
+            return false;
+        }
+        least = usize::from(stub.position) + 1;
+    }
+    true
+}

@@ -49,6 +49,28 @@ fn path_under(alloc: Global, root: &[u8], name: &[u8]) -> Result<Bytes, OutOfMem
     Ok(Bytes::from_vec(path)?)
 }
 
+/// The path of the stub library that takes the place of one with this install name.
+pub(crate) fn stub_path_of(
+    alloc: Global,
+    command: &Command,
+    install: &[u8],
+) -> Result<Bytes, OutOfMemory>
+    ensures { IfOk result (λ path. path ≡ paths.stub_path command.now.syslibroot install.now) }
+{
+    stub_path(alloc, root_of(command), stem_of(install))
+}
+
+/// The path that is the install name as it stands.
+pub(crate) fn plain_path_of(
+    alloc: Global,
+    command: &Command,
+    install: &[u8],
+) -> Result<Bytes, OutOfMemory>
+    ensures { IfOk result (λ path. path ≡ paths.plain_path command.now.syslibroot install.now) }
+{
+    path_under(alloc, root_of(command), install)
+}
+
 /// The paths to try for a library that another one re-exports by this install name, in order: under the root (ld(1):
 /// `-syslibroot`) the stub library whose ending takes the place of a final `.dylib`, or is added, and then the install
 /// name as it stands.
@@ -59,9 +81,8 @@ pub fn reexport_paths(
 ) -> Result<NameList, OutOfMemory>
     ensures { IfOk result (λ found. found ≡ paths.reexport_paths command.now.syslibroot install.now) }
 {
-    let root = root_of(command);
     let mut found = Items::new(alloc);
-    found.push(stub_path(alloc, root, stem_of(install))?)?;
-    found.push(path_under(alloc, root, install)?)?;
+    found.push(stub_path_of(alloc, command, install)?)?;
+    found.push(plain_path_of(alloc, command, install)?)?;
     Ok(found)
 }

@@ -1,4 +1,4 @@
-use Rattle.std.proofs.Common.{◌≡◌, ◌&&◌, sym}
+use Rattle.std.proofs.Common.{◌&&◌, sym}
 use Rattle.std.specs.Prelude.{bytes_eq}
 use Rattle.lib_bind.proofs.FillLemmas.{and_left, merged_none, step, whole}
 use Rattle.lib_bind.proofs.fill.add_exports.Goals as goal

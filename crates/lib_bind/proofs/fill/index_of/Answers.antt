@@ -1,4 +1,4 @@
-use Rattle.std.proofs.Common.{◌≡◌, ℕ, ◌<◌, List, [], length, get_or, Contains, refl, sym, ap, subst, ◌∙◌, arith}
+use Rattle.std.proofs.Common.{◌≡◌, ℕ, ◌<◌, List, [], length, get_or, Contains, ap, subst, ◌∙◌, arith}
 use Rattle.std.specs.Prelude.{zip}
 use Rattle.std.proofs.lemmas.List.{get_or_default, take_all}
 use Rattle.mo_types.specs.Scan.{first_some}

@@ -1,8 +1,6 @@
-use Rattle.std.proofs.Common.{◌≡◌, ℕ, ◌<◌, ◌≤◌, List, [], length, get_or, nat_eq, sym, ap, subst, ◌∙◌, arith}
+use Rattle.std.proofs.Common.{ℕ, ◌<◌, ◌≤◌, List, length, nat_eq, ap, subst, ◌∙◌, arith}
 use Rattle.std.specs.List.{IsDistinct}
-use Rattle.std.proofs.lemmas.List.{get_or_default}
 use Rattle.indexmap.specs.IndexSet.{insert_all}
-use Rattle.lib_bind.specs.Graph.{linked}
 use Rattle.lib_bind.proofs.ReachLemmas.{among, ends_as, few, next, reached_below}
 use Rattle.lib_bind.proofs.reach.reached.Goals as goal
 

@@ -1,0 +1,231 @@
+//! What libraries re-export, breadth first.
+ghost use Rattle.std.specs.Prelude.{◌≡◌, ◌<◌, ◌++◌, [], ◌∷◌, get_or, set, length, IfOk, OnOk};
+ghost use Rattle.lib_bind.specs.Asking.{Asking, seen};
+ghost use Rattle.lib_bind.specs.Closing as spec;
+ghost use Rattle.lib_bind.specs.Closing.{asked_in};
+ghost use Rattle.lib_bind.specs.Closure.{IsClosing};
+
+use crate::bind_fault::BindFault;
+use crate::by_name::ByName;
+use crate::growing::{Growing, Reexport, nothing, with_file};
+use crate::library::{Library, LinkList, NumberList};
+use crate::number_set::NumberSet;
+use crate::sought::{Target, target_of};
+use mo_cmd::Command;
+use mo_outside::Files;
+use mo_types::{Items, OutOfMemory};
+use std::alloc::Global;
+use tbd_doc::StubFile;
+
+/// A library that is to be found for a document that re-exports it.
+#[derive(Drop)]
+pub struct Request {
+    pub from: usize,
+    pub reexport: Reexport,
+}
+
+/// Documents of which some were reached.
+#[derive(Drop)]
+pub struct Closing {
+    pub growing: Growing,
+    /// The documents that were reached, in their order.
+    pub reached: NumberSet,
+    /// What they re-export, in that order.
+    pub work: Items<Request>,
+}
+
+// Requests, and then those of a document.
+#[tactic(auto, using(crate::proofs::GrowingLemmas::maps))]
+fn with_requests(
+    from: usize,
+    reexports: &[Reexport],
+    before: Items<Request>,
+) -> Result<Items<Request>, OutOfMemory>
+    ensures { IfOk result (λ all. all ≡ before ++ spec.requests_of from reexports.now) }
+{
+    let mut all = before;
+    for reexport in reexports {
+        all.push(Request {
+            from,
+            reexport: Reexport {
+                install: reexport.install.clone()?,
+                here: reexport.here,
+            },
+        })?;
+    }
+    Ok(all)
+}
+
+// Reaches a document.
+#[tactic(auto, unfolding(crate::specs::Closing::reach))]
+fn reach(to: usize, closing: Closing) -> Result<Closing, OutOfMemory>
+    ensures { IfOk result (λ new. new ≡ spec.reach to closing) }
+{
+    let Closing {
+        growing,
+        mut reached,
+        work,
+    } = closing;
+    let Some(reexports) = growing.reexports.get(to) else {
+        return Err(OutOfMemory);
+    };
+    let work = if reached.insert(to)? {
+        with_requests(to, reexports.as_slice(), work)?
+    } else {
+        work
+    };
+    Ok(Closing {
+        growing,
+        reached,
+        work,
+    })
+}
+
+fn add_link(links: &mut NumberList, to: usize) -> Result<(), OutOfMemory>
+    ensures { OnOk result (links.new ≡ links.old ++ to ∷ []) }
+{
+    links.push(to)
+}
+
+// Links with one more, of a document that has a list of them.
+fn with_link_in(from: usize, to: usize, links: LinkList) -> Result<LinkList, OutOfMemory>
+    ensures { IfOk result (λ new. new ≡ set links from (get_or links from [] ++ to ∷ [])) }
+{
+    let mut links = links.into_vec();
+    if from >= links.len() {
+        return Err(OutOfMemory);
+    }
+    add_link(&mut links[from], to)?;
+    Ok(Items::from_vec(links))
+}
+
+fn with_link(from: usize, to: usize, growing: Growing) -> Result<Growing, OutOfMemory>
+    ensures { IfOk result (λ new. new ≡ spec.with_link from to growing) }
+{
+    let Growing {
+        documents,
+        reexports,
+        links,
+        known,
+    } = growing;
+    Ok(Growing {
+        documents,
+        reexports,
+        links: with_link_in(from, to, links)?,
+        known,
+    })
+}
+
+// A document is found to be re-exported by another one.
+fn linked(
+    from: usize,
+    there: Target,
+    reached: NumberSet,
+    work: Items<Request>,
+) -> Result<Closing, OutOfMemory>
+    ensures { IfOk result (λ new. new ≡ spec.linked from reached work there) }
+{
+    let Target { document, growing } = there;
+    let growing = with_link(from, document, growing)?;
+    reach(
+        document,
+        Closing {
+            growing,
+            reached,
+            work,
+        },
+    )
+}
+
+// The documents of the files of libraries.
+fn with_files(
+    alloc: Global,
+    heads: &ByName<usize>,
+    files: Items<StubFile>,
+) -> Result<Growing, OutOfMemory>
+    ensures { IfOk result (λ growing. growing ≡ spec.with_files heads.now files spec.nothing) }
+{
+    let mut growing = nothing(alloc);
+    for file in files.into_vec() {
+        growing = with_file(alloc, heads, file.docs, growing)?;
+    }
+    Ok(growing)
+}
+
+// Reaches the own documents of libraries.
+fn reach_all(libraries: &[Library], before: Closing) -> Result<Closing, OutOfMemory>
+    ensures { IfOk result (λ closing. closing ≡ spec.reach_all libraries.now before) }
+{
+    let mut closing = before;
+    for library in libraries {
+        closing = reach(library.document, closing)?;
+    }
+    Ok(closing)
+}
+
+/// The documents of libraries, of which their own were reached.
+pub fn begun(
+    alloc: Global,
+    libraries: &[Library],
+    heads: &ByName<usize>,
+    files: Items<StubFile>,
+) -> Result<Closing, OutOfMemory>
+    ensures { IfOk result (λ closing. closing ≡ spec.begun libraries.now heads.now files) }
+{
+    let growing = with_files(alloc, heads, files)?;
+    reach_all(
+        libraries,
+        Closing {
+            growing,
+            reached: NumberSet::new(alloc),
+            work: Items::new(alloc),
+        },
+    )
+}
+
+// Meets the request at a place.
+#[tactic(auto, unfolding(crate::specs::Closing::step))]
+fn step<F: Files>(
+    alloc: Global,
+    command: &Command,
+    files: &mut F,
+    heads: &ByName<usize>,
+    at: usize,
+    closing: Closing,
+) -> Result<Closing, BindFault>
+    requires { at < length closing.work }
+    ensures asking { Asking F.answers (asked_in closing.growing) (λ new. asked_in new.growing) result (λ look. spec.step look command.now.syslibroot heads.now at closing)
+        (seen F.holds F.asked F.faults files.old) (seen F.holds F.asked F.faults files.new) }
+{
+    let Closing {
+        growing,
+        reached,
+        work,
+    } = closing;
+    let request = &work.as_slice()[at];
+    let from = request.from;
+    let there = target_of(alloc, command, files, heads, &request.reexport, growing)?;
+    Ok(linked(from, there, reached, work)?)
+}
+
+/// Meets all requests, and those that they lead to, in their order.
+pub fn closed<F: Files>(
+    alloc: Global,
+    command: &Command,
+    files: &mut F,
+    heads: &ByName<usize>,
+    start: Closing,
+) -> Result<Closing, BindFault>
+    requires { start.growing.known ≡ [] }
+    ensures closing { IsClosing F.answers command.now.syslibroot heads.now start result (seen F.holds F.asked F.faults files.old) (seen F.holds F.asked F.faults files.new) }
+{
+    let mut closing = start;
+    for at in 0..usize::MAX {
+        if at >= closing.work.len() {
+            return Ok(closing);
+        }
+        closing = step(alloc, command, files, heads, at, closing)?;
+    }
+    // No list has so many elements.
+    Err(BindFault::OutOfMemory)
+}
