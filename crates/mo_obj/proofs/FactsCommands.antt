@@ -11,6 +11,7 @@ use Rattle.mo_obj.specs.Parts.{commands_in, frame_in, header_in, places_from, se
 use Rattle.mo_obj.specs.Rules.{IsBadSegment, IsBrokenCommand, IsBrokenSegment, IsIn, IsLaterIn}
 use Rattle.mo_obj.proofs.FactsLeast.{Climbs, IsLeast, IsPassing, both_ways, filter_climbs, later_least, least_alike, least_of_two, not_below, passing_least}
 use Rattle.mo_obj.proofs.FactsRules.{Holds, IsReadBelow, Tells, kept, one_more}
+use Rattle.mo_format.specs.declared.loader.TheConstants.{LC_SEGMENT_64, LC_SYMTAB}
 
 pub below : (n m : ℕ) → true ≡ nat_lt n m → n < m
 below n m is = search tests
@@ -128,8 +129,8 @@ segment_least bytes = least_of_two
     (least_alike (IsBadOf bytes (segments_in bytes)) (λ p. IsBrokenSegment bytes p ⊎ IsLaterIn (segments_in bytes) p) (bad_segment bytes (segments_in bytes))
     (λ p bad. ⊎_elim (λ has. inl (record { segment = has.0; broken = has.1 })) (λ later. inr later) bad)
     (λ p bad. ⊎_elim (λ has. inl (has.segment, has.broken)) (λ later. inr later) bad)
-    (bad_segment_least bytes 32 (segments_in bytes) (kind_climbs bytes 0x19)))
-    (later_least 32 (symtabs_in bytes) (kind_climbs bytes 0x2))
+    (bad_segment_least bytes 32 (segments_in bytes) (kind_climbs bytes LC_SEGMENT_64)))
+    (later_least 32 (symtabs_in bytes) (kind_climbs bytes LC_SYMTAB))
 
 pub frame_told : (bytes : List ℕ) → Holds bytes 2 → Tells bytes (IsReadBelow bytes 3 (frame_in bytes)) (frame_of bytes (commands_in bytes))
 unfolding frame_of frame_in

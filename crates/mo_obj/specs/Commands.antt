@@ -8,6 +8,7 @@ use Rattle.mo_types.specs.declared.object_fault.ObjFault.{ObjFault}
 use Rattle.mo_types.specs.declared.object_fault.ObjFault.TheVariants.{Malformed}
 use Rattle.mo_format.specs.Segment.{segment_command_at}
 use Rattle.mo_format.specs.declared.header.MachHeader.{MachHeader}
+use Rattle.mo_format.specs.declared.loader.TheConstants.{LC_SEGMENT_64, LC_SYMTAB}
 use Rattle.mo_format.specs.declared.segment.SegmentCommand.{SegmentCommand}
 use Rattle.mo_obj.specs.Faults.{keeps}
 use Rattle.mo_obj.specs.declared.commands.Frame.{Frame}
@@ -46,10 +47,10 @@ commands_of_kind bytes kind commands = filter (is_command bytes kind) commands
 
 -- LC_SEGMENT_64, LC_SYMTAB
 abbrev pub segments : List ℕ → List ℕ → List ℕ
-segments bytes commands = commands_of_kind bytes 0x19 commands
+segments bytes commands = commands_of_kind bytes LC_SEGMENT_64 commands
 
 abbrev pub symtabs : List ℕ → List ℕ → List ℕ
-symtabs bytes commands = commands_of_kind bytes 0x2 commands
+symtabs bytes commands = commands_of_kind bytes LC_SYMTAB commands
 
 -- the segment at a place
 abbrev pub segment_at : List ℕ → ℕ → Option SegmentCommand

@@ -1,7 +1,8 @@
 -- What an object may have that the linker doesn't.
-use Rattle.std.specs.Prelude.{ℕ, ◌==◌, ◌&&◌, ◌||◌, Bool, false, not, nat_lt, nat_eq, bit_and, List, codes, Option, Some, None, if◌then◌else◌}
+use Rattle.std.specs.Prelude.{ℕ, ◌==◌, ◌&&◌, ◌||◌, Bool, false, not, nat_lt, nat_eq, bit_and, nat_le, List, codes, Option, Some, None, if◌then◌else◌}
 use Rattle.std.specs.List.{list_any, starts_with}
 use Rattle.std.specs.Str.{bytes_eq}
+use Rattle.mo_format.specs.declared.loader.TheConstants.{S_16BYTE_LITERALS, S_8BYTE_LITERALS, S_ATTR_PURE_INSTRUCTIONS, S_MOD_INIT_FUNC_POINTERS, S_REGULAR, S_THREAD_LOCAL_REGULAR, S_THREAD_LOCAL_VARIABLES, S_THREAD_LOCAL_ZEROFILL}
 use Rattle.mo_types.specs.RelocationRules.{is_absolute}
 use Rattle.mo_types.specs.Whole.{is_dropped, is_zerofill}
 use Rattle.mo_types.specs.declared.cause.Feature.{Feature}
@@ -12,12 +13,12 @@ use Rattle.mo_types.specs.declared.object.Symbol.{Symbol}
 use Rattle.mo_types.specs.declared.object.SymbolKind.{SymbolKind}
 use Rattle.mo_types.specs.declared.object.SymbolKind.TheVariants.{Common}
 
--- The types of sections that are linked (`loader.h`): S_REGULAR 0, S_ZEROFILL 1, S_CSTRING_LITERALS 2, literals
--- of 4, 8 and 16 bytes 3, 4 and 0xe, S_MOD_INIT_FUNC_POINTERS 9, and S_THREAD_LOCAL_REGULAR 0x11,
--- S_THREAD_LOCAL_ZEROFILL 0x12, S_THREAD_LOCAL_VARIABLES 0x13.
+-- The types of sections that are linked (`loader.h`): from S_REGULAR to S_8BYTE_LITERALS S_ZEROFILL,
+-- S_CSTRING_LITERALS and S_4BYTE_LITERALS stand too
 abbrev pub is_linked_type : ℕ → Bool
 is_linked_type kind =
-    nat_lt kind 5 || kind == 9 || kind == 0xe || kind == 0x11 || kind == 0x12 || kind == 0x13
+    nat_le kind S_8BYTE_LITERALS || kind == S_MOD_INIT_FUNC_POINTERS || kind == S_16BYTE_LITERALS || kind == S_THREAD_LOCAL_REGULAR
+    || kind == S_THREAD_LOCAL_ZEROFILL || kind == S_THREAD_LOCAL_VARIABLES
 
 abbrev pub is_in : List ℕ → Section → Bool
 is_in segment section = bytes_eq section.segment segment
@@ -36,16 +37,16 @@ abbrev pub is_overaligned_common : SymbolKind → Bool
 is_overaligned_common (Common size align) = nat_lt 14 align
 is_overaligned_common _ = false
 
--- S_ATTR_PURE_INSTRUCTIONS
 abbrev pub is_code : Section → Bool
-is_code section = not (bit_and section.attributes 0x80000000 == 0)
+is_code section = not (bit_and section.attributes S_ATTR_PURE_INSTRUCTIONS == 0)
 
 -- code outside `__TEXT`, or of another type than S_REGULAR
 abbrev pub is_odd_code : Section → Bool
-is_odd_code section = is_code section && (not (is_in (codes "__TEXT") section) || not (section.kind == 0))
+is_odd_code section = is_code section && (not (is_in (codes "__TEXT") section) || not (section.kind == S_REGULAR))
 
 abbrev pub is_thread_local : Section → Bool
-is_thread_local section = section.kind == 0x11 || section.kind == 0x12 || section.kind == 0x13
+is_thread_local section =
+    section.kind == S_THREAD_LOCAL_REGULAR || section.kind == S_THREAD_LOCAL_ZEROFILL || section.kind == S_THREAD_LOCAL_VARIABLES
 
 -- a segment of the linker's own, or thread-local variables outside `__DATA`
 abbrev pub has_odd_segment : Section → Bool

@@ -6,14 +6,13 @@ use Rattle.mo_types.specs.declared.object_fault.ObjFault.{ObjFault}
 use Rattle.mo_types.specs.declared.object_fault.ObjFault.TheVariants.{Malformed, Unsupported}
 use Rattle.mo_format.specs.Header.{mach_header_at}
 use Rattle.mo_format.specs.declared.header.MachHeader.{MachHeader}
+use Rattle.mo_format.specs.declared.loader.TheConstants.{CPU_SUBTYPE_ARM64_ALL, CPU_TYPE_ARM64, MH_OBJECT}
 
--- CPU_TYPE_ARM64 and CPU_SUBTYPE_ARM64_ALL
 abbrev pub is_arm64 : MachHeader → Bool
-is_arm64 header = header.cputype == 0x0100000c && header.cpusubtype == 0
+is_arm64 header = header.cputype == CPU_TYPE_ARM64 && header.cpusubtype == CPU_SUBTYPE_ARM64_ALL
 
--- MH_OBJECT
 abbrev pub is_relocatable : MachHeader → Bool
-is_relocatable header = header.filetype == 1
+is_relocatable header = header.filetype == MH_OBJECT
 
 -- the header, where the file is an arm64 object
 unfoldable pub header_of : List ℕ → Result MachHeader ObjFault

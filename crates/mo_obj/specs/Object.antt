@@ -9,6 +9,7 @@ use Rattle.mo_types.specs.declared.object_fault.ObjFault.TheVariants.{Unsupporte
 use Rattle.mo_types.specs.declared.object.Object.{Object}
 use Rattle.mo_types.specs.declared.object.Section.{Section}
 use Rattle.mo_format.specs.declared.header.MachHeader.{MachHeader}
+use Rattle.mo_format.specs.declared.loader.TheConstants.{MH_SUBSECTIONS_VIA_SYMBOLS}
 use Rattle.mo_obj.specs.Commands.{commands_of, frame_of}
 use Rattle.mo_obj.specs.Features.{first_feature}
 use Rattle.mo_obj.specs.Header.{header_of}
@@ -18,9 +19,8 @@ use Rattle.mo_obj.specs.Symbols.{symtab_of, symbols_of, any_foreign}
 use Rattle.mo_obj.specs.declared.Described.{Described}
 use Rattle.mo_obj.specs.declared.commands.Frame.{Frame}
 
--- MH_SUBSECTIONS_VIA_SYMBOLS
 abbrev pub may_be_cut : MachHeader → Bool
-may_be_cut header = not (bit_and header.flags 0x2000 == 0)
+may_be_cut header = not (bit_and header.flags MH_SUBSECTIONS_VIA_SYMBOLS == 0)
 
 -- the sections, which keep the rules Section and Relocations
 unfoldable pub checked_sections : List ℕ → Frame → Result (List Section) ObjFault

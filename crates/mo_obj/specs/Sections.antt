@@ -9,6 +9,7 @@ use Rattle.mo_types.specs.declared.object.RawReloc.{RawReloc}
 use Rattle.mo_types.specs.declared.object.Section.{Section}
 use Rattle.mo_format.specs.Relocation.{relocation_info_at}
 use Rattle.mo_format.specs.Segment.{section_header_at}
+use Rattle.mo_format.specs.declared.loader.TheConstants.{SECTION_ATTRIBUTES, SECTION_TYPE}
 use Rattle.mo_format.specs.declared.relocation.RelocationInfo.{RelocationInfo}
 use Rattle.mo_format.specs.declared.segment.SectionHeader.{SectionHeader}
 use Rattle.mo_obj.specs.Each.{Each}
@@ -29,7 +30,7 @@ headers_of bytes frame = map (header_at bytes frame) (range_with_len 0 frame.cou
 
 -- the section's type, in the low 8 bits of the flags
 abbrev pub type_of : SectionHeader → ℕ
-type_of header = bit_and header.flags 0xff
+type_of header = bit_and header.flags SECTION_TYPE
 
 -- Section: contents outside a file of a size, or addresses that reach 2^63
 abbrev pub is_outside : ℕ → SectionHeader → Bool
@@ -85,7 +86,7 @@ aligned bytes header align = record {
   size = header.size;
   align = align;
   kind = type_of header;
-  attributes = bit_and header.flags 0xffffff00;
+  attributes = bit_and header.flags SECTION_ATTRIBUTES;
   file_offset = header.offset;
   reloc_offset = header.reloff;
   bytes = contents_of bytes header;

@@ -13,6 +13,7 @@ use Rattle.mo_types.specs.declared.object.Symbol.{Symbol}
 use Rattle.mo_types.specs.declared.object.SymbolKind.{SymbolKind}
 use Rattle.mo_types.specs.declared.object.SymbolKind.TheVariants.{Undefined, Common, Defined, Absolute, Passed}
 use Rattle.mo_format.specs.Symbol.{symtab_command_at, nlist_at}
+use Rattle.mo_format.specs.declared.nlist.TheConstants.{N_ABS, N_ALT_ENTRY, N_EXT, N_NO_DEAD_STRIP, N_PEXT, N_SECT, N_STAB, N_SYMBOL_RESOLVER, N_TYPE, N_UNDF, N_WEAK_DEF, N_WEAK_REF}
 use Rattle.mo_format.specs.declared.symbol.SymtabCommand.{SymtabCommand}
 use Rattle.mo_format.specs.declared.symbol.Nlist.{Nlist}
 use Rattle.mo_strings.specs.Strings.{string_at}
@@ -54,21 +55,21 @@ strings_of bytes symtab = part bytes symtab.stroff symtab.strsize
 abbrev pub has : ℕ → ℕ → Bool
 has word mask = not (bit_and word mask == 0)
 
--- a debugging entry, whose other fields mean something else (N_STAB)
+-- a debugging entry, whose other fields mean something else
 abbrev pub is_stab : Nlist → Bool
-is_stab entry = has entry.n_type 0xe0
+is_stab entry = has entry.n_type N_STAB
 
 -- a bit of n_type or n_desc, which counts where the symbol is no debugging entry
 abbrev pub marked : Nlist → ℕ → ℕ → Bool
 marked entry word mask = not (is_stab entry) && has word mask
 
--- N_TYPE
+-- what the symbol stands for
 abbrev pub type_of : Nlist → ℕ
-type_of entry = bit_and entry.n_type 0x0e
+type_of entry = bit_and entry.n_type N_TYPE
 
--- N_EXT
+-- seen by other objects
 abbrev pub is_external : Nlist → Bool
-is_external entry = has entry.n_type 0x01
+is_external entry = has entry.n_type N_EXT
 
 -- an address of the section of a number from 1, its end included
 abbrev pub is_defined_within : List Section → Nlist → Bool
@@ -78,13 +79,13 @@ is_defined_within sections entry = option_map_or (λ section. is_within section 
 abbrev pub common_or_undefined : Nlist → SymbolKind
 common_or_undefined entry = if entry.n_value == 0 then Undefined else Common entry.n_value (entry.n_desc / 0x100 % 0x10)
 
--- What a symbol that is no debugging entry stands for, by N_TYPE: N_UNDF 0, N_ABS 2, N_SECT 0xe. The others
--- (N_INDR 0xa, N_PBUD 0xc) are defined elsewhere, if anywhere.
+-- What a symbol that is no debugging entry stands for, by N_TYPE. Those that aren't named here
+-- (N_INDR, N_PBUD) are defined elsewhere, if anywhere.
 abbrev pub kind_by_type : Nlist → SymbolKind
 kind_by_type entry =
-    if type_of entry == 0xe then Defined entry.n_sect entry.n_value
-    else if type_of entry == 2 then Absolute
-    else if type_of entry == 0 then (if is_external entry then common_or_undefined entry else Passed)
+    if type_of entry == N_SECT then Defined entry.n_sect entry.n_value
+    else if type_of entry == N_ABS then Absolute
+    else if type_of entry == N_UNDF then (if is_external entry then common_or_undefined entry else Passed)
     else Undefined
 
 unfoldable pub kind_of : Nlist → SymbolKind
@@ -92,18 +93,18 @@ kind_of entry = if is_stab entry then Passed else kind_by_type entry
 
 -- Symbol: a name outside the strings or without its NUL, or a definition outside its section
 abbrev pub is_placed : List Section → Nlist → Bool
-is_placed sections entry = is_stab entry || not (type_of entry == 0xe) || is_defined_within sections entry
+is_placed sections entry = is_stab entry || not (type_of entry == N_SECT) || is_defined_within sections entry
 
 abbrev pub symbol_with : Nlist → List ℕ → Symbol
 symbol_with entry name = record {
   name = name;
   kind = kind_of entry;
-  external = marked entry entry.n_type 0x01;
-  hidden = marked entry entry.n_type 0x10;
-  weak_def = marked entry entry.n_desc 0x80;
-  weak_ref = marked entry entry.n_desc 0x40;
-  no_strip = marked entry entry.n_desc 0x20;
-  alt = type_of entry == 0xe && marked entry entry.n_desc 0x200;
+  external = marked entry entry.n_type N_EXT;
+  hidden = marked entry entry.n_type N_PEXT;
+  weak_def = marked entry entry.n_desc N_WEAK_DEF;
+  weak_ref = marked entry entry.n_desc N_WEAK_REF;
+  no_strip = marked entry entry.n_desc N_NO_DEAD_STRIP;
+  alt = type_of entry == N_SECT && marked entry entry.n_desc N_ALT_ENTRY;
 }
 
 -- a symbol whose definition, if it is one, lies in its section
@@ -123,11 +124,10 @@ unfoldable pub symbols_of : List ℕ → SymtabCommand → List Section → Resu
 symbols_of bytes symtab sections = each_from (symbol_at bytes symtab sections) 0 symtab.nsyms
 
 -- a symbol that the linker doesn't have: of another N_TYPE, or a definition that is a resolver
--- (N_SYMBOL_RESOLVER)
 abbrev pub is_foreign : Nlist → Bool
 is_foreign entry =
     not (is_stab entry)
-    && (if type_of entry == 0xe then has entry.n_desc 0x100 else not (type_of entry == 0) && not (type_of entry == 2))
+    && (if type_of entry == N_SECT then has entry.n_desc N_SYMBOL_RESOLVER else not (type_of entry == N_UNDF) && not (type_of entry == N_ABS))
 
 unfoldable pub is_foreign_at : List ℕ → SymtabCommand → ℕ → Bool
 is_foreign_at bytes symtab i = is_foreign (entry_at bytes symtab i)

@@ -7,6 +7,7 @@ ghost use Rattle.mo_obj.specs.Commands.{IsFrame};
 ghost use Rattle.mo_obj.specs.Faults.{IsObjFault};
 
 use mo_bytes::read_u32;
+use mo_format::loader::{LC_SEGMENT_64, LC_SYMTAB};
 use mo_format::{MachHeader, SegmentCommand};
 use mo_types::{Items, ObjFault, OutOfMemory, Rule};
 use std::alloc::Global;
@@ -169,8 +170,8 @@ pub fn frame_of(alloc: Global, bytes: &[u8], places: &[usize]) -> Result<Frame, 
     ensures exact { Gives IsObjFault result (commands.frame_of bytes.now places.now) }
     ensures within { IfOk result (IsFrame bytes.now) }
 {
-    let segments = commands_of_kind(alloc, bytes, 0x19, places)?;
-    let symtabs = commands_of_kind(alloc, bytes, 0x2, places)?;
+    let segments = commands_of_kind(alloc, bytes, LC_SEGMENT_64, places)?;
+    let symtabs = commands_of_kind(alloc, bytes, LC_SYMTAB, places)?;
     let second = symtabs.get(1).copied();
     if let Some(place) = lesser(bad_segment(bytes, segments.as_slice()), second) {
         return Err(ObjFault::Malformed {

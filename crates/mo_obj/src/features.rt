@@ -4,12 +4,24 @@ ghost use Rattle.std.specs.Prelude.{◌≡◌};
 ghost use Rattle.std.specs.List.{list_any};
 ghost use Rattle.mo_obj.specs.Features as features;
 
+use mo_format::loader::{
+    S_8BYTE_LITERALS, S_16BYTE_LITERALS, S_ATTR_PURE_INSTRUCTIONS, S_MOD_INIT_FUNC_POINTERS,
+    S_REGULAR, S_THREAD_LOCAL_REGULAR, S_THREAD_LOCAL_VARIABLES, S_THREAD_LOCAL_ZEROFILL,
+};
 use mo_types::{Feature, Object, Section, Symbol, SymbolKind};
 
 fn has_other_type(section: &Section) -> bool
     ensures { result ≡ features.has_other_type section.now }
 {
-    !matches!(section.kind, 0..=4 | 9 | 0xe | 0x11 | 0x12 | 0x13)
+    !matches!(
+        u32::from(section.kind),
+        S_REGULAR..=S_8BYTE_LITERALS
+            | S_MOD_INIT_FUNC_POINTERS
+            | S_16BYTE_LITERALS
+            | S_THREAD_LOCAL_REGULAR
+            | S_THREAD_LOCAL_ZEROFILL
+            | S_THREAD_LOCAL_VARIABLES
+    )
 }
 
 fn is_in(segment: &[u8], section: &Section) -> bool
@@ -42,13 +54,17 @@ fn is_overaligned_common(symbol: &Symbol) -> bool
 fn is_odd_code(section: &Section) -> bool
     ensures { result ≡ features.is_odd_code section.now }
 {
-    section.attributes & 0x8000_0000 != 0 && (!is_in(b"__TEXT", section) || section.kind != 0)
+    section.attributes & S_ATTR_PURE_INSTRUCTIONS != 0
+        && (!is_in(b"__TEXT", section) || u32::from(section.kind) != S_REGULAR)
 }
 
 fn is_thread_local(section: &Section) -> bool
     ensures { result ≡ features.is_thread_local section.now }
 {
-    section.kind == 0x11 || section.kind == 0x12 || section.kind == 0x13
+    matches!(
+        u32::from(section.kind),
+        S_THREAD_LOCAL_REGULAR | S_THREAD_LOCAL_ZEROFILL | S_THREAD_LOCAL_VARIABLES
+    )
 }
 
 fn has_odd_segment(section: &Section) -> bool

@@ -6,6 +6,7 @@ ghost use Rattle.mo_obj.specs.Faults.{IsObjFault};
 ghost use Rattle.mo_obj.specs.Header as header;
 
 use mo_format::MachHeader;
+use mo_format::loader::{CPU_SUBTYPE_ARM64_ALL, CPU_TYPE_ARM64, MH_OBJECT};
 use mo_types::{Feature, ObjFault, Rule};
 
 /// The header, where the file is an arm64 object.
@@ -21,10 +22,10 @@ pub fn header_of(bytes: &[u8]) -> Result<MachHeader, ObjFault>
         });
     }
     let header = MachHeader::read(bytes, 0);
-    if header.cputype != 0x0100_000c || header.cpusubtype != 0 {
+    if header.cputype != CPU_TYPE_ARM64 || header.cpusubtype != CPU_SUBTYPE_ARM64_ALL {
         return Err(ObjFault::Unsupported(Feature::Machine));
     }
-    if header.filetype != 1 {
+    if header.filetype != MH_OBJECT {
         return Err(ObjFault::Unsupported(Feature::FileType));
     }
     Ok(header)

@@ -30,6 +30,7 @@ pub use laws::{
     an_object_or_a_fault, faults_are_told, objects_are_read, one_object_at_most,
     what_is_read_is_whole,
 };
+use mo_format::loader::MH_SUBSECTIONS_VIA_SYMBOLS;
 use mo_types::{AtomList, Bytes, FileId, ObjFault, Object, RefList};
 use reloc_read::refs_of_checked;
 use sections::{checked_sections, keep_literals};
@@ -72,7 +73,7 @@ fn describe(alloc: Global, file: &Bytes) -> Result<Described, ObjFault>
     let symbols = symbols_of(alloc, file, &symtab, sections.as_slice())?;
     keep_literals(frame, sections.as_slice())?;
     let object = Object {
-        subsections: header.flags & 0x2000 != 0,
+        subsections: header.flags & MH_SUBSECTIONS_VIA_SYMBOLS != 0,
         sections,
         symbols,
     };

@@ -14,6 +14,10 @@ ghost use Rattle.mo_obj.specs.Sections.{IsNumbered, IsRoomy};
 
 use crate::commands::Frame;
 use crate::names::name_text;
+use mo_format::loader::{
+    S_4BYTE_LITERALS, S_8BYTE_LITERALS, S_16BYTE_LITERALS, S_CSTRING_LITERALS,
+    S_THREAD_LOCAL_ZEROFILL, S_ZEROFILL, SECTION_ATTRIBUTES, SECTION_TYPE,
+};
 use mo_format::{RelocationInfo, SectionHeader};
 use mo_types::{
     Bytes, Items, ObjFault, OutOfMemory, RawReloc, RelocList, Rule, Section, SectionList,
@@ -47,8 +51,8 @@ fn headers_of(alloc: Global, bytes: &[u8], frame: Frame) -> Result<HeaderList, O
 fn is_zerofill_header(header: &SectionHeader) -> bool
     ensures { result ≡ is_zerofill (sections.type_of header.now) }
 {
-    let kind = header.flags & 0xff;
-    kind == 1 || kind == 0x12
+    let kind = header.flags & SECTION_TYPE;
+    kind == S_ZEROFILL || kind == S_THREAD_LOCAL_ZEROFILL
 }
 
 fn is_outside(size: usize, header: &SectionHeader) -> bool
@@ -173,8 +177,8 @@ fn unaligned(alloc: Global, file: &Bytes, header: &SectionHeader) -> Result<Sect
         address: header.addr,
         size: header.size,
         align: 0,
-        kind: (header.flags & 0xff) as u8,
-        attributes: header.flags & 0xffff_ff00,
+        kind: (header.flags & SECTION_TYPE) as u8,
+        attributes: header.flags & SECTION_ATTRIBUTES,
         file_offset: file_offset(header),
         reloc_offset: reloc_offset(file.as_slice(), header),
         bytes: contents_of(file, header)?,
@@ -217,8 +221,8 @@ fn sections_of(
 
 // How many bytes of the file are taken apart for a section: those of its relocations, strings and literals.
 fn parted_bytes(header: &SectionHeader) -> u64 {
-    let contents = match header.flags & 0xff {
-        2 | 3 | 4 | 0xe => header.size,
+    let contents = match header.flags & SECTION_TYPE {
+        S_CSTRING_LITERALS | S_4BYTE_LITERALS | S_8BYTE_LITERALS | S_16BYTE_LITERALS => header.size,
         _ => 0,
     };
     contents.saturating_add(8 * u64::from(header.nreloc))

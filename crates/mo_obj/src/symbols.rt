@@ -12,6 +12,10 @@ ghost use Rattle.mo_obj.specs.Symbols as symbols;
 ghost use Rattle.mo_obj.specs.Symbols.{IsInPlace, IsTable};
 
 use crate::commands::Frame;
+use mo_format::nlist::{
+    N_ABS, N_ALT_ENTRY, N_EXT, N_NO_DEAD_STRIP, N_PEXT, N_SECT, N_STAB, N_SYMBOL_RESOLVER, N_TYPE,
+    N_UNDF, N_WEAK_DEF, N_WEAK_REF,
+};
 use mo_format::{Nlist, SymtabCommand};
 use mo_strings::Strings;
 use mo_types::{Bytes, ObjFault, OutOfMemory, Rule, Section, Symbol, SymbolKind, SymbolList};
@@ -62,13 +66,13 @@ pub fn symtab_of(bytes: &[u8], frame: Frame) -> Result<SymtabCommand, ObjFault>
 fn is_stab(entry: &Nlist) -> bool
     ensures { result ≡ symbols.is_stab entry.now }
 {
-    entry.n_type & 0xe0 != 0
+    entry.n_type & N_STAB != 0
 }
 
 fn is_external(entry: &Nlist) -> bool
     ensures { result ≡ symbols.is_external entry.now }
 {
-    entry.n_type & 0x01 != 0
+    entry.n_type & N_EXT != 0
 }
 
 // Whether an address is one of a section's, or its end.
@@ -97,7 +101,7 @@ fn is_placed(sections: &[Section], entry: &Nlist) -> bool
     ensures exact { result ≡ symbols.is_placed sections.now entry.now }
     ensures placed { result ≡ true → IsDefinedWithin sections.now (symbols.kind_of entry.now) }
 {
-    is_stab(entry) || entry.n_type & 0x0e != 0x0e || is_defined_within(sections, entry)
+    is_stab(entry) || entry.n_type & N_TYPE != N_SECT || is_defined_within(sections, entry)
 }
 
 fn common_or_undefined(entry: &Nlist) -> SymbolKind
@@ -119,14 +123,14 @@ fn kind_of(entry: &Nlist) -> SymbolKind
     if is_stab(entry) {
         return SymbolKind::Passed;
     }
-    match entry.n_type & 0x0e {
-        0x0e => SymbolKind::Defined {
+    match entry.n_type & N_TYPE {
+        N_SECT => SymbolKind::Defined {
             section: entry.n_sect,
             value: entry.n_value,
         },
-        2 => SymbolKind::Absolute,
-        0 if is_external(entry) => common_or_undefined(entry),
-        0 => SymbolKind::Passed,
+        N_ABS => SymbolKind::Absolute,
+        N_UNDF if is_external(entry) => common_or_undefined(entry),
+        N_UNDF => SymbolKind::Passed,
         _ => SymbolKind::Undefined,
     }
 }
@@ -139,11 +143,11 @@ fn symbol_with(entry: &Nlist, name: Bytes) -> Symbol
         name,
         kind: kind_of(entry),
         external: counts && is_external(entry),
-        hidden: counts && entry.n_type & 0x10 != 0,
-        weak_def: counts && entry.n_desc & 0x80 != 0,
-        weak_ref: counts && entry.n_desc & 0x40 != 0,
-        no_strip: counts && entry.n_desc & 0x20 != 0,
-        alt: entry.n_type & 0x0e == 0x0e && counts && entry.n_desc & 0x200 != 0,
+        hidden: counts && entry.n_type & N_PEXT != 0,
+        weak_def: counts && entry.n_desc & N_WEAK_DEF != 0,
+        weak_ref: counts && entry.n_desc & N_WEAK_REF != 0,
+        no_strip: counts && entry.n_desc & N_NO_DEAD_STRIP != 0,
+        alt: entry.n_type & N_TYPE == N_SECT && counts && entry.n_desc & N_ALT_ENTRY != 0,
     }
 }
 
@@ -250,12 +254,12 @@ pub fn symbols_of(
 fn is_foreign(entry: &Nlist) -> bool
     ensures { result ≡ symbols.is_foreign entry.now }
 {
-    let kind = entry.n_type & 0x0e;
+    let kind = entry.n_type & N_TYPE;
     !is_stab(entry)
-        && if kind == 0x0e {
-            entry.n_desc & 0x100 != 0
+        && if kind == N_SECT {
+            entry.n_desc & N_SYMBOL_RESOLVER != 0
         } else {
-            kind != 0 && kind != 2
+            kind != N_UNDF && kind != N_ABS
         }
 }
 
