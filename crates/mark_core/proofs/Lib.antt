@@ -1,0 +1,5 @@
+pub mod KeyLemmas
+pub mod ArrowLemmas
+pub mod ReachLemmas
+pub mod KeptLemmas
+pub mod LawLemmas

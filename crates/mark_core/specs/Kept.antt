@@ -1,0 +1,25 @@
+-- Which atoms an image keeps: no more than follows from its roots.
+use Rattle.std.specs.Prelude.{◌≡◌, Bool, true, List, All}
+use Rattle.std.specs.List.{list_any}
+use Rattle.std.specs.List.Sorted.{IsStrictlySortedBy}
+use Rattle.std.specs.Ordering.{is_eq}
+use Rattle.mo_types.specs.Keys.{compare_keys}
+use Rattle.mo_types.specs.declared.edge.Edge.{Edge}
+use Rattle.mo_types.specs.declared.key.AtomKey.{AtomKey}
+
+-- an atom is one of a list
+abbrev pub has : List AtomKey → AtomKey → Bool
+has atoms atom = list_any (λ other. is_eq (compare_keys other atom)) atoms
+
+-- A set of atoms, by its test, holds the roots, with the source of an edge its end, and with the end of a support its
+-- source.
+pub record IsClosed (edges supports : List Edge) (roots : List AtomKey) (set : AtomKey → Bool) : Type 0 where
+  pub rooted : All (λ atom. set atom ≡ true) roots
+  pub led : All (λ edge. set edge.from ≡ true → set edge.to ≡ true) edges
+  pub supported : All (λ support. set support.to ≡ true → set support.from ≡ true) supports
+
+-- The atoms that are kept: the least set that is closed, by rising key and so each once.
+pub record IsKept (edges supports : List Edge) (roots kept : List AtomKey) : Type 0 where
+  pub closed : IsClosed edges supports roots (has kept)
+  pub least : (set : AtomKey → Bool) → IsClosed edges supports roots set → All (λ atom. set atom ≡ true) kept
+  pub rises : IsStrictlySortedBy compare_keys kept

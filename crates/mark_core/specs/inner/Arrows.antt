@@ -1,0 +1,32 @@
+-- Edges and supports as arrows: where the source of one is kept, so is its end.
+use Rattle.std.specs.Prelude.{◌≡◌, ◌++◌, Bool, List, map, Contains}
+use Rattle.std.specs.List.Sorted.{IsSortedBy}
+use Rattle.std.specs.Ordering.{is_le, is_lt}
+use Rattle.mo_types.specs.Keys.{compare_keys}
+use Rattle.mo_types.specs.declared.edge.Edge.{Edge}
+use Rattle.mo_types.specs.declared.key.AtomKey.{AtomKey}
+
+abbrev pub reversed : Edge → Edge
+reversed edge = record { from = edge.to; to = edge.from }
+
+abbrev pub end_of : Edge → AtomKey
+end_of arrow = arrow.to
+
+unfoldable pub arrows : List Edge → List Edge → List Edge
+arrows edges supports = edges ++ map reversed supports
+
+-- by rising source
+pub record AreSorted (all : List Edge) : Type 0 where
+  pub sources : IsSortedBy (λ a b. is_lt (compare_keys a.from b.from)) all
+
+-- an arrow's source is before a key, or isn't after it
+abbrev pub is_before : AtomKey → Edge → Bool
+is_before key arrow = is_lt (compare_keys arrow.from key)
+
+abbrev pub is_up_to : AtomKey → Edge → Bool
+is_up_to key arrow = is_le (compare_keys arrow.from key)
+
+-- just the arrows from an atom
+pub record AreFrom (all : List Edge) (key : AtomKey) (some : List Edge) : Type 0 where
+  pub each : (arrow : Edge) → Contains all arrow → arrow.from ≡ key → Contains some arrow
+  pub only : (arrow : Edge) → Contains some arrow → Contains all arrow × (arrow.from ≡ key)

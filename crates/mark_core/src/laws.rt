@@ -1,0 +1,10 @@
+//! What kept atoms are, on a call that does nothing.
+ghost use Rattle.std.specs.Prelude.{◌≡◌, List};
+ghost use Rattle.mark_core.specs.Kept.{IsKept};
+ghost use Rattle.mo_types.specs.declared.edge.Edge.{Edge};
+ghost use Rattle.mo_types.specs.declared.key.AtomKey.{AtomKey};
+
+/// The kept atoms of the same edges, supports and roots are one list.
+pub fn kept_atoms_are_one_list()
+    ensures { (edges supports : List Edge) (roots a b : List AtomKey) → IsKept edges supports roots a → IsKept edges supports roots b → a ≡ b }
+{}
