@@ -2,7 +2,7 @@
 """Times calls over long tables: `table_speed.py [RUNS]`.
 
 Reads archives of 50,000 members and 500,000 offers, of 500,000 pairs that name one string of 1 MB or its ends, of
-50,000 names of 1,042 bytes that differ in their last 10, and of 10,000 names with one hash; and lists the slots of a
+50,000 names of 1,042 bytes that differ in their last 10, and of 30,000 names with one hash; and lists the slots of a
 million needs of 1,000 to 1,000,000 goals. Prints for each the least and the median milliseconds of the call. The
 program is built before by `rt run` in `crates/table_speed`.
 """
@@ -68,8 +68,8 @@ def archives():
     yield "500,000 pairs name its ends", archive(list(range(count)), long, 1)
     yield "50,000 names of 1,042 bytes", archive(
         [1043 * i for i in range(50_000)], b"".join(b"in front" * 129 + b"%010d\0" % i for i in range(50_000)), 1)
-    yield "10,000 names with one hash", archive(
-        [25 * i for i in range(10_000)], b"".join(name + b"\0" for name in names_of_one_hash(10_000)), 1)
+    yield "30,000 names with one hash", archive(
+        [25 * i for i in range(30_000)], b"".join(name + b"\0" for name in names_of_one_hash(30_000)), 1)
 
 
 def run(*words):

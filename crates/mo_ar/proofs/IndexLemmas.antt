@@ -45,40 +45,40 @@ any_default xs i d e within = at_read xs (λ x. x ≡ get_or xs i e) i (get_or x
 -- ---- the search along a bucket
 
 -- nodes of a name stand before a place, counted from 1, at which is one of its bucket
-pub record IsSought (strings : List ℕ) (m : ℕ) (nodes : List Node) (name : List ℕ) (at : ℕ) : Type 0 where
+pub record IsSought (strings : List ℕ) (order : List Entry) (m : ℕ) (nodes : List Node) (name : List ℕ) (at : ℕ) : Type 0 where
   pub within : at ≤ length nodes
-  pub here : (d : Node) → 0 < at → bucket m (node_name strings (get_or nodes (at - 1) d)) ≡ bucket m name
+  pub here : (d : Node) → 0 < at → bucket strings order m (node_name strings (get_or nodes (at - 1) d)) ≡ bucket strings order m name
   pub left : (k : ℕ) (d : Node) → k < length nodes → node_name strings (get_or nodes k d) ≡ name → k < at
 
-pub find_starts : (strings : List ℕ) (m : ℕ) (nodes : List Node) (name : List ℕ) (from : ℕ) → BeginsAt strings m nodes (bucket m name) (length nodes) from → IsSought strings m nodes name from
-find_starts strings m nodes name from begins = record {
+pub find_starts : (strings : List ℕ) (order : List Entry) (m : ℕ) (nodes : List Node) (name : List ℕ) (from : ℕ) → BeginsAt strings order m nodes (bucket strings order m name) (length nodes) from → IsSought strings order m nodes name from
+find_starts strings order m nodes name from begins = record {
   within = begins.within;
   here = begins.here;
-  left = λ k d low same. begins.last k d low (ap (bucket m) same);
+  left = λ k d low same. begins.last k d low (ap (bucket strings order m) same);
 }
 
-pub find_goes_on : (strings : List ℕ) (m : ℕ) (nodes : List Node) (name : List ℕ) (at : ℕ) (e : Node) → IsSought strings m nodes name at → AreNexts strings m nodes → 0 < at → bytes_eq (node_name strings (get_or nodes (at - 1) e)) name ≡ false → IsSought strings m nodes name (get_or nodes (at - 1) e).next
-find_goes_on strings m nodes name at e sought nexts some other = record {
+pub find_goes_on : (strings : List ℕ) (order : List Entry) (m : ℕ) (nodes : List Node) (name : List ℕ) (at : ℕ) (e : Node) → IsSought strings order m nodes name at → AreNexts strings order m nodes → 0 < at → bytes_eq (node_name strings (get_or nodes (at - 1) e)) name ≡ false → IsSought strings order m nodes name (get_or nodes (at - 1) e).next
+find_goes_on strings order m nodes name at e sought nexts some other = record {
   within = omega (arith, begins.within, sought.within);
   here = λ d low. begins.here d low ∙ sought.here e some;
   left = λ k d low same.
       elim (cases_eq k (at - 1)) [
         | inl is ↦ absurd (other_name (node_name strings (get_or nodes (at - 1) e)) name other (ap (node_name strings) (any_default nodes (at - 1) e d inside) ∙ subst (λ (j : ℕ). node_name strings (get_or nodes j d) ≡ name) is same))
-        | inr apart ↦ begins.last k d (omega (arith, sought.left k d low same)) (ap (bucket m) same ∙ sym (sought.here e some))
+        | inr apart ↦ begins.last k d (omega (arith, sought.left k d low same)) (ap (bucket strings order m) same ∙ sym (sought.here e some))
       ];
 }
   where
     inside : at - 1 < length nodes
     inside = omega (arith, sought.within)
 
-    begins : BeginsAt strings m nodes (bucket m (node_name strings (get_or nodes (at - 1) e))) (at - 1) (get_or nodes (at - 1) e).next
+    begins : BeginsAt strings order m nodes (bucket strings order m (node_name strings (get_or nodes (at - 1) e))) (at - 1) (get_or nodes (at - 1) e).next
     begins = nexts.each (at - 1) e inside
 
-pub find_ends : (strings : List ℕ) (m : ℕ) (nodes : List Node) (name : List ℕ) (at : ℕ) → IsSought strings m nodes name at → at ≤ 0 → All (IsOther strings name) nodes
-find_ends strings m nodes name at sought low = λ k d inside same. absurd (omega (arith, sought.left k d inside same))
+pub find_ends : (strings : List ℕ) (order : List Entry) (m : ℕ) (nodes : List Node) (name : List ℕ) (at : ℕ) → IsSought strings order m nodes name at → at ≤ 0 → All (IsOther strings name) nodes
+find_ends strings order m nodes name at sought low = λ k d inside same. absurd (omega (arith, sought.left k d inside same))
 
-pub find_finds : (strings : List ℕ) (m : ℕ) (nodes : List Node) (name : List ℕ) (at : ℕ) (e : Node) → IsSought strings m nodes name at → 0 < at → bytes_eq (node_name strings (get_or nodes (at - 1) e)) name ≡ true → IsNodeOf strings nodes name (at - 1)
-find_finds strings m nodes name at e sought some same = record {
+pub find_finds : (strings : List ℕ) (order : List Entry) (m : ℕ) (nodes : List Node) (name : List ℕ) (at : ℕ) (e : Node) → IsSought strings order m nodes name at → 0 < at → bytes_eq (node_name strings (get_or nodes (at - 1) e)) name ≡ true → IsNodeOf strings nodes name (at - 1)
+find_finds strings order m nodes name at e sought some same = record {
   within = omega (arith, sought.within);
   named = λ d. ap (node_name strings) (any_default nodes (at - 1) d e (omega (arith, sought.within))) ∙ same_name (node_name strings (get_or nodes (at - 1) e)) name same;
 }
@@ -110,31 +110,32 @@ kept f nodes at member j e d keeps within = elim (cases_eq j at) [
   | inr other ↦ ap f (get_or-set_other nodes at j (lowered member (get_or nodes at e)) d other)
 ]
 
-begins_kept : (strings : List ℕ) (m : ℕ) (nodes new : List Node) (b bound at : ℕ) → ((j : ℕ) (d : Node) → node_name strings (get_or new j d) ≡ node_name strings (get_or nodes j d)) → BeginsAt strings m nodes b bound at → BeginsAt strings m new b bound at
-begins_kept strings m nodes new b bound at names begins = record {
+begins_kept : (strings : List ℕ) (order : List Entry) (m : ℕ) (nodes new : List Node) (b bound at : ℕ) → ((j : ℕ) (d : Node) → node_name strings (get_or new j d) ≡ node_name strings (get_or nodes j d)) → BeginsAt strings order m nodes b bound at → BeginsAt strings order m new b bound at
+begins_kept strings order m nodes new b bound at names begins = record {
   within = begins.within;
-  here = λ d low. ap (bucket m) (names (at - 1) d) ∙ begins.here d low;
-  last = λ k d low is. begins.last k d low (ap (bucket m) (sym (names k d)) ∙ is);
+  here = λ d low. ap (bucket strings order m) (names (at - 1) d) ∙ begins.here d low;
+  last = λ k d low is. begins.last k d low (ap (bucket strings order m) (sym (names k d)) ∙ is);
 }
 
 lowered_name : (strings : List ℕ) (member : ℕ) (node : Node) → node_name strings (lowered member node) ≡ node_name strings node
 unfolding node_name
 lowered_name strings member node = refl
 
-chained_kept : (strings heads : List ℕ) (nodes : List Node) (at member : ℕ) (e : Node) → at < length nodes → AreChained strings heads nodes → AreChained strings heads (set nodes at (lowered member (get_or nodes at e)))
-chained_kept strings heads nodes at member e within chained = record {
+chained_kept : (strings : List ℕ) (order : List Entry) (heads : List ℕ) (nodes : List Node) (at member : ℕ) (e : Node) → at < length nodes → AreChained strings order heads nodes → AreChained strings order heads (set nodes at (lowered member (get_or nodes at e)))
+chained_kept strings order heads nodes at member e within chained = record {
   some = chained.some;
-  heads_are = λ b low. subst (λ (n : ℕ). BeginsAt strings (length heads) new b n (get_or heads b 0)) (sym long) (begins_kept strings (length heads) nodes new b (length nodes) (get_or heads b 0) names (chained.heads_are b low));
+  heads_are = λ b low. subst (λ (n : ℕ). BeginsAt strings order (length heads) new b n (get_or heads b 0)) (sym long) (begins_kept strings order (length heads) nodes new b (length nodes) (get_or heads b 0) names (chained.heads_are b low));
   nexts_are =
       record {
         each = λ k d low.
             let inside : k < length nodes = subst (λ (n : ℕ). k < n) long low in
-            let old : BeginsAt strings (length heads) new (bucket (length heads) (node_name strings (get_or nodes k d))) k (get_or nodes k d).next =
-            begins_kept strings (length heads) nodes new (bucket (length heads) (node_name strings (get_or nodes k d))) k (get_or nodes k d).next names (chained.nexts_are.each k d inside) in
-            subst (λ (n : ℕ). BeginsAt strings (length heads) new (bucket (length heads) (node_name strings (get_or new k d))) k n) (sym (kept (λ (x : Node). x.next) nodes at member k e d (λ node. refl) within))
-            (subst (λ (name : List ℕ). BeginsAt strings (length heads) new (bucket (length heads) name) k (get_or nodes k d).next) (sym (names k d)) old);
+            let old : BeginsAt strings order (length heads) new (bucket strings order (length heads) (node_name strings (get_or nodes k d))) k (get_or nodes k d).next =
+            begins_kept strings order (length heads) nodes new (bucket strings order (length heads) (node_name strings (get_or nodes k d))) k (get_or nodes k d).next names (chained.nexts_are.each k d inside) in
+            subst (λ (n : ℕ). BeginsAt strings order (length heads) new (bucket strings order (length heads) (node_name strings (get_or new k d))) k n) (sym (kept (λ (x : Node). x.next) nodes at member k e d (λ node. refl) within))
+            (subst (λ (name : List ℕ). BeginsAt strings order (length heads) new (bucket strings order (length heads) name) k (get_or nodes k d).next) (sym (names k d)) old);
       };
   entries = All-set (λ node. IsEntry strings node.entry) nodes at (lowered member (get_or nodes at e)) (let old = chained.entries at e within in record { within = old.within; ends = old.ends }) chained.entries;
+  order_is = chained.order_is;
 }
   where
     new : List Node
@@ -200,19 +201,20 @@ new_node nodes x k d is =
     let e : k - length nodes ≡ 0 = omega arith in
     get_or-append_right nodes (x ∷ []) (length nodes) k d refl (omega arith) ∙ ap (λ (j : ℕ). get_or (x ∷ []) j d) e
 
-begins_after : (strings : List ℕ) (m : ℕ) (nodes : List Node) (x : Node) (b bound at : ℕ) → bound ≤ length nodes → BeginsAt strings m nodes b bound at → BeginsAt strings m (nodes ++ x ∷ []) b bound at
-begins_after strings m nodes x b bound at few begins = record {
+begins_after : (strings : List ℕ) (order : List Entry) (m : ℕ) (nodes : List Node) (x : Node) (b bound at : ℕ) → bound ≤ length nodes → BeginsAt strings order m nodes b bound at → BeginsAt strings order m (nodes ++ x ∷ []) b bound at
+begins_after strings order m nodes x b bound at few begins = record {
   within = begins.within;
-  here = λ d some. ap (λ (y : Node). bucket m (node_name strings y)) (old_node nodes x (at - 1) d (omega (arith, begins.within))) ∙ begins.here d some;
-  last = λ k d low is. begins.last k d low (ap (λ (y : Node). bucket m (node_name strings y)) (sym (old_node nodes x k d (omega arith))) ∙ is);
+  here = λ d some. ap (λ (y : Node). bucket strings order m (node_name strings y)) (old_node nodes x (at - 1) d (omega (arith, begins.within))) ∙ begins.here d some;
+  last = λ k d low is. begins.last k d low (ap (λ (y : Node). bucket strings order m (node_name strings y)) (sym (old_node nodes x k d (omega arith))) ∙ is);
 }
 
-chained_more : (strings heads : List ℕ) (nodes : List Node) (x : Node) (b : ℕ) → b < length heads → bucket (length heads) (node_name strings x) ≡ b → x.next ≡ get_or heads b 0 → IsEntry strings x.entry → AreChained strings heads nodes → AreChained strings (set heads b (length nodes + 1)) (nodes ++ x ∷ [])
-chained_more strings heads nodes x b inside is leads entry chained = record {
+chained_more : (strings : List ℕ) (order : List Entry) (heads : List ℕ) (nodes : List Node) (x : Node) (b : ℕ) → b < length heads → bucket strings order (length heads) (node_name strings x) ≡ b → x.next ≡ get_or heads b 0 → IsEntry strings x.entry → AreChained strings order heads nodes → AreChained strings order (set heads b (length nodes + 1)) (nodes ++ x ∷ [])
+chained_more strings order heads nodes x b inside is leads entry chained = record {
   some = subst (λ (n : ℕ). 0 < n) (sym long) chained.some;
-  heads_are = λ c low. subst (λ (n : ℕ). BeginsAt strings n (nodes ++ x ∷ []) c (length (nodes ++ x ∷ [])) (get_or (set heads b (length nodes + 1)) c 0)) (sym long) (head_at c (subst (λ (n : ℕ). c < n) long low));
-  nexts_are = subst (λ (n : ℕ). AreNexts strings n (nodes ++ x ∷ [])) (sym long) (record { each = λ k d low. next_at k d (subst (λ (n : ℕ). k < n) many low) });
+  heads_are = λ c low. subst (λ (n : ℕ). BeginsAt strings order n (nodes ++ x ∷ []) c (length (nodes ++ x ∷ [])) (get_or (set heads b (length nodes + 1)) c 0)) (sym long) (head_at c (subst (λ (n : ℕ). c < n) long low));
+  nexts_are = subst (λ (n : ℕ). AreNexts strings order n (nodes ++ x ∷ [])) (sym long) (record { each = λ k d low. next_at k d (subst (λ (n : ℕ). k < n) many low) });
   entries = All-push (λ node. IsEntry strings node.entry) nodes x chained.entries entry;
+  order_is = chained.order_is;
 }
   where
     m : ℕ
@@ -224,27 +226,27 @@ chained_more strings heads nodes x b inside is leads entry chained = record {
     many : length (nodes ++ x ∷ []) ≡ length nodes + 1
     many = length-append nodes (x ∷ [])
 
-    head_here : (c : ℕ) → c ≡ b → BeginsAt strings (length heads) (nodes ++ x ∷ []) c (length nodes + 1) (length nodes + 1)
+    head_here : (c : ℕ) → c ≡ b → BeginsAt strings order (length heads) (nodes ++ x ∷ []) c (length nodes + 1) (length nodes + 1)
     head_here c e = record {
       within = omega arith;
-      here = λ d some. ap (λ (y : Node). bucket (length heads) (node_name strings y)) (new_node nodes x (length nodes + 1 - 1) d (omega arith)) ∙ is ∙ sym e;
+      here = λ d some. ap (λ (y : Node). bucket strings order (length heads) (node_name strings y)) (new_node nodes x (length nodes + 1 - 1) d (omega arith)) ∙ is ∙ sym e;
       last = λ k d low same. low;
     }
 
-    head_there : (c : ℕ) → c < length heads → (c ≡ b → ⊥) → BeginsAt strings (length heads) (nodes ++ x ∷ []) c (length nodes + 1) (get_or heads c 0)
+    head_there : (c : ℕ) → c < length heads → (c ≡ b → ⊥) → BeginsAt strings order (length heads) (nodes ++ x ∷ []) c (length nodes + 1) (get_or heads c 0)
     head_there c low other =
-        let old : BeginsAt strings (length heads) nodes c (length nodes) (get_or heads c 0) = chained.heads_are c low in
-        let after : BeginsAt strings (length heads) (nodes ++ x ∷ []) c (length nodes) (get_or heads c 0) = begins_after strings (length heads) nodes x c (length nodes) (get_or heads c 0) (omega arith) old in
+        let old : BeginsAt strings order (length heads) nodes c (length nodes) (get_or heads c 0) = chained.heads_are c low in
+        let after : BeginsAt strings order (length heads) (nodes ++ x ∷ []) c (length nodes) (get_or heads c 0) = begins_after strings order (length heads) nodes x c (length nodes) (get_or heads c 0) (omega arith) old in
         record {
           within = omega (arith, old.within);
           here = after.here;
           last = λ k d less same. elim (cases_eq k (length nodes)) [
-            | inl e ↦ absurd (other (sym same ∙ ap (λ (y : Node). bucket (length heads) (node_name strings y)) (new_node nodes x k d e) ∙ is))
+            | inl e ↦ absurd (other (sym same ∙ ap (λ (y : Node). bucket strings order (length heads) (node_name strings y)) (new_node nodes x k d e) ∙ is))
             | inr apart ↦ after.last k d (omega arith) same
           ];
         }
 
-    head_at : (c : ℕ) → c < length heads → BeginsAt strings (length heads) (nodes ++ x ∷ []) c (length (nodes ++ x ∷ [])) (get_or (set heads b (length nodes + 1)) c 0)
+    head_at : (c : ℕ) → c < length heads → BeginsAt strings order (length heads) (nodes ++ x ∷ []) c (length (nodes ++ x ∷ [])) (get_or (set heads b (length nodes + 1)) c 0)
     head_at c low = elim (cases_eq c b) [
       | inl e ↦
           let h : get_or (set heads b (length nodes + 1)) c 0 ≡ length nodes + 1 = ap (λ (j : ℕ). get_or (set heads b (length nodes + 1)) j 0) e ∙ get_or-set_same heads b (length nodes + 1) 0 inside in
@@ -254,20 +256,20 @@ chained_more strings heads nodes x b inside is leads entry chained = record {
           rw (many, h) (head_there c low other)
     ]
 
-    next_at : (k : ℕ) (d : Node) → k < length nodes + 1 → BeginsAt strings (length heads) (nodes ++ x ∷ []) (bucket (length heads) (node_name strings (get_or (nodes ++ x ∷ []) k d))) k (get_or (nodes ++ x ∷ []) k d).next
+    next_at : (k : ℕ) (d : Node) → k < length nodes + 1 → BeginsAt strings order (length heads) (nodes ++ x ∷ []) (bucket strings order (length heads) (node_name strings (get_or (nodes ++ x ∷ []) k d))) k (get_or (nodes ++ x ∷ []) k d).next
     next_at k d low = elim (cases_eq k (length nodes)) [
       | inl e ↦
-          let old : BeginsAt strings (length heads) nodes b (length nodes) (get_or heads b 0) = chained.heads_are b inside in
-          let after : BeginsAt strings (length heads) (nodes ++ x ∷ []) b (length nodes) (get_or heads b 0) = begins_after strings (length heads) nodes x b (length nodes) (get_or heads b 0) (omega arith) old in
-          let here : BeginsAt strings (length heads) (nodes ++ x ∷ []) (bucket (length heads) (node_name strings x)) k x.next =
-          subst (λ (n : ℕ). BeginsAt strings (length heads) (nodes ++ x ∷ []) (bucket (length heads) (node_name strings x)) k n) (sym leads)
-          (subst (λ (n : ℕ). BeginsAt strings (length heads) (nodes ++ x ∷ []) (bucket (length heads) (node_name strings x)) n (get_or heads b 0)) (sym e)
-          (subst (λ (n : ℕ). BeginsAt strings (length heads) (nodes ++ x ∷ []) n (length nodes) (get_or heads b 0)) (sym is) after)) in
-          subst (λ (y : Node). BeginsAt strings (length heads) (nodes ++ x ∷ []) (bucket (length heads) (node_name strings y)) k y.next) (sym (new_node nodes x k d e)) here
+          let old : BeginsAt strings order (length heads) nodes b (length nodes) (get_or heads b 0) = chained.heads_are b inside in
+          let after : BeginsAt strings order (length heads) (nodes ++ x ∷ []) b (length nodes) (get_or heads b 0) = begins_after strings order (length heads) nodes x b (length nodes) (get_or heads b 0) (omega arith) old in
+          let here : BeginsAt strings order (length heads) (nodes ++ x ∷ []) (bucket strings order (length heads) (node_name strings x)) k x.next =
+          subst (λ (n : ℕ). BeginsAt strings order (length heads) (nodes ++ x ∷ []) (bucket strings order (length heads) (node_name strings x)) k n) (sym leads)
+          (subst (λ (n : ℕ). BeginsAt strings order (length heads) (nodes ++ x ∷ []) (bucket strings order (length heads) (node_name strings x)) n (get_or heads b 0)) (sym e)
+          (subst (λ (n : ℕ). BeginsAt strings order (length heads) (nodes ++ x ∷ []) n (length nodes) (get_or heads b 0)) (sym is) after)) in
+          subst (λ (y : Node). BeginsAt strings order (length heads) (nodes ++ x ∷ []) (bucket strings order (length heads) (node_name strings y)) k y.next) (sym (new_node nodes x k d e)) here
       | inr apart ↦
-          let old : BeginsAt strings (length heads) nodes (bucket (length heads) (node_name strings (get_or nodes k d))) k (get_or nodes k d).next = chained.nexts_are.each k d (omega arith) in
-          subst (λ (y : Node). BeginsAt strings (length heads) (nodes ++ x ∷ []) (bucket (length heads) (node_name strings y)) k y.next) (sym (old_node nodes x k d (omega arith)))
-          (begins_after strings (length heads) nodes x (bucket (length heads) (node_name strings (get_or nodes k d))) k (get_or nodes k d).next (omega arith) old)
+          let old : BeginsAt strings order (length heads) nodes (bucket strings order (length heads) (node_name strings (get_or nodes k d))) k (get_or nodes k d).next = chained.nexts_are.each k d (omega arith) in
+          subst (λ (y : Node). BeginsAt strings order (length heads) (nodes ++ x ∷ []) (bucket strings order (length heads) (node_name strings y)) k y.next) (sym (old_node nodes x k d (omega arith)))
+          (begins_after strings order (length heads) nodes x (bucket strings order (length heads) (node_name strings (get_or nodes k d))) k (get_or nodes k d).next (omega arith) old)
     ]
 
 named_more : (strings : List ℕ) (offer : Offer) (offers : List Offer) (nodes : List Node) (x : Node) → node_name strings x ≡ offer.name → x.entry.member ≡ offer.member → All (IsOther strings offer.name) nodes → AreNodes strings offers nodes → AreNodes strings (offer ∷ offers) (nodes ++ x ∷ [])
@@ -308,18 +310,18 @@ names_is : (strings : List ℕ) (node : Node) → node_name strings node ≡ par
 unfolding node_name
 names_is strings node = refl
 
-pub put_known : (strings : List ℕ) (entries : List Entry) (heads name : List ℕ) (nodes new : List Node) (at known : ℕ) (d : Entry) (e : Node) → IsIndex strings (drop (at + 1) (offers_of strings entries)) heads nodes → at < length entries → name ≡ part strings (get_or entries at d).at (get_or entries at d).size → IsNodeOf strings nodes name known → new ≡ set nodes known (lowered (get_or entries at d).member (get_or nodes known e)) → IsIndex strings (drop at (offers_of strings entries)) heads new
-put_known strings entries heads name nodes new at known d e index within read is made =
+pub put_known : (strings : List ℕ) (order entries : List Entry) (heads name : List ℕ) (nodes new : List Node) (at known : ℕ) (d : Entry) (e : Node) → IsIndex strings order (drop (at + 1) (offers_of strings entries)) heads nodes → at < length entries → name ≡ part strings (get_or entries at d).at (get_or entries at d).size → IsNodeOf strings nodes name known → new ≡ set nodes known (lowered (get_or entries at d).member (get_or nodes known e)) → IsIndex strings order (drop at (offers_of strings entries)) heads new
+put_known strings order entries heads name nodes new at known d e index within read is made =
     rw (made, offers_there strings entries at d within) (record {
-      chained = chained_kept strings heads nodes known (get_or entries at d).member e is.within index.chained;
+      chained = chained_kept strings order heads nodes known (get_or entries at d).member e is.within index.chained;
       named = named_kept strings (offer_of strings (get_or entries at d)) (drop (at + 1) (offers_of strings entries)) nodes known e is.within (is.named e ∙ read) index.named;
     })
 
-pub put_new : (strings : List ℕ) (entries : List Entry) (heads name new_heads : List ℕ) (nodes new : List Node) (at b : ℕ) (d : Entry) (x : Node) → IsIndex strings (drop (at + 1) (offers_of strings entries)) heads nodes → All (IsEntry strings) entries → at < length entries → name ≡ part strings (get_or entries at d).at (get_or entries at d).size → b ≡ bucket (length heads) name → b < length heads → All (IsOther strings name) nodes → x ≡ record { entry = get_or entries at d; next = get_or heads b 0 } → new ≡ nodes ++ x ∷ [] → new_heads ≡ set heads b (length nodes + 1) → IsIndex strings (drop at (offers_of strings entries)) new_heads new
-put_new strings entries heads name new_heads nodes new at b d x index are within read same inside others is pushed noted =
+pub put_new : (strings : List ℕ) (order entries : List Entry) (heads name new_heads : List ℕ) (nodes new : List Node) (at b : ℕ) (d : Entry) (x : Node) → IsIndex strings order (drop (at + 1) (offers_of strings entries)) heads nodes → All (IsEntry strings) entries → at < length entries → name ≡ part strings (get_or entries at d).at (get_or entries at d).size → b ≡ bucket strings order (length heads) name → b < length heads → All (IsOther strings name) nodes → x ≡ record { entry = get_or entries at d; next = get_or heads b 0 } → new ≡ nodes ++ x ∷ [] → new_heads ≡ set heads b (length nodes + 1) → IsIndex strings order (drop at (offers_of strings entries)) new_heads new
+put_new strings order entries heads name new_heads nodes new at b d x index are within read same inside others is pushed noted =
     let named : node_name strings x ≡ part strings (get_or entries at d).at (get_or entries at d).size = names_is strings x ∙ ap (λ (y : Node). part strings y.entry.at y.entry.size) is in
     rw (pushed, noted, offers_there strings entries at d within) (record {
-      chained = chained_more strings heads nodes x b inside (ap (bucket (length heads)) (named ∙ sym read) ∙ sym same) (ap (λ (y : Node). y.next) is) (subst (λ (y : Entry). IsEntry strings y) (ap (λ (y : Node). y.entry) (sym is)) (are at d within)) index.chained;
+      chained = chained_more strings order heads nodes x b inside (ap (bucket strings order (length heads)) (named ∙ sym read) ∙ sym same) (ap (λ (y : Node). y.next) is) (subst (λ (y : Entry). IsEntry strings y) (ap (λ (y : Node). y.entry) (sym is)) (are at d within)) index.chained;
       named = named_more strings (offer_of strings (get_or entries at d)) (drop (at + 1) (offers_of strings entries)) nodes x named (ap (λ (y : Node). y.entry.member) is)
           (subst (λ (n : List ℕ). All (IsOther strings n) nodes) read others) index.named;
     })
@@ -327,15 +329,16 @@ put_new strings entries heads name new_heads nodes new at b d x index are within
 -- ---- the whole index
 
 -- no offer is indexed yet
-pub index_starts : (strings : List ℕ) (offers : List Offer) (heads : List ℕ) (nodes : List Node) (at : ℕ) → 0 < length heads → ((b : ℕ) → b < length heads → get_or heads b 0 ≡ 0) → nodes ≡ [] → length offers ≤ at → IsIndex strings (drop at offers) heads nodes
+pub index_starts : (strings : List ℕ) (order : List Entry) (offers : List Offer) (heads : List ℕ) (nodes : List Node) (at : ℕ) → All (IsEntry strings) order → 0 < length heads → ((b : ℕ) → b < length heads → get_or heads b 0 ≡ 0) → nodes ≡ [] → length offers ≤ at → IsIndex strings order (drop at offers) heads nodes
 unfolding first_offer
-index_starts strings offers heads nodes at some empty none past = rw (none, drop_all at offers past) (record {
+index_starts strings order offers heads nodes at are some empty none past = rw (none, drop_all at offers past) (record {
   chained =
       record {
         some = some;
         heads_are = λ b low. rw (empty b low) (record { within = omega arith; here = λ d more. absurd (omega arith); last = λ k d less is. absurd (omega arith) });
         nexts_are = record { each = λ k d low. absurd (omega arith) };
         entries = λ k d low. absurd (omega arith);
+        order_is = are;
       };
   named =
       record {
@@ -348,8 +351,8 @@ index_starts strings offers heads nodes at some empty none past = rw (none, drop
 pub as_many : (strings : List ℕ) (entries : List Entry) → length (offers_of strings entries) ≡ length entries
 as_many strings entries = length-map entries (offer_of strings)
 
-pub head_begins : (strings heads name : List ℕ) (nodes : List Node) (b : ℕ) → AreChained strings heads nodes → b ≡ bucket (length heads) name → b < length heads → BeginsAt strings (length heads) nodes (bucket (length heads) name) (length nodes) (get_or heads b 0)
-head_begins strings heads name nodes b chained same inside = subst (λ (c : ℕ). BeginsAt strings (length heads) nodes c (length nodes) (get_or heads b 0)) same (chained.heads_are b inside)
+pub head_begins : (strings : List ℕ) (order : List Entry) (heads name : List ℕ) (nodes : List Node) (b : ℕ) → AreChained strings order heads nodes → b ≡ bucket strings order (length heads) name → b < length heads → BeginsAt strings order (length heads) nodes (bucket strings order (length heads) name) (length nodes) (get_or heads b 0)
+head_begins strings order heads name nodes b chained same inside = subst (λ (c : ℕ). BeginsAt strings order (length heads) nodes c (length nodes) (get_or heads b 0)) same (chained.heads_are b inside)
 
 pub found_best : (strings name : List ℕ) (offers : List Offer) (nodes : List Node) (at : ℕ) (node : Node) → AreNodes strings offers nodes → IsNodeOf strings nodes name at → node ≡ get_or nodes at node → Some node.entry.member ≡ first_offer name offers
 found_best strings name offers nodes at node named is there =

@@ -4,6 +4,7 @@ pub mod HashLemmas
 pub mod IndexLemmas
 pub mod LawLemmas
 pub mod LeastLemmas
+pub mod OrderLemmas
 pub mod PlaceLemmas
 pub mod SliceLemmas
 pub mod TextLemmas

@@ -1,3 +1,4 @@
 pub mod Hash
 pub mod Index
+pub mod Order
 pub mod Tables

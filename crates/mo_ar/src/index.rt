@@ -1,6 +1,6 @@
 //! The index of offers by name.
 
-ghost use Rattle.std.specs.Prelude.{◌≡◌, ◌+◌, ◌^◌, ◌<◌, ◌≤◌, List, length, All, IfNone, IfOk, IfSome, OnOk, drop, slice_set, slice_index_or};
+ghost use Rattle.std.specs.Prelude.{◌≡◌, ◌+◌, ◌^◌, ◌<◌, ◌≤◌, List, length, All, IfNone, IfOk, IfSome, OnOk, drop, slice_set, slice_index_or, true};
 ghost use Rattle.std.specs.Str.{bytes_eq};
 ghost use Rattle.mo_ar.specs.inner.Index as index;
 ghost use Rattle.mo_ar.specs.inner.Hash.{AreMarks};
@@ -12,6 +12,7 @@ ghost use Rattle.mo_ar.specs.declared.offers.Offer.{Offer};
 
 use crate::hash::{LONG, hash, hash_at, marks_of};
 use crate::offers::Entry;
+use crate::order::{in_order, name_of, rank};
 use mo_types::OutOfMemory;
 use std::alloc::Global;
 
@@ -23,41 +24,48 @@ pub struct Node {
     next: u32,
 }
 
-/// The names that are offered, each once, and of each bucket of names the last one, counted from 1.
+/// The names that are offered, each once, and of each bucket of names the last one, counted from 1. Buckets go by the
+/// hash of a name, or by its place among those in order, if there are such.
 #[derive(Debug, Drop)]
 pub struct Index {
+    order: Vec<Entry>,
     heads: Vec<u32>,
     nodes: Vec<Node>,
 }
 
+// A bucket with more names than so many is long: as good as none is, unless the names were chosen to have one hash.
+const LONG_BUCKET: usize = 64;
+
 // The bucket of a name, of some buckets.
 #[tactic(auto, unfolding(crate::specs::inner::Index::bucket))]
-fn bucket(name: &[u8], count: usize) -> usize
-    requires { 0 < count }
-    ensures exact { result ≡ index.bucket count name.now }
+fn bucket(strings: &[u8], order: &[Entry], name: &[u8], count: usize) -> usize
+    requires some { 0 < count }
+    requires order { All (IsEntry strings.now) order.now }
+    ensures exact { result ≡ index.bucket strings.now order.now count name.now }
     ensures within { result < count }
 {
-    (hash(name) >> 32) as usize % count
+    if order.is_empty() {
+        (hash(name) >> 32) as usize % count
+    } else {
+        rank(strings, order, name) % count
+    }
 }
 
 // The bucket of an entry's name, of some buckets.
 #[tactic(auto, unfolding(crate::specs::inner::Index::bucket))]
-fn bucket_at(strings: &[u8], marks: &[u64], entry: Entry, count: usize) -> usize
+fn bucket_at(strings: &[u8], order: &[Entry], marks: &[u64], entry: Entry, count: usize) -> usize
     requires some { 0 < count }
+    requires order { All (IsEntry strings.now) order.now }
     requires entry { IsEntry strings.now entry }
     requires marks { AreMarks strings.now marks.now }
-    ensures exact { result ≡ index.bucket count (part strings.now entry.at entry.size) }
+    ensures exact { result ≡ index.bucket strings.now order.now count (part strings.now entry.at entry.size) }
     ensures within { result < count }
 {
-    (hash_at(strings, marks, entry.at as usize, entry.size as usize) >> 32) as usize % count
-}
-
-/// The name of an entry.
-pub fn name_of(strings: &[u8], entry: Entry) -> &[u8]
-    requires { IsEntry strings.now entry }
-    ensures { result.now ≡ part strings.now entry.at entry.size }
-{
-    &strings[entry.at as usize..][..entry.size as usize]
+    if order.is_empty() {
+        (hash_at(strings, marks, entry.at as usize, entry.size as usize) >> 32) as usize % count
+    } else {
+        rank(strings, order, name_of(strings, entry)) % count
+    }
 }
 
 // Whether an entry has a name, which is known to stand at a place or isn't. At its own place nothing is compared.
@@ -77,6 +85,7 @@ fn is_named(strings: &[u8], entry: Entry, name: &[u8], place: Option<u32>) -> bo
 #[tactic(auto, using(crate::proofs::IndexLemmas::finds))]
 fn find(
     strings: &[u8],
+    order: &[Entry],
     nodes: &[Node],
     name: &[u8],
     place: Option<u32>,
@@ -84,9 +93,9 @@ fn find(
     from: usize,
 ) -> Option<usize>
     requires entries { All (λ node. IsEntry strings.now node.entry) nodes.now }
-    requires nexts { AreNexts strings.now count nodes.now }
+    requires nexts { AreNexts strings.now order.now count nodes.now }
     requires place { IfSome place (StandsAt strings.now name.now) }
-    requires begins { BeginsAt strings.now count nodes.now (index.bucket count name.now) (length nodes.now) from }
+    requires begins { BeginsAt strings.now order.now count nodes.now (index.bucket strings.now order.now count name.now) (length nodes.now) from }
     ensures found { IfSome result (IsNodeOf strings.now nodes.now name.now) }
     ensures none { IfNone result (All (IsOther strings.now name.now) nodes.now) }
 {
@@ -118,43 +127,62 @@ fn lower(nodes: &mut Vec<Node>, at: usize, member: u32)
     };
 }
 
-// Puts the offer at an index into the index of those behind it.
+// Whether a bucket that begins at `from`, counted from 1, is long.
+fn is_long(nodes: &[Node], from: usize) -> bool {
+    let mut at = from;
+    for _ in 0..LONG_BUCKET {
+        if at == 0 || nodes.len() < at {
+            return false;
+        }
+        at = nodes[at - 1].next as usize;
+    }
+    true
+}
+
+// Puts the offer at an index into the index of those behind it, and says whether the bucket of its name is long.
 fn put(
     strings: &[u8],
+    order: &[Entry],
     marks: &[u64],
     entries: &[Entry],
     heads: &mut [u32],
     nodes: &mut Vec<Node>,
     at: usize,
-) -> Result<(), OutOfMemory>
+) -> Result<bool, OutOfMemory>
     requires entries { All (IsEntry strings.now) entries.now }
+    requires order { All (IsEntry strings.now) order.now }
     requires marks { AreMarks strings.now marks.now }
     requires place { at < length entries.now }
     requires few { length nodes.old.items + 1 < 2 ^ 32 }
-    requires index { IsIndex strings.now (drop (at + 1) (offers_of strings.now entries.now)) heads.old nodes.old.items }
-    ensures index { OnOk result (IsIndex strings.now (drop at (offers_of strings.now entries.now)) heads.new nodes.new.items) }
+    requires index { IsIndex strings.now order.now (drop (at + 1) (offers_of strings.now entries.now)) heads.old nodes.old.items }
+    ensures index { OnOk result (IsIndex strings.now order.now (drop at (offers_of strings.now entries.now)) heads.new nodes.new.items) }
     ensures few { OnOk result (length nodes.new.items ≤ length nodes.old.items + 1) }
 {
     let entry = entries[at];
     let name = name_of(strings, entry);
     let count = heads.len();
-    let b = bucket_at(strings, marks, entry, count);
+    let b = bucket_at(strings, order, marks, entry, count);
     let head = heads[b];
     match find(
         strings,
+        order,
         nodes.as_slice(),
         name,
         Some(entry.at),
         count,
         head as usize,
     ) {
-        Some(known) => lower(nodes, known, entry.member),
+        Some(known) => {
+            lower(nodes, known, entry.member);
+            Ok(false)
+        }
         None => {
+            let long = is_long(nodes.as_slice(), head as usize);
             nodes.push(Node { entry, next: head })?;
             heads[b] = nodes.len() as u32;
+            Ok(long)
         }
     }
-    Ok(())
 }
 
 // Marks for the hashes of names, if some name is long.
@@ -168,12 +196,20 @@ fn marks_for(alloc: Global, strings: &[u8], entries: &[Entry]) -> Result<Vec<u64
     }
 }
 
-/// The index of some offers.
+// The index of some offers by buckets, or `None` if it is to have no long bucket, and would have one.
 #[tactic(auto, using(crate::proofs::IndexLemmas::builds))]
-pub fn index_of(alloc: Global, strings: &[u8], entries: &[Entry]) -> Result<Index, OutOfMemory>
+fn built(
+    alloc: Global,
+    strings: &[u8],
+    order: Vec<Entry>,
+    entries: &[Entry],
+    short: bool,
+) -> Result<Option<Index>, OutOfMemory>
     requires entries { All (IsEntry strings.now) entries.now }
+    requires order { All (IsEntry strings.now) order.items }
     requires few { length entries.now < 2 ^ 32 }
-    ensures { IfOk result (IsIndexOf strings.now (offers_of strings.now entries.now)) }
+    ensures index { IfOk result (λ index. IfSome index (IsIndexOf strings.now (offers_of strings.now entries.now))) }
+    ensures some { IfOk result (λ index. IfNone index (short ≡ true)) }
 {
     let marks = marks_for(alloc, strings, entries)?;
     let mut heads = vec![in alloc; 0; 2 * entries.len() + 1]?;
@@ -181,28 +217,61 @@ pub fn index_of(alloc: Global, strings: &[u8], entries: &[Entry]) -> Result<Inde
     let mut at = entries.len();
     while at > 0 {
         at -= 1;
-        put(
+        let long = put(
             strings,
+            order.as_slice(),
             marks.as_slice(),
             entries,
             heads.as_mut_slice(),
             &mut nodes,
             at,
         )?;
+        if short && long {
+            return Ok(None);
+        }
     }
-    Ok(Index { heads, nodes })
+    Ok(Some(Index {
+        order,
+        heads,
+        nodes,
+    }))
+}
+
+/// The index of some offers.
+pub fn index_of(alloc: Global, strings: &[u8], entries: &[Entry]) -> Result<Index, OutOfMemory>
+    requires entries { All (IsEntry strings.now) entries.now }
+    requires few { length entries.now < 2 ^ 32 }
+    ensures { IfOk result (IsIndexOf strings.now (offers_of strings.now entries.now)) }
+{
+    if let Some(index) = built(alloc, strings, Vec::new(alloc), entries, true)? {
+        return Ok(index);
+    }
+    let order = in_order(alloc, strings, entries)?;
+    match built(alloc, strings, order, entries, false)? {
+        Some(index) => Ok(index),
+        None => unreachable!(),
+    }
 }
 
 /// The least number of a member that is offered for a name.
 #[tactic(auto, using(crate::proofs::IndexLemmas::looks))]
 pub fn look_up(strings: &[u8], index: &Index, name: &[u8]) -> Option<u32>
-    requires { AreChained strings.now index.now.heads.items index.now.nodes.items }
+    requires { AreChained strings.now index.now.order.items index.now.heads.items index.now.nodes.items }
     ensures { (offers : List Offer) → AreNodes strings.now offers index.now.nodes.items → result ≡ first_offer name.now offers }
 {
+    let order = index.order.as_slice();
     let heads = index.heads.as_slice();
     let nodes = index.nodes.as_slice();
-    let b = bucket(name, heads.len());
-    match find(strings, nodes, name, None, heads.len(), heads[b] as usize) {
+    let b = bucket(strings, order, name, heads.len());
+    match find(
+        strings,
+        order,
+        nodes,
+        name,
+        None,
+        heads.len(),
+        heads[b] as usize,
+    ) {
         Some(at) => Some(nodes[at].entry.member),
         None => None,
     }

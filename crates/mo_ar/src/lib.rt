@@ -10,6 +10,7 @@ mod laws;
 mod member;
 mod offer_list;
 mod offers;
+mod order;
 mod places;
 mod slice;
 mod text;

@@ -6,8 +6,9 @@ ghost use Rattle.mo_ar.specs.Offers.{IsLeastOffer, IsUnoffered, first_offer};
 ghost use Rattle.mo_ar.specs.inner.Index.{IsEntry};
 ghost use Rattle.mo_ar.specs.OfferAt.{IsOfferAt};
 
-use crate::index::{Index, index_of, look_up, name_of};
+use crate::index::{Index, index_of, look_up};
 use crate::offers::Entry;
+use crate::order::name_of;
 use mo_types::{Bytes, OutOfMemory};
 use std::alloc::Global;
 use std::marker::Model;
@@ -78,8 +79,8 @@ impl OfferList {
         Some((name_of(self.strings.as_slice(), entry), entry.member))
     }
 
-    /// The least number of a member that the table gives to a name, or `None` exactly where it gives it to none. It takes the time of one look-up by hash,
-    /// however many offers there are.
+    /// The least number of a member that the table gives to a name, or `None` exactly where it gives it to none. It takes the time of one look-up by
+    /// hash, or by halving where many names have one hash, however many offers there are.
     #[tactic(auto, using(crate::proofs::LeastLemmas::least))]
     pub fn first_offer(&self, name: &[u8]) -> Option<u32>
         ensures exact { result ≡ first_offer name.now self.now }

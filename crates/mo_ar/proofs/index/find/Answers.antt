@@ -11,9 +11,9 @@ none = record { entry = record { at = 0; size = 0; member = 0 }; next = 0 }
 pub returns-then-is_named-clause-found : goal.returns-then-is_named-clause-found
 unfolding node_name none
 returns-then-is_named-clause-found c =
-    find_finds c.args.strings.now c.args.count c.args.nodes.now c.args.name.now c.loop-at.at none c.loop-at.invariant c.loop-at-test.true (sym c.is_named.ensures ∙ c.if-is_named.true)
+    find_finds c.args.strings.now c.args.order.now c.args.count c.args.nodes.now c.args.name.now c.loop-at.at none c.loop-at.invariant c.loop-at-test.true (sym c.is_named.ensures ∙ c.if-is_named.true)
 
 pub loop-at-preserved : goal.loop-at-preserved
 unfolding node_name none
 loop-at-preserved c =
-    find_goes_on c.args.strings.now c.args.count c.args.nodes.now c.args.name.now c.loop-at.at none c.loop-at.invariant c.requires.nexts c.loop-at-test.true (sym c.is_named.ensures ∙ c.if-is_named.false)
+    find_goes_on c.args.strings.now c.args.order.now c.args.count c.args.nodes.now c.args.name.now c.loop-at.at none c.loop-at.invariant c.requires.nexts c.loop-at-test.true (sym c.is_named.ensures ∙ c.if-is_named.false)

@@ -1,10 +1,10 @@
 use Rattle.std.proofs.Common.{◌+◌, ◌≤◌, drop, length}
 use Rattle.mo_ar.specs.inner.Index.{IsIndex, offers_of}
-use Rattle.mo_ar.proofs.index.index_of.Given as goal
+use Rattle.mo_ar.proofs.index.built.Given as goal
 
 abbrev pub invariant-loop-at : goal.invariant-loop-at
 invariant-loop-at l = record {
-  index : IsIndex l.strings (drop l.at (offers_of l.strings l.entries)) l.heads.items l.nodes.items;
+  index : IsIndex l.strings l.order.items (drop l.at (offers_of l.strings l.entries)) l.heads.items l.nodes.items;
   within : l.at ≤ length l.entries;
   few : length l.nodes.items + l.at ≤ length l.entries;
 }
