@@ -5,4 +5,6 @@
 #[cfg(test)]
 mod numbers;
 #[cfg(test)]
+mod referring;
+#[cfg(test)]
 mod resolving;

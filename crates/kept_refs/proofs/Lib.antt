@@ -1,0 +1,5 @@
+mod KeptLemmas
+mod LeastLemmas
+mod ListLemmas
+mod LostLemmas
+mod RunLemmas

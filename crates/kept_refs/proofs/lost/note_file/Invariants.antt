@@ -1,0 +1,7 @@
+use Rattle.std.specs.Option.{option_map}
+use Rattle.kept_refs.specs.inner.Lost.{held}
+use Rattle.kept_refs.proofs.LostLemmas.{IsNoted}
+use Rattle.kept_refs.proofs.lost.note_file.Given as goal
+
+abbrev pub invariant-loop-at : goal.invariant-loop-at
+invariant-loop-at l = IsNoted l.keys l.file l.goals (option_map held l.fn.least) l.at (option_map held l.found) l.last.key l.last.kept

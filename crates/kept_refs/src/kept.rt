@@ -1,0 +1,53 @@
+//! Whether an atom is kept.
+
+ghost use Rattle.std.specs.Prelude.{◌≡◌};
+ghost use Rattle.std.specs.List.Sorted.{IsStrictlySortedBy};
+ghost use Rattle.mo_types.specs.Keys.{compare_keys};
+ghost use Rattle.mark_core.specs.Kept.{has};
+
+use mo_types::AtomKey;
+use std::cmp::Ordering;
+
+// The order of atoms.
+fn compare(a: &AtomKey, b: &AtomKey) -> Ordering
+    ensures { result ≡ compare_keys a.now b.now }
+{
+    a.cmp(b)
+}
+
+/// Whether an atom is among those of a list whose keys rise.
+pub(crate) fn is_kept(keys: &[AtomKey], key: AtomKey) -> bool
+    requires { IsStrictlySortedBy compare_keys keys.now }
+    ensures { result ≡ has keys.now key }
+{
+    match keys.binary_search_by(|other| compare(other, &key)) {
+        Ok(_) => true,
+        Err(_) => false,
+    }
+}
+
+/// The last atom that was asked, with the answer: references of one atom mostly stand together.
+#[derive(Clone, Copy)]
+pub(crate) struct Asked {
+    pub key: AtomKey,
+    pub kept: bool,
+}
+
+/// The answer for an atom, where that for another one is known.
+pub(crate) fn ask(keys: &[AtomKey], last: Asked, key: AtomKey) -> Asked
+    requires sorted { IsStrictlySortedBy compare_keys keys.now }
+    requires known { last.kept ≡ has keys.now last.key }
+    ensures key { result.key ≡ key }
+    ensures kept { result.kept ≡ has keys.now key }
+{
+    if last.key == key {
+        return Asked {
+            key,
+            kept: last.kept,
+        };
+    }
+    Asked {
+        key,
+        kept: is_kept(keys, key),
+    }
+}

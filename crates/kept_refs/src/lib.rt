@@ -1,0 +1,13 @@
+//! The references of the atoms that are kept: in which order they stand, and which of them lead nowhere.
+#![tactic(auto)]
+
+mod kept;
+mod laws;
+mod lost;
+mod order;
+mod run;
+
+pub use laws::the_least_name_is_told;
+pub use lost::{GoalTable, Lost, undefined};
+pub use order::{Spot, SpotList, ref_order};
+pub use run::spots_of_atom;

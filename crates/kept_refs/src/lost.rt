@@ -1,0 +1,178 @@
+//! The names to which kept atoms refer and that lead nowhere.
+
+ghost use Rattle.std.specs.Prelude.{◌≡◌, ◌<◌, ◌++◌, fold, length};
+ghost use Rattle.std.specs.List.Sorted.{IsStrictlySortedBy};
+ghost use Rattle.std.specs.Option.{option_copied, option_map};
+ghost use Rattle.mo_types.specs.Keys.{compare_keys};
+ghost use Rattle.kept_refs.specs.Undefined as spec;
+ghost use Rattle.kept_refs.specs.inner.Lost.{held, labelled, pairs_of};
+
+use crate::kept::{Asked, ask, is_kept};
+use mo_types::{
+    AtomKey, Bytes, FileId, Goal, GoalList, Items, KeyList, Loaded, LoadedFile, Ref, Symbol, Target,
+};
+
+/// The goals of each file's symbols, file by file.
+pub type GoalTable = Items<GoalList>;
+
+/// A name that leads nowhere.
+#[derive(Clone, Copy, Debug)]
+pub struct Lost<'a> {
+    pub name: &'a [u8],
+    /// What messages call the first file of which a kept atom refers to it, or nothing where none does.
+    pub label: &'a [u8],
+}
+
+fn is_nobody(goal: &Goal) -> bool
+    ensures { result ≡ spec.is_nobody goal.now }
+{
+    matches!(goal, Goal::Nobody)
+}
+
+// The name to which a target goes, where it leads nowhere.
+fn lost_name<'a>(symbols: &'a [Symbol], goals: &[Goal], target: Target) -> Option<&'a Bytes>
+    ensures { option_copied result ≡ spec.lost_name symbols.now goals.now target }
+{
+    let Target::Name(index) = target else {
+        return None;
+    };
+    let goal = goals.get(index as usize)?;
+    if !is_nobody(goal) {
+        return None;
+    }
+    Some(&symbols.get(index as usize)?.name)
+}
+
+// Of two names the lesser one, and of the same name the earlier.
+fn lesser<'a>(least: Option<Lost<'a>>, lost: Lost<'a>) -> Option<Lost<'a>>
+    ensures { option_map held result ≡ spec.lesser (option_map held least.entry) (held lost.entry) }
+{
+    match least {
+        Some(other) if !lost.name.cmp(other.name).is_lt() => Some(other),
+        _ => Some(lost),
+    }
+}
+
+// The least name, with one more where there is one.
+fn note<'a>(least: Option<Lost<'a>>, name: Option<&'a Bytes>, label: &'a [u8]) -> Option<Lost<'a>>
+    ensures { option_map held result ≡ fold spec.lesser (option_map held least.entry) (pairs_of label.now (option_copied name.entry)) }
+{
+    match name {
+        Some(name) => lesser(
+            least,
+            Lost {
+                name: name.as_slice(),
+                label,
+            },
+        ),
+        None => least,
+    }
+}
+
+// The least name, with those of a file's reference more.
+#[tactic(auto, using(crate::proofs::LostLemmas::of_ref))]
+fn note_ref<'a>(
+    least: Option<Lost<'a>>,
+    file: &'a LoadedFile,
+    goals: &[Goal],
+    reference: &Ref,
+) -> Option<Lost<'a>>
+    ensures { option_map held result ≡ fold spec.lesser (option_map held least.entry) (labelled file.now (spec.lost_names file.now.object.symbols goals.now reference.now)) }
+{
+    let symbols = file.object.symbols.as_slice();
+    let label = file.label.as_slice();
+    let least = note(least, lost_name(symbols, goals, reference.target), label);
+    match reference.minus {
+        Some(minus) => note(least, lost_name(symbols, goals, minus), label),
+        None => least,
+    }
+}
+
+const FIRST: AtomKey = AtomKey {
+    file: FileId {
+        position: 0,
+        member: 0,
+    },
+    section: 0,
+    offset: 0,
+};
+
+// The least name, with those of a file's kept atoms more.
+#[tactic(auto, using(crate::proofs::LostLemmas::of_file))]
+fn note_file<'a>(
+    least: Option<Lost<'a>>,
+    file: &'a LoadedFile,
+    goals: &[Goal],
+    keys: &[AtomKey],
+) -> Option<Lost<'a>>
+    requires { IsStrictlySortedBy compare_keys keys.now }
+    ensures { option_map held result ≡ fold spec.lesser (option_map held least.entry) (spec.lost_in keys.now file.now goals.now) }
+{
+    let mut found = least;
+    let mut last = Asked {
+        key: FIRST,
+        kept: is_kept(keys, FIRST),
+    };
+    for at in 0..file.refs.len() {
+        match file.refs.get(at) {
+            Some(reference) => {
+                last = ask(keys, last, reference.atom);
+                if last.kept {
+                    found = note_ref(found, file, goals, &reference);
+                }
+            }
+            None => {}
+        }
+    }
+    found
+}
+
+// The least name to which kept atoms of files refer.
+#[tactic(auto, using(crate::proofs::LostLemmas::of_files))]
+fn note_files<'a>(files: &'a [LoadedFile], goals: &GoalTable, keys: &[AtomKey]) -> Option<Lost<'a>>
+    requires { IsStrictlySortedBy compare_keys keys.now }
+    ensures { option_map held result ≡ spec.least (spec.lost keys.now files.now goals.now) }
+{
+    let mut least = None;
+    for (at, file) in files.iter().enumerate() {
+        match goals.get(at) {
+            Some(goals) => least = note_file(least, file, goals.as_slice(), keys),
+            None => {}
+        }
+    }
+    least
+}
+
+// The least name, with those that the command wants more.
+#[tactic(auto, using(crate::proofs::LostLemmas::of_names))]
+fn note_wanted<'a>(least: Option<Lost<'a>>, names: &'a [Bytes]) -> Option<Lost<'a>>
+    ensures { option_map held result ≡ fold spec.lesser (option_map held least.entry) (spec.wanted names.now) }
+{
+    let mut found = least;
+    for name in names {
+        found = lesser(
+            found,
+            Lost {
+                name: name.as_slice(),
+                label: &[],
+            },
+        );
+    }
+    found
+}
+
+/// The least name that leads nowhere, of those to which kept atoms refer and of those that the command wants and that
+/// lead nowhere, or `None` exactly where there is no such name. Takes no memory.
+#[tactic(auto, using(crate::proofs::LostLemmas::all_names))]
+pub fn undefined<'a>(
+    loaded: &'a Loaded,
+    goals: &GoalTable,
+    kept: &KeyList,
+    names: &'a [Bytes],
+) -> Option<Lost<'a>>
+    requires { IsStrictlySortedBy compare_keys kept.now }
+    ensures { option_map held result ≡ spec.undefined kept.now loaded.now.files goals.now names.now }
+{
+    let least = note_files(loaded.files.as_slice(), goals, kept.as_slice());
+    note_wanted(least, names)
+}

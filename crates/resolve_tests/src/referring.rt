@@ -1,0 +1,196 @@
+//! The references of kept atoms against tables that were written by hand.
+
+use kept_refs::{GoalTable, ref_order, spots_of_atom, undefined};
+use mark_core::kept;
+use mo_types::{
+    AtomKey, AtomList, Bytes, EdgeList, FileId, Goal, GoalList, KeyList, Loaded, LoadedFile,
+    LoadedList, Object, OutOfMemory, Ref, RefKind, RefList, SectionList, Symbol, SymbolKind,
+    SymbolList, Target, UnwindList,
+};
+use std::alloc::Global;
+use std::test::Fail;
+
+fn key(position: u16, offset: u64) -> AtomKey {
+    AtomKey {
+        file: FileId {
+            position,
+            member: 0,
+        },
+        section: 1,
+        offset,
+    }
+}
+
+// A reference of an atom to a symbol, less another one perhaps.
+fn reference(atom: AtomKey, target: u32, minus: Option<u32>) -> Ref {
+    Ref {
+        atom,
+        place: 0,
+        file_place: 0,
+        kind: RefKind::Pointer,
+        target: Target::Name(target),
+        minus: minus.map(Target::Name),
+        addend: 0,
+    }
+}
+
+// The atom, the target and what is subtracted.
+type Row = (u64, u32, Option<u32>);
+
+fn refs_of(alloc: Global, position: u16, rows: &[Row]) -> Result<RefList, OutOfMemory> {
+    let mut refs = RefList::new(
+        alloc,
+        FileId {
+            position,
+            member: 0,
+        },
+    );
+    for (offset, target, minus) in rows {
+        refs.push(reference(key(position, *offset), *target, *minus))?;
+    }
+    Ok(refs)
+}
+
+fn symbols(alloc: Global, names: &[&'static [u8]]) -> Result<SymbolList, OutOfMemory> {
+    let mut list = SymbolList::new(alloc);
+    for name in names {
+        list.push(Symbol {
+            name: Bytes::from_static(*name),
+            kind: SymbolKind::Undefined,
+            external: true,
+            hidden: false,
+            weak_def: false,
+            weak_ref: false,
+            no_strip: false,
+            alt: false,
+        })?;
+    }
+    Ok(list)
+}
+
+// Those of a file, of which the first leads to the header and the others nowhere.
+fn goals(alloc: Global, count: usize) -> Result<GoalList, OutOfMemory> {
+    let mut list = GoalList::new(alloc);
+    for i in 0..count {
+        list.push(if i == 0 { Goal::Header } else { Goal::Nobody })?;
+    }
+    Ok(list)
+}
+
+// The names of a file's symbols, and its references.
+type File<'a> = (&'static [u8], &'a [&'static [u8]], &'a [Row]);
+
+fn link(alloc: Global, files: &[File]) -> Result<(Loaded, GoalTable), OutOfMemory> {
+    let mut loaded = LoadedList::new(alloc);
+    let mut table = GoalTable::new(alloc);
+    for (i, (label, names, rows)) in files.iter().enumerate() {
+        let position = (i % 100) as u16;
+        table.push(goals(alloc, names.len())?)?;
+        loaded.push(LoadedFile {
+            id: FileId {
+                position,
+                member: 0,
+            },
+            label: Bytes::from_static(*label),
+            object: Object {
+                subsections: true,
+                sections: SectionList::new(alloc),
+                symbols: symbols(alloc, names)?,
+            },
+            atoms: AtomList::new(alloc),
+            refs: refs_of(alloc, position, rows)?,
+            unwinds: UnwindList::new(alloc),
+        })?;
+    }
+    Ok((Loaded { files: loaded }, table))
+}
+
+fn keys(alloc: Global, list: &[(u16, u64)]) -> Result<KeyList, OutOfMemory> {
+    let mut keys = KeyList::new(alloc);
+    for (position, offset) in list {
+        keys.push(key(*position, *offset))?;
+    }
+    Ok(keys)
+}
+
+// The kept atoms, the names that the command wants, and the name and the file that are told.
+type Case<'a> = (
+    &'a [(u16, u64)],
+    &'a [&'static [u8]],
+    Option<(&'static [u8], &'static [u8])>,
+);
+
+fn tells(alloc: Global, files: &[File], case: &Case) -> Result<bool, OutOfMemory> {
+    let (atoms, wanted, told) = case;
+    let (loaded, table) = link(alloc, files)?;
+    let none = EdgeList::new(alloc);
+    let kept = kept(alloc, &none, &none, &keys(alloc, atoms)?)?;
+    let mut names = Vec::new(alloc);
+    for name in *wanted {
+        names.push(Bytes::from_static(*name))?;
+    }
+    let lost = undefined(&loaded, &table, &kept, names.as_slice());
+    Ok(match (lost, told) {
+        (Some(lost), Some((name, label))) => lost.name == *name && lost.label == *label,
+        (None, None) => true,
+        _ => false,
+    })
+}
+
+// Two files: `a.o` refers from 0 to the header, and from 8 to `_z`; `b.o` from 0 to `_z`, and from 4 to the header less
+// `_b`.
+const FILES: [File; 2] = [
+    (b"a.o", &[b"_main", b"_z"], &[(0, 0, None), (8, 1, None)]),
+    (
+        b"b.o",
+        &[b"_main", b"_z", b"_b"],
+        &[(4, 0, Some(2)), (0, 1, None)],
+    ),
+];
+
+#[test]
+fn least_undefined_name_is_told(rt: HostRuntime) -> Result<(), Fail> {
+    let alloc = rt.alloc();
+    let cases: [Case; 8] = [
+        (&[], &[], None),
+        (&[(0, 0)], &[], None),
+        (&[(0, 0), (0, 8)], &[], Some((b"_z", b"a.o"))),
+        (&[(0, 0), (1, 0)], &[], Some((b"_z", b"b.o"))),
+        (&[(0, 8), (1, 0), (1, 4)], &[], Some((b"_b", b"b.o"))),
+        (&[(0, 0)], &[b"_start"], Some((b"_start", b""))),
+        (&[(0, 8)], &[b"_z", b"_y"], Some((b"_y", b""))),
+        (&[(0, 8)], &[b"_z"], Some((b"_z", b"a.o"))),
+    ];
+    for case in &cases {
+        assert!(rt; tells(alloc, &FILES, case)?);
+    }
+    Ok(())
+}
+
+#[test]
+fn references_are_found_by_their_atoms(rt: HostRuntime) -> Result<(), Fail> {
+    let alloc = rt.alloc();
+    let refs = refs_of(
+        alloc,
+        0,
+        &[
+            (16, 5, None),
+            (0, 4, None),
+            (16, 3, None),
+            (8, 2, None),
+            (0, 1, None),
+        ],
+    )?;
+    let order = ref_order(alloc, &refs)?;
+    let cases: [(u64, &[u32]); 4] = [(0, &[1, 4]), (8, &[3]), (16, &[0, 2]), (12, &[])];
+    for (offset, wanted) in &cases {
+        let found = spots_of_atom(order.as_slice(), 1, *offset);
+        assert!(rt;
+            found
+                .iter()
+                .map(|spot| spot.index)
+                .eq(wanted.iter().copied())
+        );
+    }
+    Ok(())
+}
