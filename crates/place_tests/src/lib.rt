@@ -3,6 +3,12 @@
 #![tactic(auto)]
 
 #[cfg(test)]
+mod kept;
+#[cfg(test)]
+mod layouts;
+#[cfg(test)]
+mod order;
+#[cfg(test)]
 mod slots;
 #[cfg(test)]
 mod templates;

@@ -1,15 +1,9 @@
 //! Templates against offsets that were counted by hand.
-ghost use Rattle.std.specs.Prelude.{◌≡◌, ◌≤◌, All, IsTrue};
-ghost use Rattle.std.specs.List.Sorted.{IsStrictlySortedBy};
-ghost use Rattle.std.specs.Ordering.{on};
-ghost use Rattle.mo_types.specs.declared.atom.Atom.{Atom};
-ghost use Rattle.mo_types.specs.Keys.{compare_keys};
-
+use crate::order::{are_low, are_low_sections, is_rising};
 use mo_types::{
     Atom, AtomKey, AtomList, Bytes, FileId, KeyList, OutOfMemory, OutSection, OutSections,
 };
 use std::alloc::Global;
-use std::cmp::Ordering;
 use std::test::Fail;
 use tlv_plan::{Template, fits, offset_of, template};
 
@@ -64,30 +58,6 @@ fn section(alloc: Global, kind: u8, align: u8, rows: &[Row]) -> Result<OutSectio
         align,
         atoms: keys,
     })
-}
-
-fn is_rising(atoms: &[Atom]) -> bool
-    ensures { IsTrue result → IsStrictlySortedBy (on (λ (atom : Atom). atom.key) compare_keys) atoms.now }
-{
-    for i in 1..atoms.len() {
-        match atoms[i - 1].key.cmp(&atoms[i].key) {
-            Ordering::Less => {}
-            _ => return false,
-        }
-    }
-    true
-}
-
-fn are_low(atoms: &[Atom]) -> bool
-    ensures { IsTrue result → All (λ atom. atom.align ≤ 14) atoms.now }
-{
-    atoms.iter().all(|atom| atom.align <= 14)
-}
-
-fn are_low_sections(sections: &[OutSection]) -> bool
-    ensures { IsTrue result → All (λ section. section.align ≤ 14) sections.now }
-{
-    sections.iter().all(|section| section.align <= 14)
 }
 
 // The template, where it may be asked for.

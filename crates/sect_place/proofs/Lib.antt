@@ -13,3 +13,5 @@ pub mod Ordering
 pub mod Low
 pub mod Listed
 pub mod Once
+pub mod Positions
+pub mod Pushed

@@ -1,5 +1,5 @@
 -- Each atom that has a home is listed in a section of the image.
-use Rattle.std.proofs.Common.{◌≡◌, ℕ, ◌⊎◌, ◌++◌, Bool, true, false, not, ◌&&◌, List, [], ◌∷◌, map, Option, Some, None, Contains, refl, sym, ap, subst, ◌∙◌, inl, inr, arith}
+use Rattle.std.proofs.Common.{◌≡◌, ℕ, ◌⊎◌, ◌++◌, Bool, true, false, not, ◌&&◌, List, [], ◌∷◌, map, Option, Some, None, Contains, refl, sym, ap, subst, ◌∙◌, inl, inr}
 use Rattle.std.specs.List.{filter, filter_map, flat_map, list_any}
 use Rattle.std.specs.Str.{bytes_eq}
 use Rattle.std.proofs.lemmas.Bool.{cases_Bool}
@@ -17,16 +17,16 @@ use Rattle.sect_place.specs.OutSections.{Home, Row, rows, row_of, home_of, same_
 use Rattle.sect_place.proofs.Buckets.{has, keeps_all}
 use Rattle.sect_place.proofs.Gathering.{equal, row_with, row_is}
 
-in_left : {X : Type 0} (xs ys : List X) (x : X) → In x xs → In x (xs ++ ys)
+pub in_left : {X : Type 0} (xs ys : List X) (x : X) → In x xs → In x (xs ++ ys)
 in_left [] ys x h = absurd h
 in_left (y ∷ xs) ys x (inl e) = inl e
 in_left (y ∷ xs) ys x (inr h) = inr (in_left xs ys x h)
 
-in_right : {X : Type 0} (xs ys : List X) (x : X) → In x ys → In x (xs ++ ys)
+pub in_right : {X : Type 0} (xs ys : List X) (x : X) → In x ys → In x (xs ++ ys)
 in_right [] ys x h = h
 in_right (y ∷ xs) ys x h = inr (in_right xs ys x h)
 
-in_flat : {X Y : Type 0} (f : X → List Y) (xs : List X) (x : X) (y : Y) → In x xs → In y (f x) → In y (flat_map f xs)
+pub in_flat : {X Y : Type 0} (f : X → List Y) (xs : List X) (x : X) (y : Y) → In x xs → In y (f x) → In y (flat_map f xs)
 in_flat f [] x y h there = absurd h
 in_flat f (z ∷ xs) x y (inl e) there = in_left (f z) (flat_map f xs) y (subst (λ q. In y (f q)) (sym e) there)
 in_flat f (z ∷ xs) x y (inr h) there = in_right (f z) (flat_map f xs) y (in_flat f xs x y h there)

@@ -1,7 +1,6 @@
 -- No section has a greater alignment than its atoms and the thread-local sections have.
-use Rattle.std.proofs.Common.{◌≡◌, ℕ, ◌≤◌, Bool, true, false, max, List, [], ◌∷◌, ◌++◌, map, All, Option, Some, None, refl, sym, ap, subst, ◌∙◌, arith}
-use Rattle.std.specs.List.{filter, filter_map, flat_map, fold, AllByRecursion}
-use Rattle.std.proofs.lemmas.Bool.{cases_Bool}
+use Rattle.std.proofs.Common.{◌≡◌, ℕ, ◌≤◌, Bool, true, false, max, List, [], ◌∷◌, ◌++◌, map, All, Option, Some, None, refl, ap, ◌∙◌, arith}
+use Rattle.std.specs.List.{filter, flat_map, fold, AllByRecursion}
 use Rattle.std.proofs.lemmas.List.Elements.{All-from_recursion, recursion_from_All}
 use Rattle.list_lemmas.proofs.Members.{all_map}
 use Rattle.mo_types.specs.Destination.{Destination}

@@ -1,6 +1,6 @@
 -- No atom is listed twice.
-use Rattle.std.proofs.Common.{◌≡◌, ◌≢◌, ℕ, ◌<◌, ◌⊎◌, ◌++◌, Bool, true, false, List, [], ◌∷◌, map, length, get_or, Option, Some, None, All, refl, sym, ap, subst, ◌∙◌, inl, inr, arith}
-use Rattle.std.specs.List.{filter, filter_map, flat_map, list_any, AllByRecursion, AllPairs}
+use Rattle.std.proofs.Common.{◌≡◌, ◌≢◌, ℕ, ◌⊎◌, ◌++◌, Bool, true, false, List, [], ◌∷◌, map, Option, Some, None, refl, sym, ap, subst, ◌∙◌, inl, inr, arith}
+use Rattle.std.specs.List.{filter, flat_map, list_any, AllPairs}
 use Rattle.std.specs.List.Sorted.{IsStrictlySortedBy}
 use Rattle.std.specs.declared.cmp.Ordering.TheVariants.{Less, Equal}
 use Rattle.std.specs.Ordering.{on}
@@ -22,15 +22,15 @@ use Rattle.mo_types.specs.declared.out_section.OutSection.{OutSection}
 use Rattle.tlv_plan.specs.Template.{greatest_align, is_thread_local, keys_of, thread_local}
 use Rattle.sect_place.specs.Arrangement.{is_in}
 use Rattle.sect_place.specs.OutSections.{Home, Row, rows, row_of, home_of, same_destination, destinations, going_to, section_with, sections_of, is_of, is_regular, ranked, leading, segments_of, in_order, led_by, led, out_sections}
-use Rattle.sect_place.proofs.Gathering.{equal, one_dest, row_with}
+use Rattle.sect_place.proofs.Gathering.{equal, one_dest}
 use Rattle.sect_place.proofs.Listed.{names_equal}
 
 -- no element stands twice
-abbrev Apart : {X : Type 0} → List X → Type 0
+abbrev pub Apart : {X : Type 0} → List X → Type 0
 Apart [] = Unit {0}
 Apart (x ∷ xs) = (In x xs → ⊥) × Apart xs
 
-from_append : {X : Type 0} (xs ys : List X) (x : X) → In x (xs ++ ys) → In x xs ⊎ In x ys
+pub from_append : {X : Type 0} (xs ys : List X) (x : X) → In x (xs ++ ys) → In x xs ⊎ In x ys
 from_append [] ys x h = inr h
 from_append (y ∷ xs) ys x (inl e) = inl (inl e)
 from_append (y ∷ xs) ys x (inr h) = further (from_append xs ys x h)
@@ -39,7 +39,7 @@ from_append (y ∷ xs) ys x (inr h) = further (from_append xs ys x h)
     further (inl first) = inl (inr first)
     further (inr second) = inr second
 
-from_flat : {X Y : Type 0} (f : X → List Y) (xs : List X) (y : Y) → In y (flat_map f xs) → (x : X) × In x xs × In y (f x)
+pub from_flat : {X Y : Type 0} (f : X → List Y) (xs : List X) (y : Y) → In y (flat_map f xs) → (x : X) × In x xs × In y (f x)
 from_flat f [] y h = absurd h
 from_flat {X = X} f (x ∷ xs) y h = by (from_append (f x) (flat_map f xs) y h) (from_flat f xs y)
   where
@@ -47,7 +47,7 @@ from_flat {X = X} f (x ∷ xs) y h = by (from_append (f x) (flat_map f xs) y h) 
     by (inl here) rest = (x, inl refl, here)
     by (inr there) rest = let later = rest there in (later.0, inr later.1, later.2)
 
-apart_append : {X : Type 0} (xs ys : List X) → Apart xs → Apart ys → ((x : X) → In x xs → In x ys → ⊥) → Apart (xs ++ ys)
+pub apart_append : {X : Type 0} (xs ys : List X) → Apart xs → Apart ys → ((x : X) → In x xs → In x ys → ⊥) → Apart (xs ++ ys)
 apart_append [] ys a b none = b
 apart_append (x ∷ xs) ys a b none =
     (λ h. either (from_append xs ys x h), apart_append xs ys a.1 b (λ z first second. none z (inr first) second))
@@ -56,7 +56,7 @@ apart_append (x ∷ xs) ys a b none =
     either (inl first) = a.0 first
     either (inr second) = none x (inl refl) second
 
-apart_flat : {X Y : Type 0} (f : X → List Y) (xs : List X) → Apart xs → ((x : X) → In x xs → Apart (f x)) → ((x z : X) (y : Y) → In x xs → In z xs → In y (f x) → In y (f z) → x ≡ z) → Apart (flat_map f xs)
+pub apart_flat : {X Y : Type 0} (f : X → List Y) (xs : List X) → Apart xs → ((x : X) → In x xs → Apart (f x)) → ((x z : X) (y : Y) → In x xs → In z xs → In y (f x) → In y (f z) → x ≡ z) → Apart (flat_map f xs)
 apart_flat f [] a each one = tt
 apart_flat {X = X} f (x ∷ xs) a each one =
     apart_append (f x) (flat_map f xs) (each x (inl refl)) (apart_flat f xs a.1 (λ z h. each z (inr h)) (λ z w y p q. one z w y (inr p) (inr q)))
@@ -287,7 +287,7 @@ led_keys align (section ∷ sections) = by (is_thread_local section) refl (led_k
 
 -- ---- all keys
 
-pairs : (keys : List AtomKey) → Apart keys → AllPairs (λ (a : AtomKey) (b : AtomKey). a ≢ b) keys
+pub pairs : (keys : List AtomKey) → Apart keys → AllPairs (λ (a : AtomKey) (b : AtomKey). a ≢ b) keys
 pairs [] a = λ i j d low high. absurd (omega arith)
 pairs (key ∷ keys) a =
     AllPairs-cons (λ (a : AtomKey) (b : AtomKey). a ≢ b) key keys

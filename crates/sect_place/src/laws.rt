@@ -7,12 +7,18 @@ ghost use Rattle.mo_bytes.specs.Rounding.{IsLeastMultiple};
 ghost use Rattle.mo_types.specs.declared.atom.Atom.{Atom};
 ghost use Rattle.mo_types.specs.Keys.{compare_keys};
 ghost use Rattle.mo_types.specs.declared.key.AtomKey.{AtomKey};
+ghost use Rattle.mo_cmd.specs.declared.command.Command.{Command};
 ghost use Rattle.mo_types.specs.declared.loaded.LoadedFile.{LoadedFile};
+ghost use Rattle.mo_types.specs.declared.out_section.OutSection.{OutSection};
+ghost use Rattle.slot_plan.specs.declared.list.Slots.{Slots};
 ghost use Rattle.tlv_plan.specs.Template.{keys_of, stand};
-ghost use Rattle.sect_place.specs.Layout.{Plan, image_stand, image_places, image_sections};
+ghost use Rattle.sect_place.specs.Layout.{Plan, image_stand, image_places, image_sections, plan_of};
 ghost use Rattle.sect_place.specs.OutSections.{Home, home_of, out_sections};
 ghost use Rattle.sect_place.specs.Places.{AreLeast, places, part_from, page_up};
+ghost use Rattle.sect_place.specs.declared.island.IslandPlan.{IslandPlan};
+ghost use Rattle.sect_place.specs.declared.layout.Placed.{Placed};
 ghost use Rattle.sect_place.specs.declared.layout.PlacedSection.{PlacedSection};
+ghost use Rattle.sect_place.specs.declared.size.PlaceSizes.{PlaceSizes};
 ghost use Rattle.sect_place.specs.declared.part.Part.{Part};
 
 /// Each atom of an image ends, with the islands behind it, where the next one begins or before, and its place is a
@@ -49,4 +55,14 @@ pub fn each_kept_atom_is_listed()
 /// No atom is in two sections of the image, nor twice in one, where the kept atoms rise.
 pub fn no_atom_is_listed_twice()
     ensures { (files : List LoadedFile) (kept : List Atom) → IsStrictlySortedBy (on (λ (atom : Atom). atom.key) compare_keys) kept → AllPairs (λ (a : AtomKey) (b : AtomKey). a ≢ b) (keys_of (out_sections files kept)) }
+{}
+
+/// Each kept atom that a section lists has a place in the image.
+pub fn each_listed_atom_is_placed()
+    ensures { (kept : List Atom) (sections : List OutSection) (slots : Slots) (islands : IslandPlan) (sizes : PlaceSizes) (command : Command) (atom : Atom) → Contains kept atom → Contains (keys_of sections) atom.key → (address : ℕ) × Contains (image_places (plan_of kept sections slots islands sizes command)) (record { atom = atom.key; address = address }) }
+{}
+
+/// No atom has two places in the image, where no atom is listed twice.
+pub fn no_atom_is_placed_twice()
+    ensures { (kept : List Atom) (sections : List OutSection) (slots : Slots) (islands : IslandPlan) (sizes : PlaceSizes) (command : Command) → AllPairs (λ (a : AtomKey) (b : AtomKey). a ≢ b) (keys_of sections) → AllPairs (λ (p : Placed) (q : Placed). p.atom ≢ q.atom) (image_places (plan_of kept sections slots islands sizes command)) }
 {}

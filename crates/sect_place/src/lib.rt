@@ -14,16 +14,14 @@ mod order;
 mod part;
 mod placing;
 mod size;
-#[cfg(test)]
-mod tests;
 mod to;
 mod walk;
 mod wide;
 
 pub use island::{AreaList, BranchTarget, BranchTargetList, IslandArea, IslandPlan, WayList};
 pub use laws::{
-    atoms_stand_apart, each_kept_atom_is_listed, no_atom_is_listed_twice, places_are_least,
-    sections_stand_apart,
+    atoms_stand_apart, each_kept_atom_is_listed, each_listed_atom_is_placed,
+    no_atom_is_listed_twice, no_atom_is_placed_twice, places_are_least, sections_stand_apart,
 };
 pub use layout::{
     Layout, Placed, PlacedList, PlacedSection, PlacedSectionList, Segment, SegmentList,

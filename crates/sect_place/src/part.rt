@@ -107,7 +107,7 @@ pub(crate) fn is_in(section: &OutSection, segment: &[u8]) -> bool
 }
 
 // Whether it is `__text` of instructions.
-fn is_code(section: &OutSection) -> bool
+pub(crate) fn is_code(section: &OutSection) -> bool
     ensures { result ≡ arrangement.is_code section.now }
 {
     is_in(section, b"__TEXT")

@@ -1,5 +1,5 @@
 //! Places of up to 128 bits, since atoms may have any size.
-ghost use Rattle.std.specs.Prelude.{◌≡◌, ◌≤◌, ◌^◌, ◌+◌, ◌-◌, min, IfOk};
+ghost use Rattle.std.specs.Prelude.{◌≡◌, ◌<◌, ◌≤◌, ◌^◌, ◌+◌, ◌-◌, min, IfOk};
 ghost use Rattle.sect_place.specs.inner.Room.{capped};
 ghost use Rattle.tlv_plan.specs.Template.{aligned};
 
@@ -13,8 +13,19 @@ pub(crate) fn up(at: u128, align: u8) -> Result<u128, OutOfMemory>
     if at >= 1 << 127 {
         return Err(OutOfMemory);
     }
+    Ok(up_near(at, align))
+}
+
+// The least multiple of 2^`align` from a place of fewer than 2^127 bytes on.
+pub(crate) fn up_near(at: u128, align: u8) -> u128
+    requires low { align ≤ 14 }
+    requires near { at < 2 ^ 127 }
+    ensures exact { result ≡ aligned align at }
+    ensures enough { at ≤ result }
+    ensures small { result < at + 0x4000 }
+{
     let unit = unit_of(align);
-    Ok((at + (unit - 1)) / unit * unit)
+    (at + (unit - 1)) / unit * unit
 }
 
 // The sum of two numbers, or want of memory where it has more than 128 bits.

@@ -1,4 +1,4 @@
-use Rattle.std.proofs.Common.{◌≡◌, true, not, List, ap, subst, ◌∙◌}
+use Rattle.std.proofs.Common.{◌≡◌, true, not, ap, subst, ◌∙◌}
 use Rattle.std.specs.List.{list_any}
 use Rattle.indexmap.specs.IndexSet.{insert_key}
 use Rattle.mo_types.specs.Destination.{Destination}

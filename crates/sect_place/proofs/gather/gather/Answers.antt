@@ -1,4 +1,4 @@
-use Rattle.std.proofs.Common.{rules, ap, ◌∙◌, sym, refl}
+use Rattle.std.proofs.Common.{rules, ap, refl}
 use Rattle.std.specs.Option.{option_map}
 use Rattle.sect_place.specs.inner.Gathered.{held_home}
 use Rattle.sect_place.proofs.Gathering.{walk_starts, walk_takes, walk_skips, walk_ends}

@@ -1,4 +1,3 @@
-use Rattle.std.proofs.Common.{rules}
 use Rattle.sect_place.proofs.Homes.{same_home}
 use Rattle.sect_place.proofs.home.next_home.Goals as goal
 

@@ -1,5 +1,4 @@
-use Rattle.std.proofs.Common.{List, All, subst, sym, ◌∙◌, ◌≤◌}
-use Rattle.mo_types.specs.declared.atom.Atom.{Atom}
+use Rattle.std.proofs.Common.{List, All, subst, sym, ◌≤◌}
 use Rattle.mo_types.specs.declared.out_section.OutSection.{OutSection}
 use Rattle.sect_place.proofs.Homes.{files_rise}
 use Rattle.sect_place.proofs.Low.{all_low, all_steps}

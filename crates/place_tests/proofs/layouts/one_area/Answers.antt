@@ -3,7 +3,7 @@ use Rattle.std.specs.List.Sorted.{IsStrictlySortedBy}
 use Rattle.std.specs.Ordering.{on}
 use Rattle.mo_types.specs.Keys.{compare_keys}
 use Rattle.sect_place.specs.declared.island.IslandArea.{IslandArea}
-use Rattle.sect_place.proofs.tests.one_area.Goals as goal
+use Rattle.place_tests.proofs.layouts.one_area.Goals as goal
 
 one_rises : (empty areas : List IslandArea) (area : IslandArea) → empty ≡ [] → areas ≡ empty ++ area ∷ [] → IsStrictlySortedBy (on (λ (area : IslandArea). area.last) compare_keys) areas
 unfolding IsStrictlySortedBy

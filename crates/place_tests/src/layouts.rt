@@ -1,20 +1,16 @@
 //! Layouts against places that were counted by hand.
-ghost use Rattle.std.specs.Prelude.{◌≡◌, ◌≤◌, All, IsTrue};
-ghost use Rattle.std.specs.List.Sorted.{IsStrictlySortedBy};
-ghost use Rattle.std.specs.Ordering.{on};
-ghost use Rattle.mo_types.specs.declared.atom.Atom.{Atom};
-ghost use Rattle.mo_types.specs.Keys.{compare_keys};
-
-use super::*;
-use crate::layout::compare;
+use crate::order::{are_low, are_low_sections, is_rising};
 use mo_cmd::{Command, UsageFault, read_all_words};
 use mo_types::{
     Arg, ArgList, Atom, AtomKey, AtomList, Bytes, FileId, Goal, Items, KeyList, OutOfMemory,
     OutSection, OutSections,
 };
+use sect_place::{
+    AreaList, BranchTarget, BranchTargetList, IslandArea, IslandPlan, Layout, PlaceFault,
+    PlaceSizes, PlacedSection, Segment, WayList, address, place,
+};
 use slot_plan::{Need, NeedList, Slots, Way, slots};
 use std::alloc::Global;
-use std::cmp::Ordering;
 use std::test::Fail;
 
 // An atom of the first file: its section and its offset there, its size, and the power of its alignment.
@@ -148,30 +144,6 @@ fn sections(alloc: Global, parts: &[Part]) -> Result<OutSections, OutOfMemory> {
         sections.push(section(alloc, part)?)?;
     }
     Ok(sections)
-}
-
-fn is_rising(atoms: &[Atom]) -> bool
-    ensures { IsTrue result → IsStrictlySortedBy (on (λ (atom : Atom). atom.key) compare_keys) atoms.now }
-{
-    for i in 1..atoms.len() {
-        match compare(&atoms[i - 1].key, &atoms[i].key) {
-            Ordering::Less => {}
-            _ => return false,
-        }
-    }
-    true
-}
-
-fn are_low(atoms: &[Atom]) -> bool
-    ensures { IsTrue result → All (λ atom. atom.align ≤ 14) atoms.now }
-{
-    atoms.iter().all(|atom| atom.align <= 14)
-}
-
-fn are_low_sections(sections: &[OutSection]) -> bool
-    ensures { IsTrue result → All (λ section. section.align ≤ 14) sections.now }
-{
-    sections.iter().all(|section| section.align <= 14)
 }
 
 fn text_of(words: Words) -> &'static str {

@@ -3,7 +3,7 @@ use Rattle.std.specs.List.{AllAdjacentBelow}
 use Rattle.std.specs.declared.cmp.Ordering.TheVariants.{Less}
 use Rattle.mo_types.specs.declared.atom.Atom.{Atom}
 use Rattle.mo_types.specs.Keys.{compare_keys}
-use Rattle.sect_place.proofs.tests.is_rising.Given as goal
+use Rattle.place_tests.proofs.order.is_rising.Given as goal
 
 abbrev pub invariant-loop-i : goal.invariant-loop-i
 invariant-loop-i l = AllAdjacentBelow (λ (a : Atom) (b : Atom). compare_keys a.key b.key ≡ Less) l.atoms l.i
