@@ -23,3 +23,7 @@ pub mod StandsLemmas
 pub mod GoalLemmas
 pub mod WordsLemmas
 pub mod OneLemmas
+pub mod GrowLemmas
+pub mod PickLemmas
+pub mod AtomSetLemmas
+pub mod EdgeLemmas

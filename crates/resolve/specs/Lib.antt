@@ -7,3 +7,5 @@ pub mod inner
 pub mod Winners
 pub mod Known
 pub mod Goals
+pub mod Edges
+pub mod Roots

@@ -1,6 +1,7 @@
 //! From loaded files to what each reference means: which candidate of a name wins, and where a reference leads.
 #![tactic(auto)]
 
+mod atom_set;
 mod best;
 mod choosing;
 mod chosen;
@@ -12,11 +13,14 @@ mod goals;
 mod groups;
 mod known;
 mod laws;
+mod leading;
 mod literal;
 mod name_index;
 mod name_set;
 mod places;
 mod representative;
+mod standing;
+mod starting;
 mod weak;
 mod winner;
 mod winning;
@@ -30,8 +34,10 @@ pub use laws::{
     a_name_has_one_winner, candidates_have_numbers, representatives_have_the_least_keys,
     the_earlier_wins, the_same_literals_have_one_representative, the_stronger_wins,
 };
+pub use leading::edges;
 pub use places::{Place, place_of};
 pub use representative::{Representative, RepresentativeList};
+pub use starting::roots;
 pub use winner::{Winner, WinnerList};
 pub use winning::winners;
 pub use words::least_words;

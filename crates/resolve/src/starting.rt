@@ -1,0 +1,338 @@
+//! The atoms from which all that is kept is reached.
+ghost use Rattle.std.specs.Prelude.{◌≡◌, ◌++◌, ◌<◌, IfOk, All, length, slice_index_or};
+ghost use Rattle.std.specs.List.{enumerate_from, filter_map, flat_map};
+ghost use Rattle.std.specs.Option.{option_map};
+ghost use Rattle.mo_types.specs.Loaded.{IsWholeFile, IsWholeLoaded};
+ghost use Rattle.mo_types.specs.declared.object.Symbol.{Symbol as Declared};
+ghost use Rattle.resolve.specs.Goals.{stands_for};
+ghost use Rattle.resolve.specs.Roots as spec;
+
+use crate::atom_set::{AtomSet, set_of_atoms};
+use crate::known::Winners;
+use crate::standing::{external_atoms, symbol_atom, winning_atom, winning_atoms, with_atom};
+use crate::winner::Winner;
+use mo_cmd::Command;
+use mo_types::{
+    Atom, AtomKey, Bytes, Items, KeyList, Loaded, LoadedFile, Object, OutOfMemory, Section,
+};
+use std::alloc::Global;
+
+// An atom of a file that is kept by itself, by the atoms in which external symbols and winners stand.
+#[tactic(auto, unfolding(crate::specs::Roots::plain_root))]
+fn plain_root(
+    winners: &Winners,
+    external: &AtomSet,
+    winning: &AtomSet,
+    atom: &Atom,
+) -> Option<AtomKey>
+    ensures { result ≡ spec.plain_root winners.now.literals external.now winning.now atom.now }
+{
+    let key = atom.key;
+    if winners.representative(key) == key && (!external.contains(key) || winning.contains(key)) {
+        Some(key)
+    } else {
+        None
+    }
+}
+
+// Roots, and those of some atoms that are kept by themselves.
+fn with_plain(
+    before: Vec<AtomKey>,
+    winners: &Winners,
+    external: &AtomSet,
+    winning: &AtomSet,
+    atoms: &[Atom],
+) -> Result<Vec<AtomKey>, OutOfMemory>
+    ensures { IfOk result (λ new. new.items ≡ before.items ++ filter_map (spec.plain_root winners.now.literals external.now winning.now) atoms.now) }
+{
+    let mut roots = before;
+    for atom in atoms {
+        roots = with_atom(roots, plain_root(winners, external, winning, atom))?;
+    }
+    Ok(roots)
+}
+
+// An atom that is a common symbol's own.
+#[tactic(auto, unfolding(crate::specs::Roots::common_root))]
+fn common_root(atom: AtomKey) -> Option<AtomKey>
+    ensures { result ≡ spec.common_root atom }
+{
+    if atom.section == 256 {
+        Some(atom)
+    } else {
+        None
+    }
+}
+
+// Roots, and those among some atoms that are common symbols'.
+fn with_commons(before: Vec<AtomKey>, atoms: &[AtomKey]) -> Result<Vec<AtomKey>, OutOfMemory>
+    ensures { IfOk result (λ new. new.items ≡ before.items ++ filter_map spec.common_root atoms.now) }
+{
+    let mut roots = before;
+    for atom in atoms {
+        roots = with_atom(roots, common_root(*atom))?;
+    }
+    Ok(roots)
+}
+
+// Roots, and those of a file where nothing is stripped.
+fn with_plain_roots(
+    alloc: Global,
+    before: Vec<AtomKey>,
+    winners: &Winners,
+    file: &LoadedFile,
+) -> Result<Vec<AtomKey>, OutOfMemory>
+    requires { IsWholeFile file.now }
+    ensures { IfOk result (λ new. new.items ≡ before.items ++ spec.plain_roots winners.now file.now) }
+{
+    let external = external_atoms(alloc, file)?;
+    let winning = winning_atoms(alloc, winners, file)?;
+    let external_set = set_of_atoms(alloc, external.as_slice())?;
+    let winning_set = set_of_atoms(alloc, winning.as_slice())?;
+    let atoms = file.atoms.as_slice();
+    let roots = with_plain(before, winners, &external_set, &winning_set, atoms)?;
+    Ok(with_commons(roots, winning.as_slice())?)
+}
+
+fn is_kept_section(section: &Section) -> bool
+    ensures { result ≡ spec.is_kept_section section.now }
+{
+    section.kind == 9 || section.attributes & 0x1000_0000 != 0
+}
+
+// An atom of a section that is kept.
+#[tactic(auto, unfolding(crate::specs::Roots::section_root))]
+fn section_root(object: &Object, atom: &Atom) -> Option<AtomKey>
+    ensures { result ≡ spec.section_root object.now atom.now }
+{
+    match object.section(u32::from(atom.key.section)) {
+        Some(section) => {
+            if is_kept_section(section) {
+                Some(atom.key)
+            } else {
+                None
+            }
+        }
+        None => None,
+    }
+}
+
+// Roots, and the atoms of sections that are kept.
+fn with_sections(
+    before: Vec<AtomKey>,
+    object: &Object,
+    atoms: &[Atom],
+) -> Result<Vec<AtomKey>, OutOfMemory>
+    ensures { IfOk result (λ new. new.items ≡ before.items ++ filter_map (spec.section_root object.now) atoms.now) }
+{
+    let mut roots = before;
+    for atom in atoms {
+        roots = with_atom(roots, section_root(object, atom))?;
+    }
+    Ok(roots)
+}
+
+// The atom of a symbol that is marked as kept and wins, in the literal that stands for its own.
+fn winning_root(winners: &Winners, file: &LoadedFile, index: u32) -> Option<AtomKey>
+    requires whole { IsWholeFile file.now }
+    requires index { index < length file.now.object.symbols }
+    ensures { (d : Declared) → result ≡ option_map (stands_for winners.now.literals) (spec.winning_atom winners.now.winners file.now (index, slice_index_or file.now.object.symbols index d)) }
+{
+    match winning_atom(winners, file, index) {
+        Some(atom) => Some(winners.representative(atom)),
+        None => None,
+    }
+}
+
+// The atom of a symbol that is marked as kept.
+#[tactic(auto, unfolding(crate::specs::Roots::marked_root))]
+fn marked_root(winners: &Winners, file: &LoadedFile, index: u32) -> Option<AtomKey>
+    requires whole { IsWholeFile file.now }
+    requires index { index < length file.now.object.symbols }
+    ensures { (d : Declared) → result ≡ spec.marked_root winners.now file.now (index, slice_index_or file.now.object.symbols index d) }
+{
+    let symbol = &file.object.symbols.as_slice()[index as usize];
+    if !symbol.no_strip {
+        return None;
+    }
+    if symbol.external {
+        winning_root(winners, file, index)
+    } else {
+        symbol_atom(file, index)
+    }
+}
+
+// Roots, and the atoms of a file's symbols that are marked as kept.
+fn with_marked(
+    before: Vec<AtomKey>,
+    winners: &Winners,
+    file: &LoadedFile,
+) -> Result<Vec<AtomKey>, OutOfMemory>
+    requires { IsWholeFile file.now }
+    ensures { IfOk result (λ new. new.items ≡ before.items ++ filter_map (spec.marked_root winners.now file.now) (enumerate_from 0 file.now.object.symbols)) }
+{
+    let mut roots = before;
+    let count = file.object.symbols.len();
+    for i in 0..count {
+        roots = with_atom(roots, marked_root(winners, file, i as u32))?;
+    }
+    Ok(roots)
+}
+
+// Roots, and those that a file has by itself where what isn't reached is stripped.
+#[tactic(auto, unfolding(crate::specs::Roots::kept_roots))]
+fn with_kept_roots(
+    before: Vec<AtomKey>,
+    winners: &Winners,
+    file: &LoadedFile,
+) -> Result<Vec<AtomKey>, OutOfMemory>
+    requires { IsWholeFile file.now }
+    ensures { IfOk result (λ new. new.items ≡ before.items ++ spec.kept_roots winners.now file.now) }
+{
+    let roots = with_sections(before, &file.object, file.atoms.as_slice())?;
+    with_marked(roots, winners, file)
+}
+
+// The atom in which the winner of a name stands.
+#[tactic(auto, unfolding(crate::specs::Roots::name_root))]
+fn name_root(winners: &Winners, name: &Bytes) -> Option<AtomKey>
+    ensures { result ≡ spec.name_root winners.now name.now }
+{
+    match winners.winner(name.as_slice()) {
+        Some(winner) => Some(winners.representative(winner.atom)),
+        None => None,
+    }
+}
+
+// Roots, and those of some names.
+fn with_names(
+    before: Vec<AtomKey>,
+    winners: &Winners,
+    names: &[Bytes],
+) -> Result<Vec<AtomKey>, OutOfMemory>
+    ensures { IfOk result (λ new. new.items ≡ before.items ++ filter_map (spec.name_root winners.now) names.now) }
+{
+    let mut roots = before;
+    for name in names {
+        roots = with_atom(roots, name_root(winners, name))?;
+    }
+    Ok(roots)
+}
+
+// The atoms of the names that a command wants.
+#[tactic(auto, unfolding(crate::specs::Roots::wanted_roots))]
+fn wanted_roots(
+    alloc: Global,
+    winners: &Winners,
+    command: &Command,
+) -> Result<Vec<AtomKey>, OutOfMemory>
+    ensures { IfOk result (λ list. list.items ≡ spec.wanted_roots command.now winners.now) }
+{
+    let entry = if command.dylib {
+        None
+    } else {
+        name_root(winners, &command.entry)
+    };
+    let roots = with_atom(Vec::new(alloc), entry)?;
+    with_names(roots, winners, command.roots.as_slice())
+}
+
+// The atom of a winner that other images see.
+#[tactic(auto, unfolding(crate::specs::Roots::exported_root))]
+fn exported_root(winners: &Winners, winner: &Winner) -> Option<AtomKey>
+    ensures { result ≡ spec.exported_root winners.now winner.now }
+{
+    if winner.exported {
+        Some(winners.representative(winner.atom))
+    } else {
+        None
+    }
+}
+
+// Roots, and the atoms of the winners that other images see, where the command asks for them.
+#[tactic(auto, unfolding(crate::specs::Roots::exported_roots))]
+fn with_exported(
+    before: Vec<AtomKey>,
+    winners: &Winners,
+    list: &[Winner],
+) -> Result<Vec<AtomKey>, OutOfMemory>
+    ensures { IfOk result (λ new. new.items ≡ before.items ++ filter_map (spec.exported_root winners.now) list.now) }
+{
+    let mut roots = before;
+    for winner in list {
+        roots = with_atom(roots, exported_root(winners, winner))?;
+    }
+    Ok(roots)
+}
+
+// Roots, and those of the names that the command exports.
+#[tactic(auto, unfolding(crate::specs::Roots::exported_roots))]
+fn with_exports(
+    before: Vec<AtomKey>,
+    winners: &Winners,
+    command: &Command,
+) -> Result<Vec<AtomKey>, OutOfMemory>
+    ensures { IfOk result (λ new. new.items ≡ before.items ++ spec.exported_roots command.now winners.now) }
+{
+    if command.dylib || command.export_given {
+        with_exported(before, winners, winners.winners())
+    } else {
+        Ok(before)
+    }
+}
+
+// Roots, and those that files have by themselves where what isn't reached is stripped.
+fn with_all_kept(
+    before: Vec<AtomKey>,
+    winners: &Winners,
+    files: &[LoadedFile],
+) -> Result<Vec<AtomKey>, OutOfMemory>
+    requires { All IsWholeFile files.now }
+    ensures { IfOk result (λ new. new.items ≡ before.items ++ flat_map (spec.kept_roots winners.now) files.now) }
+{
+    let mut roots = before;
+    for file in files {
+        roots = with_kept_roots(roots, winners, file)?;
+    }
+    Ok(roots)
+}
+
+// The roots of files where nothing is stripped.
+fn all_plain(
+    alloc: Global,
+    winners: &Winners,
+    files: &[LoadedFile],
+) -> Result<Vec<AtomKey>, OutOfMemory>
+    requires { All IsWholeFile files.now }
+    ensures { IfOk result (λ list. list.items ≡ flat_map (spec.plain_roots winners.now) files.now) }
+{
+    let mut roots = Vec::new(alloc);
+    for file in files {
+        roots = with_plain_roots(alloc, roots, winners, file)?;
+    }
+    Ok(roots)
+}
+
+/// The atoms from which all that the image keeps is reached. Without `-dead_strip` all atoms but the literals for which
+/// others stand, and those whose external symbols all name winners elsewhere; a common symbol that wins has an atom of its
+/// own. With it those of an executable's entry, of the wanted names, of the exported winners of a library or where the
+/// command lists what is exported, of symbols and sections that are marked as kept (`nlist.h`: N_NO_DEAD_STRIP;
+/// `loader.h`: S_ATTR_NO_DEAD_STRIP), and of the pointers to initializers. An atom may be listed more than once.
+#[tactic(auto, unfolding(crate::specs::Roots::roots))]
+pub fn roots(
+    alloc: Global,
+    loaded: &Loaded,
+    winners: &Winners,
+    command: &Command,
+) -> Result<KeyList, OutOfMemory>
+    requires { IsWholeLoaded loaded.now }
+    ensures { IfOk result (λ list. list ≡ spec.roots command.now winners.now loaded.now.files) }
+{
+    let files = loaded.files.as_slice();
+    if !command.dead_strip {
+        return Ok(Items::from_vec(all_plain(alloc, winners, files)?));
+    }
+    let wanted = wanted_roots(alloc, winners, command)?;
+    let exported = with_exports(wanted, winners, command)?;
+    Ok(Items::from_vec(with_all_kept(exported, winners, files)?))
+}
