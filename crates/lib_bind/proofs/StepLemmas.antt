@@ -35,7 +35,7 @@ abbrev links_of : Request → Closing → Target → Result Closing Ended
 links_of request closing there = Ok (linked request.from closing.reached closing.work there)
 
 -- to reach a document leaves those that are there
-reach_growing : (to : ℕ) (before : Closing) → (reach to before).growing ≡ before.growing
+pub reach_growing : (to : ℕ) (before : Closing) → (reach to before).growing ≡ before.growing
 unfolding reach
 reach_growing to before = by (list_any (nat_eq to) before.reached) refl
   where
@@ -43,7 +43,7 @@ reach_growing to before = by (list_any (nat_eq to) before.reached) refl
     by true e = rw e refl
     by false e = rw e refl
 
-all_growing : (libraries : List Library) (before : Closing) → (reach_all libraries before).growing ≡ before.growing
+pub all_growing : (libraries : List Library) (before : Closing) → (reach_all libraries before).growing ≡ before.growing
 all_growing [] before = refl
 all_growing (library ∷ libraries) before = all_growing libraries (reach library.document before) ∙ reach_growing library.document before
 

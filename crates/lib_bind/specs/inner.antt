@@ -1,3 +1,4 @@
 pub mod Checked
 pub mod Filling
+pub mod Held
 pub mod Index

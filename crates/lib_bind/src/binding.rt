@@ -3,12 +3,11 @@ ghost use Rattle.std.specs.Prelude.{◌≡◌, ◌≤◌, ℕ, List, length, tru
 ghost use Rattle.mo_outside.specs.Faults.{Rises};
 ghost use Rattle.lib_bind.specs.Asking.{IsReadWell, seen};
 ghost use Rattle.lib_bind.specs.Closure.{Closes};
-ghost use Rattle.lib_bind.specs.Graph.{IsWhole};
+ghost use Rattle.lib_bind.specs.Graph.{AreLibraries, AreLinks, IsWhole};
 ghost use Rattle.lib_bind.specs.Named.{are_named};
 ghost use Rattle.lib_bind.specs.declared.bind_fault.BindFault.TheVariants.{ReadFault};
 
 use crate::bind_fault::BindFault;
-use crate::checks::{are_libraries, are_links};
 use crate::choosing::{Chosen, chosen_of};
 use crate::closing::{Closing, begun, closed};
 use crate::growing::Growing;
@@ -26,6 +25,8 @@ fn libraries_of(
     libraries: LibraryList,
     closing: Closing,
 ) -> Result<Libraries, OutOfMemory>
+    requires links { AreLinks (length closing.growing.documents) closing.growing.links }
+    requires libraries { AreLibraries (length closing.growing.documents) libraries }
     ensures libraries { IfOk result (λ libs. libs.libraries ≡ libraries) }
     ensures documents { IfOk result (λ libs. libs.documents ≡ closing.growing.documents) }
     ensures links { IfOk result (λ libs. libs.links ≡ closing.growing.links) }
@@ -37,11 +38,6 @@ fn libraries_of(
         links,
         ..
     } = growing;
-    if !are_links(documents.len(), links.as_slice())
-        || !are_libraries(documents.len(), libraries.as_slice())
-    {
-        return Err(OutOfMemory);
-    }
     Libraries::new(alloc, libraries, documents, links)
 }
 

@@ -1,9 +1,10 @@
 //! What libraries re-export, breadth first.
-ghost use Rattle.std.specs.Prelude.{◌≡◌, ◌<◌, ◌++◌, [], ◌∷◌, get_or, set, length, IfOk, OnOk};
+ghost use Rattle.std.specs.Prelude.{◌≡◌, ◌<◌, ◌++◌, [], ◌∷◌, get_or, set, length, All, IfOk, OnOk};
 ghost use Rattle.lib_bind.specs.Asking.{Asking, seen};
 ghost use Rattle.lib_bind.specs.Closing as spec;
 ghost use Rattle.lib_bind.specs.Closing.{asked_in};
 ghost use Rattle.lib_bind.specs.Closure.{IsClosing};
+ghost use Rattle.lib_bind.specs.inner.Held.{AreHeads, IsHeld, total};
 
 use crate::bind_fault::BindFault;
 use crate::by_name::ByName;
@@ -59,6 +60,7 @@ fn with_requests(
 // Reaches a document.
 #[tactic(auto, unfolding(crate::specs::Closing::reach))]
 fn reach(to: usize, closing: Closing) -> Result<Closing, OutOfMemory>
+    requires { to < length closing.growing.reexports }
     ensures { IfOk result (λ new. new ≡ spec.reach to closing) }
 {
     let Closing {
@@ -66,9 +68,7 @@ fn reach(to: usize, closing: Closing) -> Result<Closing, OutOfMemory>
         mut reached,
         work,
     } = closing;
-    let Some(reexports) = growing.reexports.get(to) else {
-        return Err(OutOfMemory);
-    };
+    let reexports = &growing.reexports.as_slice()[to];
     let work = if reached.insert(to)? {
         with_requests(to, reexports.as_slice(), work)?
     } else {
@@ -89,17 +89,16 @@ fn add_link(links: &mut NumberList, to: usize) -> Result<(), OutOfMemory>
 
 // Links with one more, of a document that has a list of them.
 fn with_link_in(from: usize, to: usize, links: LinkList) -> Result<LinkList, OutOfMemory>
+    requires { from < length links }
     ensures { IfOk result (λ new. new ≡ set links from (get_or links from [] ++ to ∷ [])) }
 {
     let mut links = links.into_vec();
-    if from >= links.len() {
-        return Err(OutOfMemory);
-    }
     add_link(&mut links[from], to)?;
     Ok(Items::from_vec(links))
 }
 
 fn with_link(from: usize, to: usize, growing: Growing) -> Result<Growing, OutOfMemory>
+    requires { from < length growing.links }
     ensures { IfOk result (λ new. new ≡ spec.with_link from to growing) }
 {
     let Growing {
@@ -123,6 +122,8 @@ fn linked(
     reached: NumberSet,
     work: Items<Request>,
 ) -> Result<Closing, OutOfMemory>
+    requires from { from < length there.growing.links }
+    requires document { there.document < length there.growing.reexports }
     ensures { IfOk result (λ new. new ≡ spec.linked from reached work there) }
 {
     let Target { document, growing } = there;
@@ -154,6 +155,7 @@ fn with_files(
 
 // Reaches the own documents of libraries.
 fn reach_all(libraries: &[Library], before: Closing) -> Result<Closing, OutOfMemory>
+    requires { All (λ library. library.document < length before.growing.reexports) libraries.now }
     ensures { IfOk result (λ closing. closing ≡ spec.reach_all libraries.now before) }
 {
     let mut closing = before;
@@ -163,13 +165,15 @@ fn reach_all(libraries: &[Library], before: Closing) -> Result<Closing, OutOfMem
     Ok(closing)
 }
 
-/// The documents of libraries, of which their own were reached.
-pub fn begun(
+// The documents of libraries, of which their own were reached.
+fn all_begun(
     alloc: Global,
     libraries: &[Library],
     heads: &ByName<usize>,
     files: Items<StubFile>,
 ) -> Result<Closing, OutOfMemory>
+    requires heads { AreHeads (total files) heads.now }
+    requires libraries { All (λ library. library.document < total files) libraries.now }
     ensures { IfOk result (λ closing. closing ≡ spec.begun libraries.now heads.now files) }
 {
     let growing = with_files(alloc, heads, files)?;
@@ -183,6 +187,21 @@ pub fn begun(
     )
 }
 
+/// The documents of libraries, of which their own were reached.
+pub fn begun(
+    alloc: Global,
+    libraries: &[Library],
+    heads: &ByName<usize>,
+    files: Items<StubFile>,
+) -> Result<Closing, OutOfMemory>
+    requires heads { AreHeads (total files) heads.now }
+    requires libraries { All (λ library. library.document < total files) libraries.now }
+    ensures exact { IfOk result (λ closing. closing ≡ spec.begun libraries.now heads.now files) }
+    ensures held { IfOk result (IsHeld (total files) heads.now) }
+{
+    all_begun(alloc, libraries, heads, files)
+}
+
 // Meets the request at a place.
 #[tactic(auto, unfolding(crate::specs::Closing::step))]
 fn step<F: Files>(
@@ -193,7 +212,9 @@ fn step<F: Files>(
     at: usize,
     closing: Closing,
 ) -> Result<Closing, BindFault>
-    requires { at < length closing.work }
+    requires within { at < length closing.work }
+    requires held { IsHeld (length closing.growing.documents) heads.now closing }
+    ensures held { IfOk result (IsHeld (length closing.growing.documents) heads.now) }
     ensures asking { Asking F.answers (asked_in closing.growing) (λ new. asked_in new.growing) result (λ look. spec.step look command.now.syslibroot heads.now at closing)
         (seen F.holds F.asked F.faults files.old) (seen F.holds F.asked F.faults files.new) }
 {
@@ -216,7 +237,9 @@ pub fn closed<F: Files>(
     heads: &ByName<usize>,
     start: Closing,
 ) -> Result<Closing, BindFault>
-    requires { start.growing.known ≡ [] }
+    requires known { start.growing.known ≡ [] }
+    requires held { IsHeld (length start.growing.documents) heads.now start }
+    ensures held { IfOk result (IsHeld (length start.growing.documents) heads.now) }
     ensures closing { IsClosing F.answers command.now.syslibroot heads.now start result (seen F.holds F.asked F.faults files.old) (seen F.holds F.asked F.faults files.new) }
 {
     let mut closing = start;

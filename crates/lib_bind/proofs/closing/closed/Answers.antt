@@ -1,18 +1,25 @@
 use Rattle.std.proofs.Common.{arith}
+use Rattle.lib_bind.proofs.AnsweredLemmas.{held_itself, held_then}
 use Rattle.lib_bind.proofs.StepLemmas.{after_all, after_ended, after_next, closing_starts}
 use Rattle.lib_bind.proofs.closing.closed.Goals as goal
 
 pub loop-at-init : goal.loop-at-init
-loop-at-init g c = closing_starts g.F.Files.answers c.args.command.now.syslibroot c.args.heads.now c.args.start _ c.requires
+loop-at-init g c = record { asking = closing_starts g.F.Files.answers c.args.command.now.syslibroot c.args.heads.now c.args.start _ c.requires.known; held = c.requires.held }
+
+pub step-requires-clause-held : goal.step-requires-clause-held
+step-requires-clause-held g c = held_itself _ _ _ c.loop-at.invariant.held
 
 pub loop-at-preserved : goal.loop-at-preserved
-loop-at-preserved g c = after_next g.F.Files.answers _ _ _ _ _ c.loop-at.at _ _ _ c.loop-at.invariant c.in_ok-closing.ensures.asking
+loop-at-preserved g c = record {
+  asking = after_next g.F.Files.answers _ _ _ _ _ c.loop-at.at _ _ _ c.loop-at.invariant.asking c.in_ok-closing.ensures.asking;
+  held = held_then _ _ _ _ c.loop-at.invariant.held c.in_ok-closing.ensures.held;
+}
 
-pub returns-in_err-closing : goal.returns-in_err-closing
-returns-in_err-closing g c = record { closing = after_ended g.F.Files.answers _ _ _ _ c.in_err-closing.field-0.0 _ c.loop-at.at _ _ _ c.loop-at.invariant c.in_err-closing.ensures.asking c.from_residual.ensures.1 }
+pub returns-in_err-closing-clause-closing : goal.returns-in_err-closing-clause-closing
+returns-in_err-closing-clause-closing g c = after_ended g.F.Files.answers _ _ _ _ c.in_err-closing.field-0.0 _ c.loop-at.at _ _ _ c.loop-at.invariant.asking c.in_err-closing.ensures.asking c.from_residual.ensures.1
 
-pub returns-then-at-len : goal.returns-then-at-len
-returns-then-at-len g c = record { closing = record { count = c.loop-at.at; asking = c.loop-at.invariant; done = let e = c.len.ensures in let t = c.if-at-len.true in omega arith } }
+pub returns-then-at-len-clause-closing : goal.returns-then-at-len-clause-closing
+returns-then-at-len-clause-closing g c = record { count = c.loop-at.at; asking = c.loop-at.invariant.asking; done = let e = c.len.ensures in let t = c.if-at-len.true in omega arith }
 
-pub returns : goal.returns
-returns g c = record { closing = after_all g.F.Files.answers _ _ _ _ c.loop-at.at _ _ c.loop-at.invariant }
+pub returns-clause-closing : goal.returns-clause-closing
+returns-clause-closing g c = after_all g.F.Files.answers _ _ _ _ c.loop-at.at _ _ c.loop-at.invariant.asking
