@@ -15,3 +15,6 @@ pub mod Listed
 pub mod Once
 pub mod Positions
 pub mod Pushed
+pub mod Areas
+pub mod Fitting
+pub mod Moving

@@ -28,7 +28,7 @@ filtered P p (x ∷ xs) all = by (p x) refl (filtered P p xs all.1)
     by true e rest = rw e (all.0, rest)
     by false e rest = rw e rest
 
-appended : {X : Type 0} (P : X → Type 0) (xs ys : List X) → AllByRecursion P xs → AllByRecursion P ys → AllByRecursion P (xs ++ ys)
+pub appended : {X : Type 0} (P : X → Type 0) (xs ys : List X) → AllByRecursion P xs → AllByRecursion P ys → AllByRecursion P (xs ++ ys)
 appended P [] ys first second = second
 appended P (x ∷ xs) ys first second = (first.0, appended P xs ys first.1 second)
 

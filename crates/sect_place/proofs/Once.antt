@@ -86,7 +86,7 @@ apart_from_map : {X Y : Type 0} (f : X → Y) (xs : List X) → Apart (map f xs)
 apart_from_map f [] a = tt
 apart_from_map f (x ∷ xs) a = ((λ h. a.0 (in_map f xs x h)), apart_from_map f xs a.1)
 
-one_by_map : {X Y : Type 0} (f : X → Y) (xs : List X) → Apart (map f xs) → (x z : X) → In x xs → In z xs → f x ≡ f z → x ≡ z
+pub one_by_map : {X Y : Type 0} (f : X → Y) (xs : List X) → Apart (map f xs) → (x z : X) → In x xs → In z xs → f x ≡ f z → x ≡ z
 one_by_map f [] a x z h k e = absurd h
 one_by_map f (y ∷ ys) a x z (inl p) (inl q) e = sym p ∙ q
 one_by_map f (y ∷ ys) a x z (inl p) (inr k) e = absurd (a.0 (subst (λ q. In q (map f ys)) (sym (ap f p ∙ e)) (in_map f ys z k)))

@@ -45,7 +45,7 @@ is_equal Less e = cc
 is_equal Equal e = refl
 is_equal Greater e = cc
 
-abbrev finds : List Atom → AtomKey → Option Atom
+abbrev pub finds : List Atom → AtomKey → Option Atom
 finds kept key = find (λ (atom : Atom). is_eq (compare_keys atom.key key)) kept
 
 pub found_atom : (kept : List Atom) (key : AtomKey) (atom : Atom) → finds kept key ≡ Some atom → (atom.key ≡ key) × In atom kept
@@ -75,7 +75,7 @@ keys_listed kept (key ∷ keys) atom h = by (finds kept key) refl (keys_listed k
         first (inl p) = inl (sym (found_atom kept key found e).0 ∙ ap (λ (a : Atom). a.key) p)
         first (inr q) = inr (rest q)
 
-kept_listed : (kept : List Atom) (keys : List AtomKey) (key : AtomKey) → In key (kept_keys kept keys) → In key keys
+pub kept_listed : (kept : List Atom) (keys : List AtomKey) (key : AtomKey) → In key (kept_keys kept keys) → In key keys
 kept_listed kept keys key h =
     let found : (atom : Atom) × In atom (atoms_of kept keys) × (atom.key ≡ key) = from_map (λ (atom : Atom). atom.key) (atoms_of kept keys) key h in
     subst (λ (k : AtomKey). In k keys) found.2 (keys_listed kept keys found.0 found.1)
@@ -242,7 +242,7 @@ no : {X : Type 0} → false ≡ true → X
 no e = absurd (false≢true e)
 
 -- what tests of a section say of one another
-record Agree (c t k d : Bool) : Type 0 where
+pub record Agree (c t k d : Bool) : Type 0 where
   pub code : c ≡ true → t ≡ true
   pub text_constant : t ≡ true → k ≡ false
   pub text_writable : t ≡ true → d ≡ false
@@ -287,7 +287,7 @@ first_true : (a b : Bool) → (a && b) ≡ true → a ≡ true
 first_true true b e = refl
 first_true false b e = no e
 
-agree : (section : OutSection) → Agree (is_code section) (is_in (codes "__TEXT") section) (is_in (codes "__DATA_CONST") section) (is_in (codes "__DATA") section)
+pub agree : (section : OutSection) → Agree (is_code section) (is_in (codes "__TEXT") section) (is_in (codes "__DATA_CONST") section) (is_in (codes "__DATA") section)
 agree section = record {
   code = λ e. first_true (is_in (codes "__TEXT") section) (bytes_eq section.name (codes "__text")) (first_true (is_in (codes "__TEXT") section && bytes_eq section.name (codes "__text")) (section.kind == 0) e);
   text_constant = differ (codes "__TEXT") (codes "__DATA_CONST") section refl;
@@ -305,6 +305,11 @@ unfolding choice_of
 is_chosen_by_one section =
     chosen_is_by (choice_of section) section ∙ some_chosen (is_code section) (is_in (codes "__TEXT") section) (is_in (codes "__DATA_CONST") section) (is_in (codes "__DATA") section)
 
+pub chosen_in_text : (section : OutSection) → (is_chosen Code section ≡ true) ⊎ (is_chosen BesideCode section ≡ true) → is_in (codes "__TEXT") section ≡ true
+unfolding is_chosen
+chosen_in_text section (inl code) = (agree section).code code
+chosen_in_text section (inr beside) = first_true (is_in (codes "__TEXT") section) (not (is_code section)) beside
+
 -- ---- no key is listed twice, choice by choice
 
 where_listed : (t : OutSection → Bool) (section : OutSection) (sections : List OutSection) (key : AtomKey) → In key (keys_of (filter t (section ∷ sections))) → ((t section ≡ true) × In key section.atoms) ⊎ In key (keys_of (filter t sections))
@@ -317,7 +322,7 @@ where_listed t section sections key h = elim (cases_Bool (t section)) [
     here_or here (inl p) = inl (here, p)
     here_or here (inr q) = inr q
 
-still_listed : (t : OutSection → Bool) (sections : List OutSection) (key : AtomKey) → In key (keys_of (filter t sections)) → In key (keys_of sections)
+pub still_listed : (t : OutSection → Bool) (sections : List OutSection) (key : AtomKey) → In key (keys_of (filter t sections)) → In key (keys_of sections)
 still_listed t [] key h = absurd h
 still_listed t (section ∷ sections) key h = by (where_listed t section sections key h) (still_listed t sections key)
   where
@@ -335,7 +340,7 @@ apart_split {X = X} (x ∷ xs) ys a =
     either later z (inl e) k = a.0 (in_right xs ys x (subst (λ (w : X). In w ys) (sym e) k))
     either later z (inr h) k = later z h k
 
-filter_keys_apart : (t : OutSection → Bool) (sections : List OutSection) → Apart (keys_of sections) → Apart (keys_of (filter t sections))
+pub filter_keys_apart : (t : OutSection → Bool) (sections : List OutSection) → Apart (keys_of sections) → Apart (keys_of (filter t sections))
 filter_keys_apart t [] a = tt
 filter_keys_apart t (section ∷ sections) a =
     let parts = apart_split section.atoms (keys_of sections) a in
@@ -387,7 +392,7 @@ unfolding keys_chosen
 all_apart sections a =
     apart_flat (λ (choice : Choice). keys_of (filter (is_chosen choice) sections)) choices choices_apart (λ choice h. filter_keys_apart (is_chosen choice) sections a) (λ c d key p q h k. one_choice sections key c d a h k)
 
-chosen_there : (t : OutSection → Bool) (sections : List OutSection) (section : OutSection) (key : AtomKey) → In section sections → t section ≡ true → In key section.atoms → In key (keys_of (filter t sections))
+pub chosen_there : (t : OutSection → Bool) (sections : List OutSection) (section : OutSection) (key : AtomKey) → In section sections → t section ≡ true → In key section.atoms → In key (keys_of (filter t sections))
 chosen_there t sections section key h passes there =
     in_flat (λ (s : OutSection). s.atoms) (filter t sections) section key (in_filter t sections section h passes) there
 
@@ -436,7 +441,7 @@ parts_keys kept areas unit at (part ∷ parts) =
     ∙ (ap₂ (λ (xs ys : List AtomKey). xs ++ ys) (stand_keys (part_from at part) (spaced kept areas unit part.section.atoms) ∙ area_keys areas unit (atoms_of kept part.section.atoms)) (parts_keys kept areas unit next parts)
     ∙ sym (kept_join kept part.section.atoms (part_keys parts)))
 
-groups_keys : (kept : List Atom) (areas : List IslandArea) (unit at lead : ℕ) (groups : List Group) → map (λ (p : Placed). p.atom) (groups_places (spaced kept areas unit) at lead groups) ≡ kept_keys kept (group_keys groups)
+pub groups_keys : (kept : List Atom) (areas : List IslandArea) (unit at lead : ℕ) (groups : List Group) → map (λ (p : Placed). p.atom) (groups_places (spaced kept areas unit) at lead groups) ≡ kept_keys kept (group_keys groups)
 unfolding groups_places atoms_of
 groups_keys kept areas unit at lead [] = refl
 groups_keys kept areas unit at lead (group ∷ groups) =

@@ -89,11 +89,11 @@ last_name : IsOther (codes "__LINKEDIT")
 last_name = other_name (codes "__LINKEDIT") refl
 
 -- the segments behind `__TEXT`
-abbrev later_groups : List OutSection → MadeBytes → List Group
+abbrev pub later_groups : List OutSection → MadeBytes → List Group
 later_groups sections bytes =
     group_named (codes "__DATA_CONST") (constant_parts sections bytes) ++ group_named (codes "__DATA") (writable_parts sections bytes) ++ runs (chosen Elsewhere sections)
 
-groups_split : (sections : List OutSection) (bytes : MadeBytes) → groups_of sections bytes ≡ record { name = codes "__TEXT"; parts = text_parts sections bytes } ∷ later_groups sections bytes
+pub groups_split : (sections : List OutSection) (bytes : MadeBytes) → groups_of sections bytes ≡ record { name = codes "__TEXT"; parts = text_parts sections bytes } ∷ later_groups sections bytes
 unfolding groups_of
 groups_split sections bytes = refl
 

@@ -4,3 +4,4 @@ pub mod Places
 pub mod Layout
 pub mod OutSections
 pub mod inner
+pub mod Moved

@@ -1,5 +1,5 @@
 //! What the definitions mean, each on a call that does nothing.
-ghost use Rattle.std.specs.Prelude.{◌≡◌, ℕ, ◌+◌, ◌*◌, ◌^◌, ◌≤◌, ◌≢◌, List, All, Contains, Some, map};
+ghost use Rattle.std.specs.Prelude.{◌≡◌, ℕ, ◌+◌, ◌*◌, ◌^◌, ◌≤◌, ◌≢◌, List, All, Contains, Option, Some, map};
 ghost use Rattle.std.specs.List.{AllPairs};
 ghost use Rattle.std.specs.List.Sorted.{IsStrictlySortedBy};
 ghost use Rattle.std.specs.Ordering.{on};
@@ -15,6 +15,8 @@ ghost use Rattle.tlv_plan.specs.Template.{keys_of, stand};
 ghost use Rattle.sect_place.specs.Layout.{Plan, image_stand, image_places, image_sections, plan_of};
 ghost use Rattle.sect_place.specs.OutSections.{Home, home_of, out_sections};
 ghost use Rattle.sect_place.specs.Places.{AreLeast, places, part_from, page_up};
+ghost use Rattle.sect_place.specs.Moved.{AreBehindCode, AreInOrder, IsMoved, areas_bytes, no_islands, pages_moved, text_end};
+ghost use Rattle.sect_place.specs.declared.island.IslandArea.{IslandArea};
 ghost use Rattle.sect_place.specs.declared.island.IslandPlan.{IslandPlan};
 ghost use Rattle.sect_place.specs.declared.layout.Placed.{Placed};
 ghost use Rattle.sect_place.specs.declared.layout.PlacedSection.{PlacedSection};
@@ -65,4 +67,14 @@ pub fn each_listed_atom_is_placed()
 /// No atom has two places in the image, where no atom is listed twice.
 pub fn no_atom_is_placed_twice()
     ensures { (kept : List Atom) (sections : List OutSection) (slots : Slots) (islands : IslandPlan) (sizes : PlaceSizes) (command : Command) → AllPairs (λ (a : AtomKey) (b : AtomKey). a ≢ b) (keys_of sections) → AllPairs (λ (p : Placed) (q : Placed). p.atom ≢ q.atom) (image_places (plan_of kept sections slots islands sizes command)) }
+{}
+
+/// Where an image has islands, an atom of `__text` stands behind its place without them by the bytes of the areas before
+/// it, another atom of `__TEXT` by those of all areas, and an atom behind `__TEXT` by whole pages. Areas are multiples of
+/// the greatest alignment in `__TEXT`.
+#[tactic(auto, using(crate::proofs::Moving::moved_laws))]
+pub fn islands_move_what_follows()
+    ensures moved { (kept : List Atom) (sections : List OutSection) (slots : Slots) (islands : IslandPlan) (sizes : PlaceSizes) (command : Command) → AreInOrder kept sections → AreBehindCode kept sections islands.areas → IsStrictlySortedBy (on (λ (area : IslandArea). area.last) compare_keys) islands.areas → (key : AtomKey) (after : ℕ) → Contains (image_places (plan_of kept sections slots islands sizes command)) (record { atom = key; address = after }) → (before : ℕ) × Contains (image_places (plan_of kept sections slots no_islands sizes command)) (record { atom = key; address = before }) × IsMoved sections islands.areas (text_end kept sections slots sizes command) key before after }
+    ensures areas { (unit : ℕ) (limit : Option AtomKey) (areas : List IslandArea) → (count : ℕ) × (areas_bytes unit limit areas ≡ count * 2 ^ unit) }
+    ensures pages { (end bytes : ℕ) → (count : ℕ) × (pages_moved end bytes ≡ count * 2 ^ 14) }
 {}
