@@ -27,3 +27,4 @@ pub mod GrowLemmas
 pub mod PickLemmas
 pub mod AtomSetLemmas
 pub mod EdgeLemmas
+pub mod FollowLemmas

@@ -1,18 +1,22 @@
-//! What the words of candidates and the representatives of literals mean, each on a call that does nothing.
+//! What the words of candidates, the representatives of literals and edges mean, each on a call that does nothing.
 ghost use Rattle.std.specs.Prelude.{◌≡◌, ◌<◌, ℕ, List, Contains, Ok, true};
 ghost use Rattle.std.specs.declared.cmp.Ordering.TheVariants.{Less};
+ghost use Rattle.lib_bind.specs.declared.library.LibraryGraph.{LibraryGraph};
 ghost use Rattle.mo_cmd.specs.declared.command.Command.{Command};
 ghost use Rattle.mo_types.specs.Candidates.{Candidate, candidate_word, strength};
 ghost use Rattle.mo_types.specs.Keys.{compare_files};
 ghost use Rattle.mo_types.specs.Loaded.{IsWholeLoaded};
 ghost use Rattle.mo_types.specs.declared.loaded.Loaded.{Loaded};
 ghost use Rattle.mo_types.specs.declared.loaded.LoadedFile.{LoadedFile};
+ghost use Rattle.mo_types.specs.declared.reference.Target.{Target};
 ghost use Rattle.name_ids.specs.Names.{gathered};
+ghost use Rattle.resolve.specs.Edges.{goal_atom, target_atom};
 ghost use Rattle.resolve.specs.Found.{AreNamed};
+ghost use Rattle.resolve.specs.Goals.{goal_of, goals_of_symbols};
 ghost use Rattle.resolve.specs.Laws.{HasRoom};
 ghost use Rattle.resolve.specs.Winners.{AreWinners};
 ghost use Rattle.resolve.specs.declared.winner.Winner.{Winner};
-ghost use Rattle.resolve.specs.Representatives.{IsRepresentative, Literal, is_same, literals, representative_of};
+ghost use Rattle.resolve.specs.Representatives.{IsRepresentative, Literal, is_same, literals, representative_of, representatives_of};
 
 /// Of two candidates the one with the lesser strength has the lesser word, wherever it stands.
 #[tactic(auto, using(crate::proofs::WordLemmas::words))]
@@ -49,4 +53,10 @@ pub fn the_same_literals_have_one_representative()
 /// No two winners have one name.
 pub fn a_name_has_one_winner()
     ensures { (command : Command) (files : List LoadedFile) (winners : List Winner) → AreWinners command files winners → (a b : Winner) → Contains winners a → Contains winners b → a.name ≡ b.name → a ≡ b }
+{}
+
+/// An edge leads to the atom of its reference's goal: what the goals of a file's symbols give for a target is where the
+/// target leads.
+pub fn edges_lead_to_goals()
+    ensures { (files : List LoadedFile) (graph : LibraryGraph) (command : Command) (file : LoadedFile) (target : Target) → target_atom (representatives_of files) (goals_of_symbols files graph command file) target ≡ goal_atom (goal_of files graph command file target) }
 {}

@@ -31,8 +31,9 @@ pub use goals::{goal_of, goal_of_name, goals_of_symbols};
 pub use groups::representatives;
 pub use known::Winners;
 pub use laws::{
-    a_name_has_one_winner, candidates_have_numbers, representatives_have_the_least_keys,
-    the_earlier_wins, the_same_literals_have_one_representative, the_stronger_wins,
+    a_name_has_one_winner, candidates_have_numbers, edges_lead_to_goals,
+    representatives_have_the_least_keys, the_earlier_wins,
+    the_same_literals_have_one_representative, the_stronger_wins,
 };
 pub use leading::edges;
 pub use places::{Place, place_of};
