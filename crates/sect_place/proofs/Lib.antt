@@ -18,3 +18,4 @@ pub mod Pushed
 pub mod Areas
 pub mod Fitting
 pub mod Moving
+pub mod Ranged

@@ -117,7 +117,7 @@ module _ {K : Type 0} (same : K → K → Bool) (equal_keys : (a b : K) → (sam
 
 -- ---- atoms and rows
 
-keys_apart : (keys : List AtomKey) → IsStrictlySortedBy compare_keys keys → Apart keys
+pub keys_apart : (keys : List AtomKey) → IsStrictlySortedBy compare_keys keys → Apart keys
 unfolding IsStrictlySortedBy
 keys_apart [] h = tt
 keys_apart (key ∷ keys) h =
@@ -126,10 +126,10 @@ keys_apart (key ∷ keys) h =
     no : Less ≡ Equal → ⊥
     no e = cc
 
-abbrev key_of : Row → AtomKey
+abbrev pub key_of : Row → AtomKey
 key_of row = row.atom.key
 
-row_keys : (files : List LoadedFile) (kept : List Atom) (key : AtomKey) → In key (map key_of (rows files kept)) → In key (map (λ (atom : Atom). atom.key) kept)
+pub row_keys : (files : List LoadedFile) (kept : List Atom) (key : AtomKey) → In key (map key_of (rows files kept)) → In key (map (λ (atom : Atom). atom.key) kept)
 unfolding rows row_of
 row_keys files [] key h = absurd h
 row_keys files (atom ∷ kept) key h = by (home_of files atom.key.file atom.key.section) refl (row_keys files kept key)
@@ -157,7 +157,7 @@ same_fields : (a b : Destination) (all more : List Row) → section_with a all �
 unfolding section_with
 same_fields a b all more e = one_dest a b (record { segment = ap (λ (s : OutSection). s.segment) e; name = ap (λ (s : OutSection). s.name) e; kind = ap (λ (s : OutSection). s.kind) e })
 
-sections_apart : (all : List Row) → Apart (sections_of all)
+pub sections_apart : (all : List Row) → Apart (sections_of all)
 unfolding sections_of destinations
 sections_apart all =
     apart_map (λ (to : Destination). section_with to (going_to all to)) (destinations all) (λ a b p q e. same_fields a b (going_to all a) (going_to all b) e)
@@ -171,7 +171,7 @@ row_behind all to key h =
     let passed = from_filter (λ (row : Row). same_destination row.home.to to) all found.0 found.1 in
     (found.0, passed.0, (equal found.0.home.to to).0 passed.1, found.2)
 
-section_behind : (all : List Row) (section : OutSection) → In section (sections_of all) → (to : Destination) × (section_with to (going_to all to) ≡ section)
+pub section_behind : (all : List Row) (section : OutSection) → In section (sections_of all) → (to : Destination) × (section_with to (going_to all to) ≡ section)
 unfolding sections_of
 section_behind all section h =
     let found : (to : Destination) × In to (destinations all) × (section_with to (going_to all to) ≡ section) = from_map (λ (to : Destination). section_with to (going_to all to)) (destinations all) section h in
@@ -264,14 +264,14 @@ segments_apart sections =
     let three : Apart (insert_all bytes_eq [] leading) = all_inserted bytes_eq names_equal [] leading tt in
     all_inserted bytes_eq names_equal leading (map (λ (s : OutSection). s.segment) sections) three
 
-order_apart : (sections : List OutSection) → Apart sections → Apart (in_order sections)
+pub order_apart : (sections : List OutSection) → Apart sections → Apart (in_order sections)
 unfolding in_order
 order_apart sections a =
     apart_flat (λ segment. ranked (filter (is_in segment) sections)) (segments_of sections) (segments_apart sections)
     (λ segment h. ranked_apart (filter (is_in segment) sections) (apart_filter (is_in segment) sections a))
     (λ one other section p q h k. sym (in_segment sections one section h).1 ∙ (in_segment sections other section k).1)
 
-order_members : (sections : List OutSection) (section : OutSection) → In section (in_order sections) → In section sections
+pub order_members : (sections : List OutSection) (section : OutSection) → In section (in_order sections) → In section sections
 unfolding in_order
 order_members sections section h =
     let found : (segment : List ℕ) × In segment (segments_of sections) × In section (ranked (filter (is_in segment) sections)) = from_flat (λ segment. ranked (filter (is_in segment) sections)) (segments_of sections) section h in

@@ -69,6 +69,12 @@ pub fn no_atom_is_placed_twice()
     ensures { (kept : List Atom) (sections : List OutSection) (slots : Slots) (islands : IslandPlan) (sizes : PlaceSizes) (command : Command) → AllPairs (λ (a : AtomKey) (b : AtomKey). a ≢ b) (keys_of sections) → AllPairs (λ (p : Placed) (q : Placed). p.atom ≢ q.atom) (image_places (plan_of kept sections slots islands sizes command)) }
 {}
 
+/// The sections of an image are in order where the kept atoms rise: no atom is listed twice, `__text` lists its atoms in
+/// order, and no atom has a greater alignment than its section.
+pub fn sections_are_in_order()
+    ensures { (files : List LoadedFile) (kept : List Atom) → IsStrictlySortedBy (on (λ (atom : Atom). atom.key) compare_keys) kept → All (λ (atom : Atom). atom.align ≤ 14) kept → AreInOrder kept (out_sections files kept) }
+{}
+
 /// Where an image has islands, an atom of `__text` stands behind its place without them by the bytes of the areas before
 /// it, another atom of `__TEXT` by those of all areas, and an atom behind `__TEXT` by whole pages. Areas are multiples of
 /// the greatest alignment in `__TEXT`.

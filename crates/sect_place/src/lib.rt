@@ -22,7 +22,7 @@ pub use island::{AreaList, BranchTarget, BranchTargetList, IslandArea, IslandPla
 pub use laws::{
     atoms_stand_apart, each_kept_atom_is_listed, each_listed_atom_is_placed,
     islands_move_what_follows, no_atom_is_listed_twice, no_atom_is_placed_twice, places_are_least,
-    sections_stand_apart,
+    sections_are_in_order, sections_stand_apart,
 };
 pub use layout::{
     Layout, Placed, PlacedList, PlacedSection, PlacedSectionList, Segment, SegmentList,
