@@ -1,10 +1,10 @@
 -- The sections of an image are no finer than the areas in `__TEXT`, and those behind `__TEXT` have no areas.
-use Rattle.std.proofs.Common.{◌≡◌, ◌≢◌, ℕ, ◌+◌, ◌*◌, ◌^◌, ◌≤◌, ◌⊎◌, ◌++◌, ◌==◌, Bool, true, false, max, List, [], ◌∷◌, map, length, Option, Some, None, All, Contains, codes, refl, sym, ap, subst, ◌∙◌, inl, inr, arith}
-use Rattle.std.specs.List.{filter, find, flat_map, AllByRecursion}
+use Rattle.std.proofs.Common.{◌≡◌, ℕ, ◌+◌, ◌*◌, ◌≤◌, ◌⊎◌, ◌++◌, ◌==◌, Bool, true, false, max, List, [], ◌∷◌, map, length, Option, Some, None, All, Contains, codes, refl, ap, subst, ◌∙◌, inl, inr, arith}
+use Rattle.std.specs.List.{filter, find, AllByRecursion}
 use Rattle.std.specs.List.Sorted.{IsStrictlySortedBy}
 use Rattle.std.specs.Ordering.{on, is_eq}
 use Rattle.std.specs.Str.{bytes_eq}
-use Rattle.std.proofs.lemmas.Bool.{cases_Bool, false≢true}
+use Rattle.std.proofs.lemmas.Bool.{cases_Bool}
 use Rattle.std.proofs.lemmas.List.Elements.{recursion_from_All}
 use Rattle.list_lemmas.proofs.Members.{In, in_from_Contains, all_in, all_from_in, all_map, all_weaker, from_filter}
 use Rattle.mo_types.specs.Keys.{compare_keys}
@@ -25,7 +25,6 @@ use Rattle.sect_place.specs.declared.part.Made.TheVariants.{Stubs, UnwindInfo, G
 use Rattle.sect_place.specs.declared.part.Part.{Part}
 use Rattle.sect_place.proofs.Areas.{nothing_behind}
 use Rattle.sect_place.proofs.Low.{appended}
-use Rattle.sect_place.proofs.Once.{Apart}
 use Rattle.sect_place.proofs.Positions.{chosen_there, from_pairs, kept_listed, keys_listed, one_choice, chosen_in_text}
 use Rattle.sect_place.proofs.Pushed.{AllFit, Fits, FitsGroup, FitsPart, IsWhole, PartsFit, extra, part_atoms, total, total_join}
 use Rattle.sect_place.proofs.Sound.{later_groups}

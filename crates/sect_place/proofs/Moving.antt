@@ -1,13 +1,13 @@
 -- How far each atom moves where an image gets islands.
-use Rattle.std.proofs.Common.{◌≡◌, ◌≢◌, ℕ, ◌+◌, ◌-◌, ◌*◌, ◌^◌, ◌<◌, ◌≤◌, ◌⊎◌, ◌++◌, ◌==◌, Bool, true, false, not, ◌&&◌, List, [], ◌∷◌, map, length, Option, Some, None, All, Contains, codes, refl, sym, ap, ap₂, subst, ◌∙◌, inl, inr, arith}
-use Rattle.std.specs.List.{filter, flat_map, AllByRecursion}
+use Rattle.std.proofs.Common.{◌≡◌, ℕ, ◌+◌, ◌-◌, ◌*◌, ◌^◌, ◌<◌, ◌≤◌, ◌⊎◌, ◌++◌, Bool, true, false, not, ◌&&◌, List, [], ◌∷◌, map, length, Option, Some, None, Contains, codes, refl, sym, ap, subst, ◌∙◌, inl, inr, arith}
+use Rattle.std.specs.List.{filter}
 use Rattle.std.specs.List.Sorted.{IsStrictlySortedBy}
 use Rattle.std.specs.Ordering.{on}
 use Rattle.std.specs.declared.cmp.Ordering.TheVariants.{Less}
-use Rattle.std.proofs.lemmas.Bool.{cases_Bool, cases_lt, false≢true}
+use Rattle.std.proofs.lemmas.Bool.{cases_Bool, cases_lt}
 use Rattle.std.proofs.lemmas.List.{map-append}
 use Rattle.std.proofs.lemmas.List.Elements.{recursion_from_All}
-use Rattle.list_lemmas.proofs.Members.{In, in_from_Contains, Contains_from_in, all_in, all_from_in, in_map, in_filter, from_filter}
+use Rattle.list_lemmas.proofs.Members.{In, in_from_Contains, Contains_from_in, all_in, all_from_in, in_map, from_filter}
 use Rattle.mo_cmd.specs.declared.command.Command.{Command}
 use Rattle.mo_types.specs.Keys.{compare_keys}
 use Rattle.mo_types.specs.declared.atom.Atom.{Atom}
@@ -19,7 +19,7 @@ use Rattle.tlv_plan.proofs.Walk.{aligned_least}
 use Rattle.sect_place.specs.Arrangement.{is_in, is_code, is_chosen, MadeBytes, groups_of, text_parts}
 use Rattle.sect_place.specs.Layout.{made_bytes, base_of, lead_of, plan_of, image_places}
 use Rattle.sect_place.specs.Moved.{AreBehindCode, AreInOrder, IsMoved, areas_bytes, code_keys, counts, no_islands, pages_moved, text_end}
-use Rattle.sect_place.specs.Places.{area_unit, bytes_behind, groups_places, page_up, parts_end, parts_places, spaced}
+use Rattle.sect_place.specs.Places.{area_unit, groups_places, page_up, parts_end, parts_places, spaced}
 use Rattle.sect_place.specs.declared.island.IslandArea.{IslandArea}
 use Rattle.sect_place.specs.declared.island.IslandPlan.{IslandPlan}
 use Rattle.sect_place.specs.declared.layout.Placed.{Placed}
@@ -32,8 +32,8 @@ use Rattle.sect_place.proofs.Areas.{CountsIn, areas_sum, before_code, before_oth
 use Rattle.sect_place.proofs.Fitting.{islands_whole, later_all, later_fits, text_fits}
 use Rattle.sect_place.proofs.Listed.{in_left, in_right}
 use Rattle.sect_place.proofs.Once.{Apart, apart_append, from_append, from_flat}
-use Rattle.sect_place.proofs.Positions.{apart_split, atoms_join, chosen_in_text, chosen_there, filter_keys_apart, finds, found_atom, from_pairs, group_keys, groups_keys, kept_apart, kept_keys, kept_listed, one_choice, part_keys, still_listed, text_keys}
-use Rattle.sect_place.proofs.Pushed.{HasMoved, IsPushed, IsWhole, aligned_moved, groups_moved, part_atoms, parts_end_moved, parts_pushed, total, whole_sum}
+use Rattle.sect_place.proofs.Positions.{apart_split, atoms_join, chosen_in_text, chosen_there, filter_keys_apart, finds, found_atom, from_pairs, group_keys, groups_keys, kept_apart, kept_keys, kept_listed, one_choice, part_keys, text_keys}
+use Rattle.sect_place.proofs.Pushed.{IsPushed, IsWhole, groups_moved, part_atoms, parts_end_moved, parts_pushed, total, whole_sum}
 use Rattle.sect_place.proofs.Sound.{groups_split, later_groups}
 use Rattle.sect_place.proofs.Spread.{aligned_order}
 use Rattle.std.proofs.Math.Nat.{mul-le-mul_right}

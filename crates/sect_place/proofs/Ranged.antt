@@ -1,12 +1,12 @@
 -- The sections of an image list `__text` in order, and have no atom with a greater alignment than their own.
 use Rattle.std.proofs.Common.{◌≡◌, ℕ, ◌≤◌, ◌⊎◌, ◌++◌, ◌==◌, ◌&&◌, Bool, true, false, max, List, [], ◌∷◌, map, Option, Some, None, All, codes, refl, sym, ap, ap₂, subst, ◌∙◌, inl, inr, arith, append-nil}
-use Rattle.std.specs.List.{filter, filter_map, flat_map, fold, AllByRecursion}
+use Rattle.std.specs.List.{filter, fold, AllByRecursion}
 use Rattle.std.specs.List.Sorted.{IsStrictlySortedBy}
 use Rattle.std.specs.Ordering.{on}
 use Rattle.std.specs.Str.{bytes_eq}
 use Rattle.std.specs.declared.cmp.Ordering.TheVariants.{Less}
 use Rattle.std.proofs.lemmas.Bool.{cases_Bool, false≢true, eqb-true}
-use Rattle.std.proofs.lemmas.List.Elements.{All-from_recursion, recursion_from_All}
+use Rattle.std.proofs.lemmas.List.Elements.{All-from_recursion}
 use Rattle.list_lemmas.proofs.Members.{In, all_in, all_from_in, all_weaker, in_filter, in_map, from_map, from_filter}
 use Rattle.list_lemmas.proofs.Rising.{rising_map}
 use Rattle.mo_types.specs.Destination.{Destination}
@@ -19,7 +19,6 @@ use Rattle.tlv_plan.specs.Template.{atoms_of, greatest_align, is_thread_local, k
 use Rattle.sect_place.specs.Arrangement.{is_code, is_in}
 use Rattle.sect_place.specs.Moved.{AreInOrder, code_keys}
 use Rattle.sect_place.specs.OutSections.{Home, Row, going_to, home_of, in_order, led, led_by, out_sections, row_of, rows, same_destination, section_with, sections_of}
-use Rattle.sect_place.proofs.Gathering.{equal}
 use Rattle.sect_place.proofs.Listed.{names_equal}
 use Rattle.sect_place.proofs.Low.{all_low}
 use Rattle.sect_place.proofs.Once.{Apart, key_of, keys_apart, listed_once, one_by_map, order_apart, order_members, row_keys, section_behind, sections_apart}
