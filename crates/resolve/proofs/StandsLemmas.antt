@@ -1,5 +1,5 @@
 -- A search among what stands for literals finds that of a literal.
-use Rattle.std.proofs.Common.{◌≡◌, ℕ, zero, suc, ◌<◌, Bool, true, false, List, [], ◌∷◌, length, get_or, refl, ap, subst, arith, Some, None}
+use Rattle.std.proofs.Common.{◌≡◌, ℕ, zero, suc, ◌<◌, Bool, true, false, List, [], ◌∷◌, length, get_or, refl, sym, ap, subst, arith, Some, None}
 use Rattle.std.specs.List.{HoldsAt, find}
 use Rattle.std.specs.List.Sorted.{IsNonDecreasingBy, IsPartitionPoint}
 use Rattle.std.specs.Ordering.{is_eq, on, ordering_index}
@@ -11,7 +11,7 @@ use Rattle.mo_types.specs.Keys.{compare_keys}
 use Rattle.mo_types.specs.declared.key.AtomKey.{AtomKey}
 use Rattle.mo_types.proofs.KeyOrder.{compare_keys_total}
 use Rattle.tlv_plan.proofs.Keys.{found_key, no_key, sorted_from_rising}
-use Rattle.resolve.specs.Goals.{stands_for}
+use Rattle.resolve.specs.Goals.{literal_at}
 use Rattle.resolve.specs.declared.representative.Representative.{Representative}
 use Rattle.resolve.specs.inner.Literals.{AreInOrder, literal_key}
 
@@ -32,17 +32,17 @@ not_equal Greater h = refl
 is_less : (o : Ordering) → o ≡ Less → is_eq o ≡ false
 is_less o e = ap is_eq e
 
-pub stands_found : (literals : List Representative) (key : AtomKey) (at : ℕ) (d : Representative) → AreInOrder literals → at < length literals → HoldsAt (λ r. compare_keys (literal_key r) key ≡ Equal) literals at → (get_or literals at d).representative ≡ stands_for literals key
-stands_found literals key at d rise low holds =
+pub literal_found : (literals : List Representative) (key : AtomKey) (at : ℕ) (d : Representative) → AreInOrder literals → at < length literals → HoldsAt (λ r. compare_keys (literal_key r) key ≡ Equal) literals at → Some (get_or literals at d) ≡ literal_at literals key
+literal_found literals key at d rise low holds =
     let same : literal_key (get_or literals at d) ≡ key = found_key literal_key literals key at d holds in
     let found_it : find (λ r. is_eq (compare_keys r.literal key)) literals ≡ Some (get_or literals at d) =
     find_at (λ r. is_eq (compare_keys r.literal key)) literals at d low (ap is_eq (holds d))
     (λ j before. is_less (compare_keys (literal_key (get_or literals j d)) key) (subst (λ (k : AtomKey). compare_keys (literal_key (get_or literals j d)) k ≡ Less) same (rising_at (on literal_key compare_keys) literals j at d rise.rise before low))) in
-    rw found_it refl
+    sym found_it
 
-pub stands_itself : (literals : List Representative) (key : AtomKey) (at : ℕ) → AreInOrder literals → (IsNonDecreasingBy (λ r. ordering_index (compare_keys (literal_key r) key)) literals → IsPartitionPoint (λ r. compare_keys (literal_key r) key ≡ Less) (λ r. compare_keys (literal_key r) key ≡ Greater) literals at) → key ≡ stands_for literals key
-stands_itself literals key at rise parted =
+pub literal_missing : (literals : List Representative) (key : AtomKey) (at : ℕ) → AreInOrder literals → (IsNonDecreasingBy (λ r. ordering_index (compare_keys (literal_key r) key)) literals → IsPartitionPoint (λ r. compare_keys (literal_key r) key ≡ Less) (λ r. compare_keys (literal_key r) key ≡ Greater) literals at) → None ≡ literal_at literals key
+literal_missing literals key at rise parted =
     let none : find (λ r. is_eq (compare_keys r.literal key)) literals ≡ None =
     find_absent (λ r. is_eq (compare_keys r.literal key)) literals
     (λ j d low. not_equal (compare_keys (literal_key (get_or literals j d)) key) (λ equal. no_key literal_key literals key at (sorted_from_rising (on_total literal_key compare_keys_total) literals rise.rise) parted j d low equal)) in
-    rw none refl
+    sym none

@@ -24,9 +24,13 @@ use Rattle.resolve.specs.declared.places.Place.{Place}
 use Rattle.resolve.specs.declared.representative.Representative.{Representative}
 use Rattle.resolve.specs.declared.winner.Winner.{Winner}
 
+-- what stands for a literal
+abbrev pub literal_at : List Representative → AtomKey → Option Representative
+literal_at literals key = find (λ r. is_eq (compare_keys r.literal key)) literals
+
 -- the atom that stands for one in the image: a literal's representative, and for any other itself
 abbrev pub stands_for : List Representative → AtomKey → AtomKey
-stands_for literals key = option_map_or (λ r. r.representative) (find (λ r. is_eq (compare_keys r.literal key)) literals) key
+stands_for literals key = option_map_or (λ r. r.representative) (literal_at literals key) key
 
 -- a place, in the atom that stands for its own
 abbrev pub goal_at : List Representative → AtomKey → ℕ → Goal

@@ -22,14 +22,25 @@ fn compare(a: &AtomKey, b: &AtomKey) -> Ordering
     a.cmp(b)
 }
 
+// What stands for a literal.
+fn find(literals: &[Representative], key: AtomKey) -> Option<&Representative>
+    requires { AreInOrder literals.now }
+    ensures { option_copied result ≡ goals.literal_at literals.now key }
+{
+    match literals.binary_search_by(|literal| compare(&literal.literal, &key)) {
+        Ok(at) => Some(&literals[at]),
+        Err(_) => None,
+    }
+}
+
 // The atom that stands for one.
 fn stands_for(literals: &[Representative], key: AtomKey) -> AtomKey
     requires { AreInOrder literals.now }
     ensures { result ≡ goals.stands_for literals.now key }
 {
-    match literals.binary_search_by(|literal| compare(&literal.literal, &key)) {
-        Ok(at) => literals[at].representative,
-        Err(_) => key,
+    match find(literals, key) {
+        Some(literal) => literal.representative,
+        None => key,
     }
 }
 
@@ -86,6 +97,14 @@ impl<'a> Winners<'a> {
         ensures { result ≡ goals.stands_for self.now.literals atom }
     {
         stands_for(self.literals.as_slice(), atom)
+    }
+
+    /// What stands for a literal, with the alignment with which that is placed, or `None` exactly where the atom is no
+    /// literal. Takes no memory.
+    pub fn literal(&self, atom: AtomKey) -> Option<&Representative>
+        ensures { option_copied result ≡ goals.literal_at self.now.literals atom }
+    {
+        find(self.literals.as_slice(), atom)
     }
 
     /// Whether the files refer to a name weakly alone, so that it may be missing.

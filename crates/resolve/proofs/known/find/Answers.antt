@@ -2,15 +2,15 @@ use Rattle.std.proofs.Common.{rules}
 use Rattle.std.proofs.lemmas.Fn.{always_returns_same}
 use Rattle.mo_types.specs.Keys.{compare_keys}
 use Rattle.resolve.specs.declared.representative.Representative.{Representative}
-use Rattle.resolve.proofs.StandsLemmas.{stands_found, stands_itself}
-use Rattle.resolve.proofs.known.stands_for.Goals as goal
+use Rattle.resolve.proofs.StandsLemmas.{literal_found, literal_missing}
+use Rattle.resolve.proofs.known.find.Goals as goal
 
 pub returns-in-Ok : goal.returns-in-Ok
 returns-in-Ok c =
-    stands_found c.args.literals.now c.args.key c.in-Ok.at _ c.requires c.in-Ok.ensures.bound
+    literal_found c.args.literals.now c.args.key c.in-Ok.at _ c.requires c.in-Ok.ensures.bound
     (c.in-Ok.ensures.position (λ (r : Representative). compare_keys r.literal c.args.key) (always_returns_same _ _ _ (λ a r g called. search rules)))
 
 pub returns-in-Err : goal.returns-in-Err
 returns-in-Err c =
-    stands_itself c.args.literals.now c.args.key c.in-Err.field-0 c.requires
+    literal_missing c.args.literals.now c.args.key c.in-Err.field-0 c.requires
     (c.in-Err.ensures.position (λ (r : Representative). compare_keys r.literal c.args.key) (always_returns_same _ _ _ (λ a r g called. search rules)))
