@@ -46,10 +46,10 @@ both : (a b : Bool) → (a && b) ≡ true → (a ≡ true) × (b ≡ true)
 both true b e = (refl, e)
 both false b e = cc
 
-same_itself : (file : FileId) → same_file file file ≡ true
+pub same_itself : (file : FileId) → same_file file file ≡ true
 same_itself file = rw (eq-eqb file.position file.position refl, eq-eqb file.member file.member refl) refl
 
-same_is : (a b : FileId) → same_file a b ≡ true → a ≡ b
+pub same_is : (a b : FileId) → same_file a b ≡ true → a ≡ b
 same_is a b is =
     let parts = both (a.position == b.position) (a.member == b.member) is in
     ap₂ (λ (p m : ℕ). record { position = p; member = m }) (eq_number a.position b.position parts.0) (eq_number a.member b.member parts.1)

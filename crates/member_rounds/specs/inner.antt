@@ -1,1 +1,4 @@
+pub mod Holding
+pub mod Linking
 pub mod Offering
+pub mod Working

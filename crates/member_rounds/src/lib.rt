@@ -1,14 +1,26 @@
 //! What workers offer in a race of names, and how files come round by round.
 #![tactic(auto)]
 
+mod all_files;
 mod asked;
+mod asking;
+mod collecting;
+mod contents;
+mod counting;
 mod fault;
+mod id_set;
+mod in_order;
 mod input;
 mod laws;
+mod loading;
+mod name_set;
+mod noting;
 mod offering;
 mod racing;
 mod reading;
+mod round_reading;
 mod sources;
+mod taking;
 
 pub use asked::asked_by;
 pub use fault::RoundFault;
@@ -18,6 +30,7 @@ pub use laws::{
     nothing_more_is_asked_for, rounds_end, rounds_grow, what_is_loaded_asks_for_nothing_more,
     what_is_loaded_could_be_read, what_is_loaded_was_asked_for, words_are_the_least,
 };
+pub use loading::load;
 pub use offering::offer_all;
 pub use racing::race_words;
 pub use reading::read_file;

@@ -1,0 +1,92 @@
+-- A link between two of its rounds.
+use Rattle.std.specs.Prelude.{◌≡◌, ℕ, zero, suc, ◌<◌, ◌&&◌, ◌++◌, Bool, not, List, [], ◌∷◌, map, filter, All, Option, None, Result, Ok, IfOk, length, slice_index_or, if◌then◌else◌}
+use Rattle.std.specs.List.{filter_map, flat_map, list_any}
+use Rattle.std.specs.List.Sorted.{IsPermutation}
+use Rattle.std.specs.Str.{bytes_eq}
+use Rattle.mo_types.specs.Candidates.{is_candidate}
+use Rattle.mo_types.specs.Gives.{◌>>=◌, Gives}
+use Rattle.mo_types.specs.Loaded.{IsWholeFile}
+use Rattle.mo_types.specs.declared.key.FileId.{FileId}
+use Rattle.mo_types.specs.declared.loaded.LoadedFile.{LoadedFile}
+use Rattle.mo_types.specs.declared.object.Symbol.{Symbol}
+use Rattle.lib_bind.specs.declared.library.LibraryGraph.{LibraryGraph}
+use Rattle.member_rounds.specs.Growth.{is_in}
+use Rattle.member_rounds.specs.Files.{IsRoundFault, all_ids, file_of}
+use Rattle.member_rounds.specs.Rounds.{asked_by, files_of, has_candidate, is_undefined, new_ids, round, round_fault}
+use Rattle.member_rounds.specs.declared.fault.RoundFault.{RoundFault}
+use Rattle.member_rounds.specs.declared.input.Input.{Input}
+
+-- whether a name is among some
+abbrev pub lists : List (List ℕ) → List ℕ → Bool
+lists names name = list_any (bytes_eq name) names
+
+-- whether a file's symbol is a candidate of a name
+abbrev pub names_it : LoadedFile → List ℕ → Symbol → Bool
+names_it file name symbol = is_candidate file.object.sections symbol && bytes_eq name symbol.name
+
+-- whether a name has a candidate in a file
+unfoldable pub has_in : List ℕ → LoadedFile → Bool
+has_in name file = list_any (names_it file name) file.object.symbols
+
+-- the files before a round
+abbrev pub before : List Input → LibraryGraph → List (List ℕ) → ℕ → List FileId
+before inputs libs wanted zero = []
+before inputs libs wanted (suc k) = round inputs libs wanted k
+
+-- the names of the command line ask in the first round
+abbrev pub first_names : List (List ℕ) → ℕ → List (List ℕ)
+first_names wanted zero = wanted
+first_names wanted (suc k) = []
+
+-- what names without a candidate ask for
+unfoldable pub asked_of : (List ℕ → Bool) → List Input → LibraryGraph → List (List ℕ) → List FileId
+asked_of has inputs libs names = filter_map (asked_by inputs libs) (filter (λ name. not (has name)) names)
+
+-- the names of undefined symbols among some
+abbrev pub undefined_of : List Symbol → List (List ℕ)
+undefined_of symbols = map (λ symbol. symbol.name) (filter (λ symbol. is_undefined symbol.kind) symbols)
+
+-- that of a symbol, where it is undefined
+abbrev pub undefined_name : Symbol → List (List ℕ)
+undefined_name symbol = if is_undefined symbol.kind then symbol.name ∷ [] else []
+
+-- the files of ids, or the fault of the first that has one
+abbrev pub read_each : List Input → List FileId → Result (List LoadedFile) RoundFault
+read_each inputs [] = Ok []
+read_each inputs (id ∷ ids) = file_of inputs id >>= λ file. read_each inputs ids >>= λ files. Ok (file ∷ files)
+
+-- the files that were read, or the fault of the first that has one
+abbrev pub each_of : List (Result LoadedFile RoundFault) → Result (List LoadedFile) RoundFault
+each_of [] = Ok []
+each_of (piece ∷ pieces) = piece >>= λ file. each_of pieces >>= λ files. Ok (file ∷ files)
+
+abbrev pub after_files : List LoadedFile → Result (List LoadedFile) RoundFault → Result (List LoadedFile) RoundFault
+after_files before read = read >>= λ files. Ok (before ++ files)
+
+-- an id, where there is none
+abbrev pub no_id : FileId
+no_id = record { position = 0; member = 0 }
+
+-- what reading a file gave
+pub record IsReadOf (inputs : List Input) (id : FileId) (piece : Result LoadedFile RoundFault) : Type 0 where
+  pub exact : Gives IsRoundFault piece (file_of inputs id)
+  pub whole : IfOk piece IsWholeFile
+
+-- what reading each of some files gave
+pub record ArePieces (inputs : List Input) (ids : List FileId) (pieces : List (Result LoadedFile RoundFault)) : Type 0 where
+  pub count : length pieces ≡ length ids
+  pub each : (job : ℕ) (other : Result LoadedFile RoundFault) → job < length ids → IsReadOf inputs (slice_index_or ids job no_id) (slice_index_or pieces job other)
+
+-- the files that the loaded ones are, in some order
+pub record AreKept (inputs : List Input) (among : List FileId) (kept : List LoadedFile) : Type 0 where
+  pub ids : IsPermutation among (map (λ file. file.id) kept)
+  pub read : All (λ file. file_of inputs file.id ≡ Ok file) kept
+
+-- a link before a round: the files so far, the names that have a candidate there, the files that are left, those of the
+-- round, and no fault before
+pub record IsBetween (inputs : List Input) (libs : LibraryGraph) (wanted : List (List ℕ)) (k : ℕ) (kept : List LoadedFile) (named : List (List ℕ)) (left new : List FileId) : Type 0 where
+  pub files : AreKept inputs (before inputs libs wanted k) kept
+  pub named_are : (name : List ℕ) → lists named name ≡ has_candidate kept name
+  pub left_are : (id : FileId) → is_in left id ≡ (is_in (all_ids inputs) id && not (is_in (round inputs libs wanted k) id))
+  pub new_are : new ≡ new_ids inputs libs wanted k
+  pub no_fault : (j : ℕ) → j < k → round_fault inputs libs wanted j ≡ None

@@ -1,0 +1,267 @@
+//! The files that a link loads, round by round.
+ghost use Rattle.std.specs.Prelude.{◌≡◌, ℕ, ◌+◌, ◌^◌, ◌<◌, ◌≤◌, ◌++◌, ◌&&◌, ◌||◌, List, [], length, not, true, All, IfErr, IfOk, Err, Ok};
+ghost use Rattle.std.specs.List.{flat_map};
+ghost use Rattle.std.specs.List.Sorted.{IsPermutation, IsSortedBy, IsStrictlySortedBy};
+ghost use Rattle.std.specs.Ordering.{is_lt};
+ghost use Rattle.mo_types.specs.Gives.{Gives};
+ghost use Rattle.mo_types.specs.Keys.{compare_files};
+ghost use Rattle.mo_types.specs.Loaded.{IsWholeFile, IsWholeLoaded};
+ghost use Rattle.mo_types.specs.declared.key.FileId.{FileId};
+ghost use Rattle.name_ids.specs.Names.{external_names};
+ghost use Rattle.lib_bind.specs.declared.library.LibraryGraph.{LibraryGraph};
+ghost use Rattle.member_rounds.specs.Files as files;
+ghost use Rattle.member_rounds.specs.Files.{IsRoundFault};
+ghost use Rattle.member_rounds.specs.Rounds.{has_candidate, loaded_of, undefined_in};
+ghost use Rattle.member_rounds.specs.Growth.{is_in};
+ghost use Rattle.member_rounds.specs.Sources.{AreInOrder, inputs_of};
+ghost use Rattle.member_rounds.specs.inner.Holding.{AreReadable};
+ghost use Rattle.member_rounds.specs.inner.Linking.{IsLinkAt};
+ghost use Rattle.member_rounds.specs.inner.Working as working;
+
+use crate::all_files::{all_ids, first_ids};
+use crate::asking::ask_all;
+use crate::counting::{first_spare, names_of, spare_names};
+use crate::fault::RoundFault;
+use crate::id_set::IdSet;
+use crate::in_order::put_in_order;
+use crate::name_set::NameSet;
+use crate::noting::note_files;
+use crate::round_reading::read_all;
+use crate::sources::Source;
+use crate::taking::{left_of, take_next};
+use lib_bind::Libraries;
+use mo_outside::Gate;
+use mo_types::{Bytes, FileId, Loaded, LoadedList, NameList, OutOfMemory};
+use std::alloc::Global;
+use std::thread::Threads;
+
+/// A link between two rounds.
+#[derive(Drop)]
+pub(crate) struct Link {
+    /// The rounds that are done.
+    pub(crate) rounds: usize,
+    /// The files that they brought, round by round.
+    pub(crate) kept: Loaded,
+    /// The names that have a candidate in these.
+    pub(crate) named: NameSet,
+    /// The files for which no name has asked.
+    pub(crate) left: IdSet,
+    /// The files of the next round, by rising id.
+    pub(crate) new: Vec<FileId>,
+    /// How many names further files may have before there are too many.
+    pub(crate) spare: usize,
+}
+
+// The names of the command line ask in the first round.
+fn first_names(wanted: &NameList, rounds: usize) -> &[Bytes]
+    ensures { result.now ≡ working.first_names wanted.now rounds }
+{
+    if rounds == 0 { wanted.as_slice() } else { &[] }
+}
+
+// Files, and more files.
+fn with_files(before: Loaded, more: LoadedList) -> Result<Loaded, OutOfMemory>
+    ensures { IfOk result (λ all. all.files ≡ before.files ++ more) }
+{
+    let mut all = before.files.into_vec();
+    let mut more = more.into_vec();
+    all.append(&mut more)?;
+    Ok(Loaded {
+        files: LoadedList::from_vec(all),
+    })
+}
+
+// The files by rising id.
+fn in_order(kept: Loaded) -> Loaded
+    ensures permutation { IsPermutation kept.files result.files }
+    ensures sorted { IsSortedBy (λ a b. is_lt (compare_files a.id b.id)) result.files }
+{
+    let mut files = kept.files.into_vec();
+    put_in_order(&mut files);
+    Loaded {
+        files: LoadedList::from_vec(files),
+    }
+}
+
+// The files that are left of some without others.
+fn left_at(alloc: Global, all: &[FileId], new: &Vec<FileId>) -> Result<IdSet, OutOfMemory>
+    ensures { IfOk result (λ left. (id : FileId) → is_in left id ≡ (is_in all.now id && not (is_in new.now.items id))) }
+{
+    left_of(alloc, all, new.as_slice())
+}
+
+// A link before its first round.
+fn begin(
+    alloc: Global,
+    sources: &[Source],
+    all: &[FileId],
+    wanted: &NameList,
+) -> Result<Link, OutOfMemory>
+    requires order { AreInOrder (inputs_of sources.now) }
+    requires all { all.now ≡ files.all_ids (inputs_of sources.now) }
+    ensures rounds { IfOk result (λ link. link.rounds ≡ 0) }
+    ensures kept { IfOk result (λ link. link.kept.files ≡ []) }
+    ensures link { IfOk result (λ link. (libs : LibraryGraph) → IsLinkAt (inputs_of sources.now) libs wanted.now link) }
+{
+    let new = first_ids(alloc, sources, all)?;
+    let left = left_at(alloc, all, &new)?;
+    let files = LoadedList::new(alloc);
+    let named = NameSet::new(alloc);
+    let spare = first_spare(wanted);
+    Ok(Link {
+        rounds: 0,
+        kept: Loaded { files },
+        named,
+        left,
+        new,
+        spare,
+    })
+}
+
+// The files of the next round.
+fn read_new<R: Threads + Sync, G: Gate + Sync>(
+    rt: &R,
+    alloc: Global,
+    gate: &G,
+    workers: u32,
+    sources: &[Source],
+    new: &Vec<FileId>,
+) -> Result<LoadedList, RoundFault>
+    requires { AreReadable sources.now new.now.items }
+    ensures exact { Gives IsRoundFault result (working.read_each (inputs_of sources.now) new.now.items) }
+    ensures whole { IfOk result (λ files. All IsWholeFile files) }
+{
+    read_all(rt, alloc, gate, workers, sources, new.as_slice())
+}
+
+// Names, and those of the candidates of new files.
+fn note_new(named: NameSet, read: &LoadedList) -> Result<NameSet, OutOfMemory>
+    ensures { IfOk result (λ new. (name : List ℕ) → working.lists new name ≡ (working.lists named name || has_candidate read.now name)) }
+{
+    note_files(named, read.as_slice())
+}
+
+// The files for which the names of new files ask, and in the first round those of the command line.
+fn ask_new(
+    alloc: Global,
+    sources: &[Source],
+    libs: &Libraries,
+    named: &NameSet,
+    read: &LoadedList,
+    wanted: &NameList,
+    rounds: usize,
+) -> Result<Vec<FileId>, OutOfMemory>
+    ensures { IfOk result (λ asked. asked.items ≡ working.asked_of (working.lists named.now) (inputs_of sources.now) libs.now (flat_map undefined_in read.now ++ working.first_names wanted.now rounds)) }
+{
+    let names = first_names(wanted, rounds);
+    ask_all(alloc, sources, libs, named, read.as_slice(), names)
+}
+
+// No fewer names than new files have, up to the limit of names.
+fn count_new(read: &LoadedList) -> usize
+    ensures { result < 2 ^ 24 → length (external_names read.now) ≤ result }
+{
+    names_of(read.as_slice())
+}
+
+// What is left without the files that are asked for, and those of them that were left, by rising id.
+fn take_new(
+    alloc: Global,
+    left: IdSet,
+    asked: Vec<FileId>,
+) -> Result<(IdSet, Vec<FileId>), OutOfMemory>
+    ensures left { IfOk result (λ r. (id : FileId) → is_in r.0 id ≡ (is_in left id && not (is_in asked.items id))) }
+    ensures rises { IfOk result (λ r. IsStrictlySortedBy compare_files r.1.items) }
+    ensures taken { IfOk result (λ r. (id : FileId) → is_in r.1.items id ≡ (is_in left id && is_in asked.items id)) }
+{
+    take_next(alloc, left, asked.as_slice())
+}
+
+// A link after one round more: its files are read, and join all at once; then their names ask.
+fn next_round<R: Threads + Sync, G: Gate + Sync>(
+    rt: &R,
+    alloc: Global,
+    gate: &G,
+    workers: u32,
+    sources: &[Source],
+    libs: &Libraries,
+    wanted: &NameList,
+    link: Link,
+) -> Result<Link, RoundFault>
+    requires order { AreInOrder (inputs_of sources.now) }
+    requires link { IsLinkAt (inputs_of sources.now) libs.now wanted.now link }
+    requires rounds { link.rounds < length (files.all_ids (inputs_of sources.now)) + 1 }
+    requires few { link.rounds < 2 ^ 63 }
+    ensures rounds { IfOk result (λ next. next.rounds ≡ link.rounds + 1) }
+    ensures link { IfOk result (λ next. IsLinkAt (inputs_of sources.now) libs.now wanted.now next) }
+    ensures fault { IfErr result (λ fault. IsRoundFault fault → loaded_of (inputs_of sources.now) libs.now wanted.now ≡ Err fault) }
+{
+    let read = match read_new(rt, alloc, gate, workers, sources, &link.new) {
+        Ok(read) => read,
+        Err(fault) => return Err(fault),
+    };
+    let Link {
+        rounds,
+        kept,
+        named,
+        left,
+        new: _,
+        spare,
+    } = link;
+    let named = note_new(named, &read)?;
+    let asked = ask_new(alloc, sources, libs, &named, &read, wanted, rounds)?;
+    let count = count_new(&read);
+    let kept = with_files(kept, read)?;
+    let spare = match spare_names(alloc, spare, count, &kept, wanted) {
+        Ok(spare) => spare,
+        Err(fault) => return Err(fault),
+    };
+    let (left, new) = take_new(alloc, left, asked)?;
+    Ok(Link {
+        rounds: rounds + 1,
+        kept,
+        named,
+        left,
+        new,
+        spare,
+    })
+}
+
+// Whether the next round has no files.
+fn brings_nothing(link: &Link) -> bool
+    ensures { result ≡ true → link.now.new.items ≡ [] }
+{
+    link.new.is_empty()
+}
+
+/// The files that a link loads, by rising id, each read once by one of so many workers (none count as one). In the first
+/// round come the objects and the members of forced archives. In each further one come all members at once for which the
+/// names ask that are wanted so far, by files or by the command line, and have no candidate. The rounds end when one brings
+/// no file. Refusals come for the first round that has one: the fault of the least of its files that has one, and then that
+/// of too many names. The answer is the same for every number of workers.
+pub fn load<R: Threads + Sync, G: Gate + Sync>(
+    rt: &R,
+    alloc: Global,
+    gate: &G,
+    workers: u32,
+    sources: &[Source],
+    libs: &Libraries,
+    wanted: &NameList,
+) -> Result<Loaded, RoundFault>
+    requires order { AreInOrder (inputs_of sources.now) }
+    ensures exact { Gives IsRoundFault result (loaded_of (inputs_of sources.now) libs.now wanted.now) }
+    ensures whole { IfOk result IsWholeLoaded }
+{
+    let all = all_ids(alloc, sources)?;
+    let mut link = begin(alloc, sources, all.as_slice(), wanted)?;
+    for round in 0..all.len() + 1 {
+        link = match next_round(rt, alloc, gate, workers, sources, libs, wanted, link) {
+            Ok(next) => next,
+            Err(fault) => return Err(fault),
+        };
+        if brings_nothing(&link) {
+            return Ok(in_order(link.kept));
+        }
+    }
+    Ok(in_order(link.kept))
+}
