@@ -114,9 +114,9 @@ fn keys(alloc: Global, list: &[(u16, u64)]) -> Result<KeyList, OutOfMemory> {
 }
 
 // The kept atoms, the names that the command wants, and the name and the file that are told.
-type Case<'a> = (
-    &'a [(u16, u64)],
-    &'a [&'static [u8]],
+type Case = (
+    &'static [(u16, u64)],
+    &'static [&'static [u8]],
     Option<(&'static [u8], &'static [u8])>,
 );
 
@@ -148,20 +148,21 @@ const FILES: [File; 2] = [
     ),
 ];
 
+const CASES: [Case; 8] = [
+    (&[], &[], None),
+    (&[(0, 0)], &[], None),
+    (&[(0, 0), (0, 8)], &[], Some((b"_z", b"a.o"))),
+    (&[(0, 0), (1, 0)], &[], Some((b"_z", b"b.o"))),
+    (&[(0, 8), (1, 0), (1, 4)], &[], Some((b"_b", b"b.o"))),
+    (&[(0, 0)], &[b"_start"], Some((b"_start", b""))),
+    (&[(0, 8)], &[b"_z", b"_y"], Some((b"_y", b""))),
+    (&[(0, 8)], &[b"_z"], Some((b"_z", b"a.o"))),
+];
+
 #[test]
 fn least_undefined_name_is_told(rt: HostRuntime) -> Result<(), Fail> {
     let alloc = rt.alloc();
-    let cases: [Case; 8] = [
-        (&[], &[], None),
-        (&[(0, 0)], &[], None),
-        (&[(0, 0), (0, 8)], &[], Some((b"_z", b"a.o"))),
-        (&[(0, 0), (1, 0)], &[], Some((b"_z", b"b.o"))),
-        (&[(0, 8), (1, 0), (1, 4)], &[], Some((b"_b", b"b.o"))),
-        (&[(0, 0)], &[b"_start"], Some((b"_start", b""))),
-        (&[(0, 8)], &[b"_z", b"_y"], Some((b"_y", b""))),
-        (&[(0, 8)], &[b"_z"], Some((b"_z", b"a.o"))),
-    ];
-    for case in &cases {
+    for case in &CASES {
         assert!(rt; tells(alloc, &FILES, case)?);
     }
     Ok(())
