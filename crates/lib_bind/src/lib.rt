@@ -20,8 +20,6 @@ mod provider;
 mod reach;
 mod sought;
 mod stub_text;
-#[cfg(test)]
-mod tests;
 
 pub use bind_fault::BindFault;
 pub use binding::closure;

@@ -1,7 +1,7 @@
 //! Stub libraries. What is expected comes from the keys of TBD version 4, by hand.
 mod faults;
 mod keys;
-mod worked;
+pub mod worked;
 
 ghost use Rattle.std.specs.Prelude.{◌≡◌, IfOk, Ok};
 ghost use Rattle.tbd_yaml.specs.File.{file_of};

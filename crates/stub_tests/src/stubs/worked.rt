@@ -2,7 +2,7 @@ use super::{StubFault, StubFile, read_bytes, said};
 use mo_types::Bytes;
 use std::alloc::Global;
 
-const SDK_HELLO: &[u8] = b"\
+pub const SDK_HELLO: &[u8] = b"\
 --- !tapi-tbd\n\
 tbd-version:     4\n\
 targets:         [ x86_64-macos, arm64-macos, arm64e-macos ]\n\

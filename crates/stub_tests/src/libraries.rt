@@ -1,7 +1,9 @@
-//! Providers of names, against answers that were written by hand.
-use super::*;
-use mo_cmd::{Command, read_all_words};
-use mo_types::{Arg, ArgList, Bytes, Items, NameList, OutOfMemory};
+//! Libraries that were put together by hand, and the providers of names. The answers were written by hand.
+use lib_bind::{
+    Libraries, Library, LibraryList, LinkList, Provider, are_libraries, are_links, offer_of,
+    provider_of,
+};
+use mo_types::{Bytes, Items, NameList, OutOfMemory};
 use std::alloc::Global;
 use std::test::Fail;
 use tbd_doc::{Export, ExportList, Stub, StubList};
@@ -100,25 +102,6 @@ fn made(
         stubs,
         links_of(alloc, links)?,
     )
-}
-
-// The document of libSystem re-exports that of libsystem_c, which has `_puts`.
-#[test]
-fn sdk_hello(rt: HostRuntime) -> Result<(), Fail> {
-    let libs = made(
-        rt.alloc(),
-        &[&[], &[b"_puts"]],
-        &[&[1], &[]],
-        &[(1, 0), (4, 0)],
-    )?;
-    assert!(rt;
-        libs.is_some_and(|libs| {
-            is_bound(&libs, b"_puts", (1, false, false))
-                && provider_of(&libs, b"_put").is_none()
-                && provider_of(&libs, b"").is_none()
-        })
-    );
-    Ok(())
 }
 
 // A ring of three documents, one by itself, and one that no library reaches.
@@ -237,53 +220,5 @@ fn many_names_are_found(rt: HostRuntime) -> Result<(), Fail> {
                     .all(|reached| reached.len() == 1000)
         })
     );
-    Ok(())
-}
-
-// The command of some words.
-fn command_of(alloc: Global, words: &[&str]) -> Result<Option<Command>, OutOfMemory> {
-    let mut list = ArgList::new(alloc);
-    for word in words {
-        list.push(Arg::new(String::from_str(alloc, *word)?))?;
-    }
-    Ok(read_all_words(alloc, &list).ok())
-}
-
-// Whether an install name is looked for at these two paths.
-fn is_looked_for(
-    alloc: Global,
-    words: &[&str],
-    install: &[u8],
-    paths: [&[u8]; 2],
-) -> Result<bool, OutOfMemory> {
-    let Some(command) = command_of(alloc, words)? else {
-        return Ok(false);
-    };
-    let found = reexport_paths(alloc, &command, install)?;
-    Ok(
-        found.len() == 2
-            && found
-                .as_slice()
-                .iter()
-                .zip(paths.iter())
-                .all(|(found, path)| found.as_slice() == *path),
-    )
-}
-
-#[test]
-fn reexports_are_looked_for(rt: HostRuntime) -> Result<(), Fail> {
-    let alloc = rt.alloc();
-    let all = is_looked_for(
-        alloc,
-        &["a.o"],
-        b"/usr/lib/libx.1.dylib",
-        [b"/usr/lib/libx.1.tbd", b"/usr/lib/libx.1.dylib"],
-    )? && is_looked_for(
-        alloc,
-        &["a.o", "-syslibroot", "/SDK"],
-        b"/F/X.framework/X",
-        [b"/SDK/F/X.framework/X.tbd", b"/SDK/F/X.framework/X"],
-    )?;
-    assert!(rt; all);
     Ok(())
 }
