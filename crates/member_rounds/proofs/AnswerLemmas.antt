@@ -1,17 +1,17 @@
 -- Where the definition of what is loaded has an answer, each file that a round brings can be read.
-use Rattle.std.proofs.Common.{◌≡◌, ℕ, zero, suc, ◌+◌, ◌<◌, ◌≤◌, ◌⊎◌, Bool, true, false, not, List, [], ◌∷◌, Contains, Option, Some, None, Result, Ok, Err, length, filter, refl, sym, ap, ◌∙◌, subst, inl, inr, arith, zero-add}
+use Rattle.std.proofs.Common.{◌≡◌, ℕ, zero, suc, ◌+◌, ◌<◌, ◌≤◌, Bool, true, false, not, List, [], ◌∷◌, Contains, Option, Some, None, Result, Ok, Err, length, refl, sym, ap, ◌∙◌, subst, inl, inr, arith, zero-add}
 use Rattle.std.proofs.Math.Nat.{le_refl}
-use Rattle.std.specs.List.{filter_map, range_with_len}
+use Rattle.std.specs.List.{range_with_len}
 use Rattle.std.specs.Result.{result_err, result_ok}
 use Rattle.list_lemmas.proofs.Members.{In, in_filter, in_from_Contains, Contains_from_in}
-use Rattle.mo_types.specs.Scan.{first_some, option_or_else}
+use Rattle.mo_types.specs.Scan.{first_some}
 use Rattle.mo_types.specs.declared.key.FileId.{FileId}
 use Rattle.mo_types.specs.declared.loaded.Loaded.{Loaded}
 use Rattle.mo_types.specs.declared.loaded.LoadedFile.{LoadedFile}
 use Rattle.lib_bind.specs.declared.library.LibraryGraph.{LibraryGraph}
 use Rattle.member_rounds.specs.Growth.{is_in}
 use Rattle.member_rounds.specs.Files.{all_ids, file_of}
-use Rattle.member_rounds.specs.Rounds.{asks, files_of, is_first, loaded_ids, loaded_of, loaded_unless, names_fault, new_ids, round, round_fault}
+use Rattle.member_rounds.specs.Rounds.{asks, files_of, is_first, loaded_ids, loaded_of, new_ids, round, round_fault}
 use Rattle.member_rounds.specs.declared.fault.RoundFault.{RoundFault}
 use Rattle.member_rounds.specs.declared.input.Input.{Input}
 use Rattle.member_rounds.proofs.GrowthLemmas.{in_from_has, round_ends}
@@ -34,7 +34,7 @@ in_range (suc n) a zero low = inl (let e : a ≡ a + 0 = omega arith in e)
 in_range (suc n) a (suc k) low = inr (subst (λ (m : ℕ). In m (range_with_len (a + 1) n)) (let e : (a + 1) + k ≡ a + suc k = omega arith in e) (in_range n (a + 1) k (omega (arith, low))))
 
 module _ (inputs : List Input) (libs : LibraryGraph) (wanted : List (List ℕ)) where
-  faultless : (loaded : Loaded) → loaded_of inputs libs wanted ≡ Ok loaded → (first_some (round_fault inputs libs wanted) (range_with_len 0 (length (all_ids inputs) + 1)) ≡ None) × (loaded.files ≡ files_of inputs (loaded_ids inputs libs wanted))
+  pub faultless : (loaded : Loaded) → loaded_of inputs libs wanted ≡ Ok loaded → (first_some (round_fault inputs libs wanted) (range_with_len 0 (length (all_ids inputs) + 1)) ≡ None) × (loaded.files ≡ files_of inputs (loaded_ids inputs libs wanted))
   unfolding loaded_of
   faultless loaded is = by (first_some (round_fault inputs libs wanted) (range_with_len 0 (length (all_ids inputs) + 1))) refl
     where
@@ -68,7 +68,7 @@ read_then (Err fault) none = absurd (let s : Some fault ≡ None = none in cc)
 result_ok_is : (r : Result LoadedFile RoundFault) (file : LoadedFile) → r ≡ Ok file → result_ok r ≡ Some file
 result_ok_is r file is = ap result_ok is
 
-ok_back : (r : Result LoadedFile RoundFault) (file : LoadedFile) → result_ok r ≡ Some file → r ≡ Ok file
+pub ok_back : (r : Result LoadedFile RoundFault) (file : LoadedFile) → result_ok r ≡ Some file → r ≡ Ok file
 ok_back (Ok other) file is = let s : Some other ≡ Some file = is in cc
 ok_back (Err fault) file is = absurd (let s : None ≡ Some file = is in cc)
 

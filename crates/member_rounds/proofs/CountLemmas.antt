@@ -1,9 +1,9 @@
 -- How many names files have.
-use Rattle.std.proofs.Common.{◌≡◌, ℕ, zero, suc, ◌+◌, ◌-◌, ◌<◌, ◌≤◌, ◌^◌, ◌⊎◌, ◌++◌, Bool, true, false, nat_lt, min, List, [], ◌∷◌, Contains, Option, Some, None, Result, Ok, Err, length, map, filter, take, get_or, refl, sym, ap, subst, ◌∙◌, inl, inr, arith, length-append, append_assoc}
-use Rattle.std.specs.List.{IsDistinct, flat_map, list_any}
+use Rattle.std.proofs.Common.{◌≡◌, ℕ, ◌+◌, ◌-◌, ◌<◌, ◌≤◌, ◌^◌, ◌⊎◌, ◌++◌, Bool, true, false, nat_lt, min, List, [], ◌∷◌, Some, None, Ok, Err, length, filter, take, get_or, refl, sym, ap, subst, ◌∙◌, inl, inr, arith, length-append}
+use Rattle.std.specs.List.{flat_map}
 use Rattle.std.specs.Cmp.Lexicographic.{nat_list_eq_equiv}
 use Rattle.std.specs.Str.{bytes_eq}
-use Rattle.std.proofs.lemmas.Bool.{ltb-true, ltb-false, lt-ltb}
+use Rattle.std.proofs.lemmas.Bool.{ltb-true, lt-ltb}
 use Rattle.std.proofs.lemmas.List.{length-map, take_all, take_more}
 use Rattle.std.proofs.lemmas.List.Concat.{flat_map-append}
 use Rattle.std.proofs.lemmas.Map.Made.{length-le_from_is_member}
@@ -14,7 +14,6 @@ use Rattle.mo_types.specs.declared.cause.Which.TheVariants as which
 use Rattle.mo_types.specs.declared.loaded.LoadedFile.{LoadedFile}
 use Rattle.mo_types.specs.declared.object.Symbol.{Symbol}
 use Rattle.name_ids.specs.Names.{external_names, external_of, gathered, numbered}
-use Rattle.name_ids.specs.declared.fault.GatherFault.{GatherFault}
 use Rattle.name_ids.specs.declared.fault.GatherFault.TheVariants.{Names}
 use Rattle.name_ids.proofs.Once.{distinct}
 use Rattle.member_rounds.specs.Rounds.{names_fault}

@@ -1,11 +1,9 @@
 -- The files of inputs: their ids, and what they are read as.
-use Rattle.std.proofs.Common.{◌≡◌, ℕ, zero, suc, ◌+◌, ◌<◌, ◌≤◌, ◌^◌, ◌⊎◌, ◌++◌, Bool, true, false, List, [], ◌∷◌, Option, Some, None, Result, Ok, Err, length, map, refl, sym, ap, ap₂, ◌∙◌, subst, inl, inr, arith, lit<}
+use Rattle.std.proofs.Common.{◌≡◌, ℕ, zero, suc, ◌+◌, ◌<◌, ◌≤◌, ◌^◌, ◌++◌, List, [], ◌∷◌, Option, Some, None, Result, Ok, Err, length, map, refl, sym, ap, ap₂, ◌∙◌, subst, inl, inr, arith, lit<}
 use Rattle.std.specs.List.{AllByRecursion, flat_map, range_with_len}
 use Rattle.std.specs.List.Sorted.{IsStrictlySortedBy}
-use Rattle.std.specs.Ordering.{nat_cmp, ordering_then}
-use Rattle.std.specs.Result.{result_ok}
-use Rattle.std.specs.declared.cmp.Ordering.{Ordering}
-use Rattle.std.specs.declared.cmp.Ordering.TheVariants.{Equal, Greater, Less}
+use Rattle.std.specs.Ordering.{nat_cmp}
+use Rattle.std.specs.declared.cmp.Ordering.TheVariants.{Less}
 use Rattle.std.proofs.lemmas.Cmp.{nat_cmp_total, tied_itself}
 use Rattle.list_lemmas.proofs.Members.{In, all_from_in, all_in, from_map, in_map}
 use Rattle.mo_types.specs.Keys.{compare_files}
@@ -21,9 +19,8 @@ use Rattle.mo_ar.specs.Archive.{archive_of}
 use Rattle.mo_ar.specs.declared.archive.Archive.{Archive}
 use Rattle.mo_ar.proofs.LawLemmas.{archive_there}
 use Rattle.mo_obj.specs.Object.{object_of}
-use Rattle.member_rounds.specs.Files.{all_ids, archive_as, archive_in, content_of, fault_of, file_of, file_with, id_at, ids_as, ids_in, object_read, read_as, read_by}
+use Rattle.member_rounds.specs.Files.{all_ids, archive_as, archive_in, content_of, fault_of, file_of, file_with, id_at, ids_as, ids_in, object_read, read_by}
 use Rattle.member_rounds.specs.Sources.{AreInOrder}
-use Rattle.member_rounds.specs.declared.fault.RoundFault.{RoundFault}
 use Rattle.member_rounds.specs.declared.input.Input.{Input}
 use Rattle.member_rounds.proofs.WorkLemmas.{from_flat}
 

@@ -1,7 +1,5 @@
 -- Files that come round by round.
 use Rattle.std.proofs.Common.{◌≡◌, ℕ, zero, suc, ◌+◌, ◌-◌, ◌==◌, ◌&&◌, ◌<◌, ◌≤◌, ◌⊎◌, Bool, true, false, ◌||◌, List, [], ◌∷◌, length, filter, Contains, refl, sym, ap, subst, ◌∙◌, inl, inr, ap₂, eq-eqb, eqb-true, zero-add, add-one, arith}
-use Rattle.std.specs.List.{list_any}
-use Rattle.std.proofs.lemmas.Bool.{cases_Bool}
 use Rattle.list_lemmas.proofs.Members.{In, any_from_in, any_true, from_filter, in_filter, in_from_Contains, Contains_from_in}
 use Rattle.mo_types.specs.declared.key.FileId.{FileId}
 use Rattle.member_rounds.specs.Growth.{after, is_in, same_file, union}

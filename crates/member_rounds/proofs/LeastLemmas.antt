@@ -1,10 +1,9 @@
 -- The words of a race in which nothing stands at the start are the least words of the candidates.
-use Rattle.std.proofs.Common.{◌≡◌, ℕ, zero, suc, ◌+◌, ◌<◌, ◌==◌, Bool, true, false, nat_lt, cond, List, [], ◌∷◌, All, Contains, Some, None, length, get_or, map, min, position, replicate, slice_get, slice_index, refl, sym, ap, ◌∙◌, arith, eq-eqb, eqb-true}
-use Rattle.std.specs.List.{AllByRecursion, filter, fold, position_or_len}
+use Rattle.std.proofs.Common.{◌≡◌, ℕ, zero, suc, ◌<◌, ◌==◌, Bool, true, false, nat_lt, List, [], ◌∷◌, Some, None, length, map, min, position, replicate, slice_get, slice_index, refl, sym, ap, ◌∙◌, arith, eq-eqb, eqb-true}
+use Rattle.std.specs.List.{filter, fold, position_or_len}
 use Rattle.std.specs.Str.{bytes_eq}
-use Rattle.std.proofs.lemmas.Bool.{lt-ltb, ltb-true}
+use Rattle.std.proofs.lemmas.Bool.{ltb-true}
 use Rattle.std.proofs.lemmas.List.{get_or-replicate, length-replicate}
-use Rattle.std.proofs.lemmas.List.Elements.{recursion_from_All}
 use Rattle.std.proofs.lemmas.Slice.Eq.{bytes_eq-Decides}
 use Rattle.mo_types.specs.Candidates.{Candidate, candidate_word, candidates, candidates_for, least, no_word}
 use Rattle.mo_types.specs.declared.loaded.LoadedFile.{LoadedFile}
@@ -12,7 +11,7 @@ use Rattle.name_ids.specs.Names.{numbered}
 use Rattle.name_ids.proofs.Once.{back}
 use Rattle.race_core.specs.Run.{least_word, run, words_for}
 use Rattle.race_core.proofs.Runs.{get_or-run}
-use Rattle.member_rounds.specs.Offers.{AreNamed, bid_of, bids_of}
+use Rattle.member_rounds.specs.Offers.{bid_of, bids_of}
 
 some_at : (test : List ℕ → Bool) (names : List (List ℕ)) (id : ℕ) → position test names ≡ Some id → (position_or_len test names ≡ id) × (id < length names)
 some_at test names id is = by (nat_lt (position_or_len test names) (length names)) refl

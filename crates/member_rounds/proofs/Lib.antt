@@ -9,11 +9,14 @@ pub mod LeastLemmas
 pub mod LinkLemmas
 pub mod NoteLemmas
 pub mod OfferLemmas
+pub mod OrderLemmas
 pub mod PieceLemmas
 pub mod PlaceLemmas
 pub mod RacerLemmas
 pub mod ReadLemmas
+pub mod RiseLemmas
 pub mod RoundLemmas
+pub mod SearchLemmas
 pub mod SetLemmas
 pub mod StateLemmas
 pub mod StepLemmas

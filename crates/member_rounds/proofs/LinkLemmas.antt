@@ -1,6 +1,6 @@
 -- A link of the code from its begin to its end.
-use Rattle.std.proofs.Common.{◌≡◌, ℕ, zero, suc, ◌+◌, ◌-◌, ◌<◌, ◌≤◌, ◌^◌, ◌&&◌, ◌||◌, ◌++◌, Bool, true, false, not, List, [], ◌∷◌, All, Option, Some, None, Result, Ok, Err, length, map, filter, take, drop, get_or, refl, sym, ap, ◌∙◌, subst, inl, inr, arith, add-one}
-use Rattle.std.specs.List.{AllPairs, filter_map, flat_map, list_any}
+use Rattle.std.proofs.Common.{◌≡◌, ℕ, ◌+◌, ◌<◌, ◌≤◌, ◌^◌, ◌&&◌, ◌||◌, ◌++◌, not, List, [], All, Some, None, Ok, Err, length, filter, take, drop, refl, sym, ap, ◌∙◌, subst, inl, inr, arith, add-one}
+use Rattle.std.specs.List.{flat_map}
 use Rattle.std.specs.List.Sorted.{IsPermutation, IsSortedBy, IsStrictlySortedBy}
 use Rattle.std.specs.Ordering.{is_lt, on}
 use Rattle.std.specs.Cmp.Lexicographic.{nat_list_eq_equiv}
@@ -21,7 +21,7 @@ use Rattle.lib_bind.specs.declared.library.LibraryGraph.{LibraryGraph}
 use Rattle.name_ids.specs.Names.{external_names, numbered}
 use Rattle.name_ids.proofs.Once.{distinct}
 use Rattle.member_rounds.specs.Growth.{after, is_in}
-use Rattle.member_rounds.specs.Files.{all_ids, file_of}
+use Rattle.member_rounds.specs.Files.{all_ids}
 use Rattle.member_rounds.specs.Rounds.{asks, files_of, has_candidate, is_first, loaded_ids, loaded_of, names_fault, undefined_in}
 use Rattle.member_rounds.specs.Sources.{AreInOrder, inputs_of}
 use Rattle.member_rounds.specs.declared.fault.RoundFault.{RoundFault}

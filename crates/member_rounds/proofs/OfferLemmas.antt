@@ -1,5 +1,5 @@
 -- The offers of files, one symbol after the other.
-use Rattle.std.proofs.Common.{◌≡◌, ℕ, ◌+◌, ◌<◌, ◌≤◌, Bool, true, false, not, List, [], ◌∷◌, ◌++◌, All, Contains, Some, None, length, drop, get_or, map, nat_lt, position, refl, sym, ap, ap₂, ◌∙◌, inl, inr, arith, append_assoc, append-nil}
+use Rattle.std.proofs.Common.{◌≡◌, ℕ, ◌+◌, ◌<◌, ◌≤◌, Bool, true, false, List, [], ◌∷◌, ◌++◌, Contains, Some, None, length, drop, get_or, map, nat_lt, position, refl, sym, ap, ◌∙◌, inl, inr, arith, append_assoc, append-nil}
 use Rattle.std.specs.List.{AllByRecursion, enumerate_from, filter_map, flat_map, position_or_len}
 use Rattle.std.specs.Str.{bytes_eq}
 use Rattle.std.proofs.lemmas.Bool.{lt-ltb}
@@ -7,7 +7,7 @@ use Rattle.std.proofs.lemmas.List.{drop_all, drop_more}
 use Rattle.std.proofs.lemmas.List.Elements.{filter_map-append, recursion_from_All}
 use Rattle.std.proofs.lemmas.Slice.Eq.{bytes_eq-Decides}
 use Rattle.list_lemmas.proofs.Members.{In, in_from_Contains}
-use Rattle.mo_types.specs.Candidates.{Candidate, candidate_at, candidate_word, candidates, candidates_of, is_candidate, word_of}
+use Rattle.mo_types.specs.Candidates.{Candidate, candidate_at, candidates, candidates_of, is_candidate, word_of}
 use Rattle.mo_types.specs.declared.loaded.LoadedFile.{LoadedFile}
 use Rattle.mo_types.specs.declared.object.Symbol.{Symbol}
 use Rattle.name_race.specs.Race.{Holding}

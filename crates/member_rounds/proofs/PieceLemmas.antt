@@ -1,5 +1,5 @@
 -- What workers read, put in order.
-use Rattle.std.proofs.Common.{◌≡◌, ℕ, zero, suc, ◌+◌, ◌<◌, ◌≤◌, ◌++◌, List, [], ◌∷◌, All, IfOk, Option, Some, None, Result, Ok, Err, length, get_or, take, drop, take-add, inl, inr, refl, sym, ap, subst, ◌∙◌, append-nil, append_assoc, arith}
+use Rattle.std.proofs.Common.{◌≡◌, ℕ, suc, ◌+◌, ◌<◌, ◌≤◌, ◌++◌, List, [], ◌∷◌, All, IfOk, Result, Ok, Err, length, get_or, take, drop, take-add, inl, inr, refl, sym, ap, subst, ◌∙◌, append-nil, append_assoc, arith}
 use Rattle.std.proofs.lemmas.List.{take-append-drop, take_all}
 use Rattle.list_lemmas.proofs.Members.{In}
 use Rattle.mo_types.specs.Gives.{◌>>=◌, Gives}

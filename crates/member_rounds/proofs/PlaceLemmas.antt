@@ -1,13 +1,13 @@
 -- The input at a position.
-use Rattle.std.proofs.Common.{◌≡◌, ℕ, zero, suc, ◌+◌, ◌-◌, ◌<◌, ◌≤◌, ◌==◌, ◌&&◌, ◌||◌, Bool, true, false, nat_lt, List, [], ◌∷◌, Option, Some, None, length, map, min, take, drop, find, refl, sym, ap, ◌∙◌, arith, eqb-true, eq-eqb}
-use Rattle.std.specs.Prelude.{if◌then◌else◌, unwrap_or}
+use Rattle.std.proofs.Common.{◌≡◌, ℕ, zero, suc, ◌-◌, ◌<◌, ◌≤◌, ◌==◌, ◌&&◌, ◌||◌, Bool, true, false, nat_lt, List, [], ◌∷◌, Option, Some, None, length, map, min, take, drop, find, refl, sym, ap, ◌∙◌, arith, eqb-true}
+use Rattle.std.specs.Prelude.{if◌then◌else◌}
 use Rattle.std.specs.List.{AllByRecursion, list_any}
 use Rattle.std.specs.List.Sorted.{IsStrictlySortedBy}
 use Rattle.std.specs.Ordering.{nat_cmp}
 use Rattle.std.specs.declared.cmp.Ordering.TheVariants.{Less}
 use Rattle.std.proofs.lemmas.Bool.{ltb-true, ltb-false}
 use Rattle.std.proofs.lemmas.Cmp.{nat_cmp_total, tied_itself}
-use Rattle.std.proofs.lemmas.List.{length-drop, take_all, take_min}
+use Rattle.std.proofs.lemmas.List.{length-drop, take_min}
 use Rattle.mo_ar.specs.Text.{part}
 use Rattle.mo_types.specs.Scan.{first_some, option_or_else}
 use Rattle.mo_types.specs.declared.key.FileId.{FileId}

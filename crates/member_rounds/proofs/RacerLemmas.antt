@@ -1,5 +1,5 @@
 -- The offers of racers that ran jobs, together.
-use Rattle.std.proofs.Common.{◌≡◌, ℕ, ◌+◌, ◌<◌, ◌≤◌, List, [], ◌∷◌, ◌++◌, All, length, get_or, map, take, drop, refl, sym, ap, ap₂, ◌∙◌, subst, arith, append_assoc, append-nil}
+use Rattle.std.proofs.Common.{◌≡◌, ℕ, List, [], ◌∷◌, ◌++◌, length, refl, sym, ap, ap₂, ◌∙◌, subst, append_assoc, append-nil}
 use Rattle.std.specs.List.{flat_map, range_with_len}
 use Rattle.std.proofs.lemmas.List.{length-map}
 use Rattle.std.specs.List.Sorted.{IsPermutation}
@@ -9,7 +9,7 @@ use Rattle.std.proofs.lemmas.List.Sorted.{IsPermutation-refl, IsPermutation-sym,
 use Rattle.par_work.specs.Fan.{EachLeads, IsFanned, Leads, numbered}
 use Rattle.par_work.proofs.Runs.{flat_map-IsPermutation, keys_numbered}
 use Rattle.name_race.specs.Race.{Holding, Race}
-use Rattle.member_rounds.specs.Offers.{GrewBy, offers_of}
+use Rattle.member_rounds.specs.Offers.{offers_of}
 use Rattle.member_rounds.specs.inner.Offering.{HasOffered, HaveOffered}
 
 -- the middle parts change places

@@ -1,5 +1,5 @@
 -- What is read of an object has fewer than 2^24 symbols, and its references.
-use Rattle.std.proofs.Common.{◌≡◌, ℕ, ◌<◌, ◌^◌, Bool, true, false, List, [], length, nat_lt, Option, Some, None, Result, Ok, Err, refl, sym, ap, ◌∙◌}
+use Rattle.std.proofs.Common.{◌≡◌, ℕ, ◌<◌, ◌^◌, Bool, true, false, List, [], length, nat_lt, Option, Some, None, Result, Ok, Err, refl}
 use Rattle.std.proofs.lemmas.Bool.{ltb-true}
 use Rattle.mo_types.specs.Atoms.{atoms_of}
 use Rattle.mo_types.specs.Gives.{◌>>=◌, guarded}
@@ -15,7 +15,7 @@ use Rattle.mo_types.specs.declared.reference.Ref.{Ref}
 use Rattle.mo_obj.specs.Features.{first_feature}
 use Rattle.mo_obj.specs.Object.{accepted, described, lacks, object_of}
 use Rattle.mo_obj.specs.Relocations.{relocations_of}
-use Rattle.member_rounds.specs.Files.{file_with, object_read, refs_or_none}
+use Rattle.member_rounds.specs.Files.{object_read}
 
 guard_few : (read object : Object) → (guarded (nat_lt (length read.symbols) (2 ^ 24)) (Limit Symbols) (tt {0}) >>= λ done. Ok read) ≡ Ok object → length object.symbols < 2 ^ 24
 guard_few read object is = by (nat_lt (length read.symbols) (2 ^ 24)) refl

@@ -1,5 +1,5 @@
 -- The files that a link loads, by what names ask for.
-use Rattle.std.proofs.Common.{◌≡◌, ℕ, ◌+◌, ◌<◌, ◌≤◌, ◌⊎◌, Bool, true, false, List, [], ◌∷◌, Contains, Option, Some, None, nat_lt, refl, sym, ap, ◌∙◌, inl, inr}
+use Rattle.std.proofs.Common.{◌≡◌, ℕ, ◌<◌, ◌≤◌, ◌⊎◌, Bool, true, false, List, [], ◌∷◌, Contains, Option, Some, None, nat_lt, refl, sym, ap, ◌∙◌, inl, inr}
 use Rattle.std.specs.List.{filter_map}
 use Rattle.std.proofs.lemmas.Bool.{ltb-false}
 use Rattle.list_lemmas.proofs.Members.{In, in_from_Contains, Contains_from_in}
@@ -8,7 +8,6 @@ use Rattle.mo_types.specs.declared.key.FileId.{FileId}
 use Rattle.lib_bind.specs.Provides.{offer_of}
 use Rattle.lib_bind.specs.declared.library.LibraryGraph.{LibraryGraph}
 use Rattle.lib_bind.specs.declared.provider.Offer.{Offer}
-use Rattle.member_rounds.specs.Growth.{after, is_in}
 use Rattle.member_rounds.specs.Files.{all_ids}
 use Rattle.member_rounds.specs.Rounds.{asked_by, asked_ids, asks, files_of, is_first, is_header, loaded_ids, missing_names, offer_in, round, unless_before}
 use Rattle.member_rounds.specs.declared.input.Input.{Input}

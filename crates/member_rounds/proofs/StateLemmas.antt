@@ -1,29 +1,22 @@
 -- A link from round to round.
-use Rattle.std.proofs.Common.{◌≡◌, ℕ, zero, suc, ◌+◌, ◌-◌, ◌^◌, ◌<◌, ◌≤◌, ◌⊎◌, ◌&&◌, ◌||◌, ◌++◌, Bool, true, false, not, nat_lt, List, [], ◌∷◌, All, Contains, Option, Some, None, Result, Ok, Err, length, map, filter, get_or, refl, sym, ap, ◌∙◌, subst, inl, inr, arith, append-nil, append_assoc}
-use Rattle.std.specs.List.{AllByRecursion, filter_map, flat_map, list_any, range_with_len, IsDistinct}
-use Rattle.std.specs.List.Sorted.{IsPermutation, IsStrictlySortedBy, IsSortedBy}
-use Rattle.std.specs.Ordering.{is_lt, eq_by_cmp}
+use Rattle.std.proofs.Common.{◌≡◌, ℕ, zero, suc, ◌<◌, ◌||◌, ◌++◌, Bool, true, not, List, [], ◌∷◌, All, Some, None, Result, Ok, Err, length, map, get_or, refl, sym, ap, ◌∙◌, subst, inl, inr, arith}
+use Rattle.std.specs.List.{AllByRecursion, flat_map, list_any}
+use Rattle.std.specs.List.Sorted.{IsPermutation, IsStrictlySortedBy}
 use Rattle.std.specs.Cmp.Lexicographic.{nat_list_eq_equiv}
-use Rattle.std.specs.declared.cmp.Ordering.TheVariants.{Less}
 use Rattle.std.specs.Result.{result_err, result_ok}
 use Rattle.std.specs.Str.{bytes_eq}
-use Rattle.std.proofs.lemmas.Bool.{ltb-true, ltb-false, lt-ltb, le-ltb}
 use Rattle.std.proofs.lemmas.List.{map-append}
-use Rattle.std.proofs.lemmas.List.Concat.{flat_map-append}
-use Rattle.std.proofs.lemmas.List.Elements.{All-append}
 use Rattle.std.proofs.lemmas.List.Kept.{IsStrictlySortedBy-filter}
-use Rattle.std.proofs.lemmas.List.Sorted.{IsPermutation-refl, IsPermutation-filter_both, IsPermutation-append, IsPermutation-trans, IsPermutation-sym, IsPermutation-map, Contains-permutation, All-permutation}
-use Rattle.std.proofs.lemmas.Map.Made.{length-from_same_keys, length-le_from_is_member}
+use Rattle.std.proofs.lemmas.List.Sorted.{IsPermutation-refl, IsPermutation-filter_both, IsPermutation-append, IsPermutation-trans, IsPermutation-sym, Contains-permutation}
+use Rattle.std.proofs.lemmas.Map.Made.{length-from_same_keys}
 use Rattle.std.proofs.lemmas.Slice.Eq.{bytes_eq-Decides}
-use Rattle.list_lemmas.proofs.Members.{In, in_from_Contains, Contains_from_in, any_from_in, any_true, from_filter, in_filter, from_map, in_map, all_in}
+use Rattle.list_lemmas.proofs.Members.{In, in_from_Contains, Contains_from_in, any_from_in, any_true, from_map, in_map, all_in}
 use Rattle.list_lemmas.proofs.Rising.{rising_same}
 use Rattle.mo_types.proofs.KeyOrder.{compare_files_total}
 use Rattle.mo_types.specs.Gives.{◌>>=◌}
 use Rattle.mo_types.specs.Keys.{compare_files}
-use Rattle.mo_types.specs.Scan.{first_some, option_or_else}
-use Rattle.mo_types.specs.Candidates.{Candidate, candidates, candidates_of}
+use Rattle.mo_types.specs.Scan.{first_some}
 use Rattle.mo_types.specs.declared.key.FileId.{FileId}
-use Rattle.mo_types.specs.declared.loaded.Loaded.{Loaded}
 use Rattle.mo_types.specs.declared.loaded.LoadedFile.{LoadedFile}
 use Rattle.lib_bind.specs.declared.library.LibraryGraph.{LibraryGraph}
 use Rattle.name_ids.specs.Names.{external_names, external_of, numbered}
@@ -31,13 +24,13 @@ use Rattle.name_ids.proofs.Once.{distinct, all, only}
 use Rattle.member_rounds.specs.Growth.{after, is_in, union}
 use Rattle.member_rounds.specs.Files.{all_ids, file_of}
 use Rattle.member_rounds.proofs.FileLemmas.{id_kept}
-use Rattle.member_rounds.specs.Rounds.{asked_by, asks, files_of, has_candidate, is_first, loaded_ids, loaded_of, loaded_unless, names_fault, new_ids, round, round_fault, undefined_in}
+use Rattle.member_rounds.specs.Rounds.{asks, files_of, has_candidate, is_first, loaded_ids, names_fault, new_ids, round}
 use Rattle.member_rounds.specs.declared.fault.RoundFault.{RoundFault}
 use Rattle.member_rounds.specs.declared.input.Input.{Input}
-use Rattle.member_rounds.specs.inner.Working.{AreKept, IsBetween, asked_of, before, first_names, lists, read_each}
-use Rattle.member_rounds.proofs.GrowthLemmas.{has_from_in, in_from_has, round_ends}
+use Rattle.member_rounds.specs.inner.Working.{AreKept, before, read_each}
+use Rattle.member_rounds.proofs.GrowthLemmas.{has_from_in, in_from_has}
 use Rattle.member_rounds.proofs.RoundLemmas.{from_filter_map, in_filter_map}
-use Rattle.member_rounds.proofs.WorkLemmas.{asking, fresh_in, kept_files, round_brings, same_candidates, same_tests, in_either, in_left, in_right, in_flat, from_flat}
+use Rattle.member_rounds.proofs.WorkLemmas.{kept_files, same_candidates, same_tests, in_either, in_left, in_right, in_flat, from_flat}
 
 -- ---- members
 

@@ -1,9 +1,8 @@
 -- A link from one round to the next, and to its end.
-use Rattle.std.proofs.Common.{◌≡◌, ℕ, zero, suc, ◌+◌, ◌-◌, ◌^◌, ◌<◌, ◌≤◌, ◌⊎◌, ◌&&◌, ◌||◌, ◌++◌, Bool, true, false, not, nat_lt, List, [], ◌∷◌, All, Contains, Option, Some, None, Result, Ok, Err, length, map, filter, get_or, refl, sym, ap, ap₂, ◌∙◌, subst, inl, inr, arith, add-one, append-nil}
-use Rattle.std.specs.List.{AllByRecursion, filter_map, flat_map, list_any, range_with_len, IsDistinct}
+use Rattle.std.proofs.Common.{◌≡◌, ℕ, zero, suc, ◌+◌, ◌-◌, ◌<◌, ◌≤◌, ◌⊎◌, ◌&&◌, ◌||◌, ◌++◌, Bool, true, false, not, nat_lt, List, [], ◌∷◌, Option, Some, None, Result, Ok, Err, length, map, filter, get_or, refl, sym, ap, ap₂, ◌∙◌, subst, inl, inr, arith}
+use Rattle.std.specs.List.{filter_map, flat_map, list_any, range_with_len, IsDistinct}
 use Rattle.std.specs.List.Sorted.{IsPermutation, IsStrictlySortedBy, IsSortedBy}
 use Rattle.std.specs.Ordering.{is_eq, is_lt, eq_by_cmp, on, ordering_reverse}
-use Rattle.std.specs.Cmp.{IsTotalOrder}
 use Rattle.std.specs.declared.cmp.Ordering.{Ordering}
 use Rattle.std.specs.declared.cmp.Ordering.TheVariants.{Equal, Greater, Less}
 use Rattle.std.specs.Result.{result_err, result_ok}
@@ -11,7 +10,7 @@ use Rattle.std.specs.Str.{bytes_eq}
 use Rattle.std.proofs.Math.Nat.{le_refl}
 use Rattle.std.proofs.lemmas.Bool.{ltb-true, ltb-false}
 use Rattle.std.proofs.lemmas.Cmp.{on_total}
-use Rattle.std.proofs.lemmas.List.{get_or-map, length-map, map-append}
+use Rattle.std.proofs.lemmas.List.{get_or-map, length-map}
 use Rattle.std.proofs.lemmas.List.Concat.{flat_map-append}
 use Rattle.std.proofs.lemmas.List.Sorted.{IsPermutation-map, IsPermutation-sym, IsPermutation-trans, Contains-permutation}
 use Rattle.std.proofs.lemmas.Map.Keys.{IsDistinct-from_sorted, IsDistinct-IsPermutation, apart_from_distinct, sorted_from_all_adjacent}
@@ -20,21 +19,20 @@ use Rattle.list_lemmas.proofs.Rising.{rising_map, rising_same}
 use Rattle.mo_types.proofs.KeyOrder.{compare_files_total}
 use Rattle.mo_types.specs.Gives.{◌>>=◌}
 use Rattle.mo_types.specs.Keys.{compare_files}
-use Rattle.mo_types.specs.Scan.{first_some, option_or_else}
+use Rattle.mo_types.specs.Scan.{first_some}
 use Rattle.mo_types.specs.Candidates.{Candidate, candidates, candidates_of}
 use Rattle.mo_types.specs.declared.key.FileId.{FileId}
-use Rattle.mo_types.specs.declared.loaded.Loaded.{Loaded}
 use Rattle.mo_types.specs.declared.loaded.LoadedFile.{LoadedFile}
 use Rattle.lib_bind.specs.declared.library.LibraryGraph.{LibraryGraph}
-use Rattle.member_rounds.specs.Growth.{after, is_in}
+use Rattle.member_rounds.specs.Growth.{is_in}
 use Rattle.member_rounds.specs.Files.{all_ids, file_of}
 use Rattle.member_rounds.specs.Rounds.{asked_by, asks, files_of, has_candidate, is_first, loaded_ids, loaded_of, names_fault, new_ids, round, round_fault, undefined_in}
 use Rattle.member_rounds.specs.declared.fault.RoundFault.{RoundFault}
 use Rattle.member_rounds.specs.declared.input.Input.{Input}
-use Rattle.member_rounds.specs.inner.Working.{AreKept, IsBetween, asked_of, before, first_names, lists, read_each}
+use Rattle.member_rounds.specs.inner.Working.{AreKept, IsBetween, asked_of, first_names, lists, read_each}
 use Rattle.member_rounds.proofs.GrowthLemmas.{has_from_in, in_from_has, round_ends}
 use Rattle.member_rounds.proofs.WorkLemmas.{asking, fresh_in, fresh_or_before, or_cases, next_is, round_brings, same_tests, stays_in}
-use Rattle.member_rounds.proofs.StateLemmas.{all_from, all_has, each_err, each_ok, kept_candidates, fresh_rises, kept_more, kept_names, round_rises, same_ids}
+use Rattle.member_rounds.proofs.StateLemmas.{all_has, each_err, each_ok, kept_candidates, fresh_rises, kept_more, kept_names, round_rises, same_ids}
 
 any_append : {X : Type 0} (p : X → Bool) (xs ys : List X) → list_any p (xs ++ ys) ≡ (list_any p xs || list_any p ys)
 any_append p [] ys = refl

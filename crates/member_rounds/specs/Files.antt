@@ -1,6 +1,6 @@
 -- The files that inputs hold. An object is one file, of number 0; the members of an archive count from 1, without its
 -- table of contents (ar(5)).
-use Rattle.std.specs.Prelude.{ℕ, ◌-◌, ◌++◌, ◌==◌, ◌&&◌, Bool, List, [], ◌∷◌, codes, length, map, slice_get, Option, Some, None, option_map, unwrap_or, Result, Ok, Err, if◌then◌else◌}
+use Rattle.std.specs.Prelude.{ℕ, ◌-◌, ◌++◌, ◌==◌, List, [], ◌∷◌, codes, length, map, slice_get, Option, Some, None, option_map, unwrap_or, Result, Ok, Err, if◌then◌else◌}
 use Rattle.std.specs.List.{flat_map, range_with_len}
 use Rattle.std.specs.Result.{result_ok}
 use Rattle.mo_types.specs.Atoms.{atoms_of}

@@ -1,5 +1,5 @@
 -- What files offer in a race of names: one offer for each candidate.
-use Rattle.std.specs.Prelude.{◌≡◌, ℕ, ◌++◌, List, map, length, All, Contains}
+use Rattle.std.specs.Prelude.{ℕ, ◌++◌, List, map, All, Contains}
 use Rattle.std.specs.List.{flat_map, position_or_len}
 use Rattle.std.specs.List.Sorted.{IsPermutation}
 use Rattle.std.specs.Str.{bytes_eq}

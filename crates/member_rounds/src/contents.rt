@@ -20,11 +20,13 @@ pub(crate) struct Held {
 
 // The source at a position.
 fn source_at(sources: &[Source], position: u16) -> Option<&Source>
+    requires { AreInOrder (inputs_of sources.now) }
     ensures { option_copied result ≡ find (λ source. source.input.position == position) sources.now }
 {
-    sources
-        .iter()
-        .find(|source| source.input.position == position)
+    match sources.binary_search_by(|source| source.input.position.cmp(&position)) {
+        Ok(at) => Some(&sources[at]),
+        Err(_) => None,
+    }
 }
 
 // Whether a file of a source is loaded before any name asks for it.

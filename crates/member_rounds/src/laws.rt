@@ -1,6 +1,8 @@
 //! What holds of races of names and of files that come round by round, each on a call that does nothing.
 ghost use Rattle.std.specs.Prelude.{◌≡◌, ℕ, ◌+◌, ◌<◌, ◌≤◌, ◌⊎◌, Bool, List, length, replicate, slice_get, slice_index, None, Ok, Some, Contains, true};
+ghost use Rattle.std.specs.List.{AllPairs};
 ghost use Rattle.mo_types.specs.Candidates.{least, no_word};
+ghost use Rattle.mo_types.specs.Loaded.{IsBefore};
 ghost use Rattle.mo_types.specs.declared.key.FileId.{FileId};
 ghost use Rattle.mo_types.specs.declared.loaded.Loaded.{Loaded};
 ghost use Rattle.mo_types.specs.declared.loaded.LoadedFile.{LoadedFile};
@@ -10,6 +12,7 @@ ghost use Rattle.member_rounds.specs.Growth.{after, union};
 ghost use Rattle.member_rounds.specs.Offers.{bids_of};
 ghost use Rattle.member_rounds.specs.Files.{all_ids, file_of};
 ghost use Rattle.member_rounds.specs.Rounds.{asked_by, files_of, is_first, is_header, loaded_ids, loaded_of, missing_names, round};
+ghost use Rattle.member_rounds.specs.Sources.{AreInOrder};
 ghost use Rattle.member_rounds.specs.declared.input.Input.{Input};
 ghost use Rattle.lib_bind.specs.Provides.{offer_of};
 ghost use Rattle.lib_bind.specs.declared.library.LibraryGraph.{LibraryGraph};
@@ -77,4 +80,9 @@ pub fn headers_ask_nobody()
 pub fn what_is_loaded_could_be_read()
     ensures all { (inputs : List Input) (libs : LibraryGraph) (wanted : List (List ℕ)) (loaded : Loaded) (id : FileId) → loaded_of inputs libs wanted ≡ Ok loaded → Contains (loaded_ids inputs libs wanted) id → (file : LoadedFile) × (file_of inputs id ≡ Ok file) × Contains loaded.files file }
     ensures only { (inputs : List Input) (libs : LibraryGraph) (wanted : List (List ℕ)) (loaded : Loaded) (file : LoadedFile) → loaded_of inputs libs wanted ≡ Ok loaded → Contains loaded.files file → (id : FileId) × Contains (loaded_ids inputs libs wanted) id × (file_of inputs id ≡ Ok file) }
+{}
+
+/// The ids of what is loaded rise.
+pub fn what_is_loaded_rises()
+    ensures { (inputs : List Input) (libs : LibraryGraph) (wanted : List (List ℕ)) (loaded : Loaded) → AreInOrder inputs → loaded_of inputs libs wanted ≡ Ok loaded → AllPairs (λ a b. IsBefore a.id b.id) loaded.files }
 {}

@@ -24,11 +24,13 @@ mod taking;
 
 pub use asked::asked_by;
 pub use fault::RoundFault;
+pub use in_order::are_in_order;
 pub use input::{Input, InputList};
 pub use laws::{
     a_library_before_takes_the_name, each_file_was_asked_for, headers_ask_nobody,
     nothing_more_is_asked_for, rounds_end, rounds_grow, what_is_loaded_asks_for_nothing_more,
-    what_is_loaded_could_be_read, what_is_loaded_was_asked_for, words_are_the_least,
+    what_is_loaded_could_be_read, what_is_loaded_rises, what_is_loaded_was_asked_for,
+    words_are_the_least,
 };
 pub use loading::load;
 pub use offering::offer_all;

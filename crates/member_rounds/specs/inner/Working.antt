@@ -1,6 +1,6 @@
 -- A link between two of its rounds.
-use Rattle.std.specs.Prelude.{◌≡◌, ℕ, zero, suc, ◌<◌, ◌&&◌, ◌++◌, Bool, not, List, [], ◌∷◌, map, filter, All, Option, None, Result, Ok, IfOk, length, slice_index_or, if◌then◌else◌}
-use Rattle.std.specs.List.{filter_map, flat_map, list_any}
+use Rattle.std.specs.Prelude.{◌≡◌, ℕ, zero, suc, ◌<◌, ◌&&◌, ◌++◌, Bool, not, List, [], ◌∷◌, map, filter, All, None, Result, Ok, IfOk, length, slice_index_or, if◌then◌else◌}
+use Rattle.std.specs.List.{filter_map, list_any}
 use Rattle.std.specs.List.Sorted.{IsPermutation}
 use Rattle.std.specs.Str.{bytes_eq}
 use Rattle.mo_types.specs.Candidates.{is_candidate}
@@ -12,7 +12,7 @@ use Rattle.mo_types.specs.declared.object.Symbol.{Symbol}
 use Rattle.lib_bind.specs.declared.library.LibraryGraph.{LibraryGraph}
 use Rattle.member_rounds.specs.Growth.{is_in}
 use Rattle.member_rounds.specs.Files.{IsRoundFault, all_ids, file_of}
-use Rattle.member_rounds.specs.Rounds.{asked_by, files_of, has_candidate, is_undefined, new_ids, round, round_fault}
+use Rattle.member_rounds.specs.Rounds.{asked_by, has_candidate, is_undefined, new_ids, round, round_fault}
 use Rattle.member_rounds.specs.declared.fault.RoundFault.{RoundFault}
 use Rattle.member_rounds.specs.declared.input.Input.{Input}
 

@@ -1,4 +1,4 @@
-use Rattle.std.proofs.Common.{◌≡◌, true, position, Some, [], ◌∷◌, ◌++◌, sym, ap, ◌∙◌}
+use Rattle.std.proofs.Common.{◌≡◌, true, position, Some, [], ◌∷◌, ◌++◌, sym, ◌∙◌}
 use Rattle.std.specs.Str.{bytes_eq}
 use Rattle.mo_types.specs.Candidates.{is_candidate}
 use Rattle.member_rounds.proofs.OfferLemmas.{symbol_offered}
