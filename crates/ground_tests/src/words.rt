@@ -13,7 +13,7 @@ const LINKED: &str = "\
     1 badvalue\t-threads 0 a.o\n\
     1 unknown\t-frob a.o\n\
     0 noinput\t-o a\n\
-    2 unknown\ta.o b.o\n\
+    to a.out _main a.out path:a.o path:b.o\ta.o b.o\n\
     1 unknown\t-dylib a.o\n\
     3 unknown\t-o a -lx a.o\n\
     3 unknown\ta.o -o b\0c\n\

@@ -259,7 +259,7 @@ decided_ok (Some fault) made command is = cc
 pub of_items : (rows : Rows) → IsOfItems rows
 unfolding command_by
 of_items rows words command is =
-    decided_ok (line_fault rows words (parts_of rows words) (switches_of (items_of rows words)) (numbers_of (items_of rows words)) (has_input (items_of rows words))) (command_from (items_of rows words)) command is
+    decided_ok (line_fault words (parts_of rows words) (switches_of (items_of rows words)) (numbers_of (items_of rows words)) (has_input (items_of rows words))) (command_from (items_of rows words)) command is
 
 pub defaults : (path : List ℕ) → HasDefaults path
 unfolding command_from

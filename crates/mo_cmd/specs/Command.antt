@@ -22,7 +22,7 @@ use Rattle.mo_cmd.specs.declared.parts.Part.{Part}
 use Rattle.mo_cmd.specs.declared.parts.Rows.{Rows}
 use Rattle.mo_cmd.specs.declared.parts.Rows.TheVariants.{All, Brought}
 use Rattle.mo_cmd.specs.Options.{field_of, number_of}
-use Rattle.mo_cmd.specs.Parts.{inputs_linked, parts_of}
+use Rattle.mo_cmd.specs.Parts.{parts_of}
 use Rattle.mo_cmd.specs.Items.{Item, items_of, value_of}
 use Rattle.mo_cmd.specs.Numbers.{version_of, threads_of, functions_of, reach_of, pad_of}
 use Rattle.mo_cmd.specs.Faults.{first_fault, is_reexport}
@@ -209,19 +209,13 @@ parts_for wanted parts = filter (λ part. gives wanted part.option) parts
 abbrev pub index_of : Option Part → Option ℕ
 index_of part = option_map (λ each. each.at) part
 
--- the index of the first input past those that the link takes
-abbrev pub excess_of : Rows → List Part → Option ℕ
-excess_of All parts = None
-excess_of Brought parts = index_of (slice_get (parts_for field.Inputs parts) inputs_linked)
-
 -- The command that moves to opcodes takes 16 bytes of the pad; the last pad is at fault where it has fewer.
 abbrev pub narrow_of : Bool → ℕ → Option Part → Option ℕ
 narrow_of opcodes pad last = if opcodes && nat_lt pad 16 then index_of last else None
 
-abbrev pub whole_of : Rows → List Part → Switches → Numbers → Whole
-whole_of rows parts switches numbers = record {
+abbrev pub whole_of : List Part → Switches → Numbers → Whole
+whole_of parts switches numbers = record {
   dylib = switches.dylib;
-  excess = excess_of rows parts;
   narrow = narrow_of switches.opcodes numbers.headerpad (last (parts_for field.Headerpad parts));
 }
 
@@ -234,21 +228,21 @@ or_no_input has_input (Some fault) = Some fault
 or_no_input true None = None
 or_no_input false None = Some (At 0 NoInput)
 
-abbrev pub line_fault : Rows → List (List ℕ) → List Part → Switches → Numbers → Bool → Option UsageFault
-line_fault rows words parts switches numbers has_input =
-    or_no_input has_input (first_fault (whole_of rows parts switches numbers) words parts)
+abbrev pub line_fault : List (List ℕ) → List Part → Switches → Numbers → Bool → Option UsageFault
+line_fault words parts switches numbers has_input =
+    or_no_input has_input (first_fault (whole_of parts switches numbers) words parts)
 
 abbrev pub decided : Option UsageFault → Command → Result Command UsageFault
 decided (Some fault) command = Err fault
 decided None command = Ok command
 
-abbrev pub decided_of : Rows → List (List ℕ) → List Part → List Item → Result Command UsageFault
-decided_of rows words parts items =
-    decided (line_fault rows words parts (switches_of items) (numbers_of items) (has_input items)) (command_from items)
+abbrev pub decided_of : List (List ℕ) → List Part → List Item → Result Command UsageFault
+decided_of words parts items =
+    decided (line_fault words parts (switches_of items) (numbers_of items) (has_input items)) (command_from items)
 
 -- the command that the rows give to words
 unfoldable pub command_by : Rows → List (List ℕ) → Result Command UsageFault
-command_by rows words = decided_of rows words (parts_of rows words) (items_of rows words)
+command_by rows words = decided_of words (parts_of rows words) (items_of rows words)
 
 -- with all rows, and with those that the link has yet
 abbrev pub whole_command_of : List (List ℕ) → Result Command UsageFault

@@ -68,7 +68,7 @@ is_at (Some index) part = part.at == index
 -- the first rule of this list that a part breaks, of which the values are those that follow its word
 abbrev pub rule_of : Whole → Part → List (List ℕ) → Option UsageRule
 rule_of whole part values =
-    if is_unknown part.option || is_at whole.excess part then Some Unknown
+    if is_unknown part.option then Some Unknown
     else if nat_lt (length values) (values_of part.option) then Some NoValue
     else if not (are_good part.option values) || is_at whole.narrow part then Some BadValue
     else if is_reexport part.option && not whole.dylib then Some DylibOnly

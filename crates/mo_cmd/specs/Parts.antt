@@ -46,10 +46,6 @@ is_linked option.Output = true
 is_linked option.Threads = true
 is_linked _ = false
 
--- how many inputs the link takes; a path past them counts as unknown
-abbrev pub inputs_linked : ℕ
-inputs_linked = 1
-
 -- the option, where the rows that are asked for have it
 abbrev pub among : Rows → CommandOption → CommandOption
 among All meant = meant

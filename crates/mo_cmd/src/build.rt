@@ -7,7 +7,7 @@ ghost use Rattle.mo_cmd.specs.Sorted.{IsSorted, sorted_items};
 use crate::faults::Whole;
 use crate::numbers::{functions, pad, reach, threads, version};
 use crate::options::{CommandOption, Field};
-use crate::parts::{INPUTS_LINKED, Part, Rows};
+use crate::parts::Part;
 use crate::sorted::Sorted;
 use crate::values::nth_value;
 use mo_types::Arg;
@@ -189,16 +189,6 @@ fn index_of(part: Option<Part>) -> Option<usize>
     }
 }
 
-fn excess_of(rows: Rows, sorted: &Sorted) -> Option<usize>
-    requires { IsSorted sorted.now }
-    ensures { result ≡ command.excess_of rows sorted.now.parts }
-{
-    match rows {
-        Rows::All => None,
-        Rows::Brought => index_of(sorted.of(Field::Inputs).get(INPUTS_LINKED).copied()),
-    }
-}
-
 fn narrow_of(opcodes: bool, pad: u32, last: Option<Part>) -> Option<usize>
     ensures { result ≡ command.narrow_of opcodes pad last }
 {
@@ -210,13 +200,12 @@ fn narrow_of(opcodes: bool, pad: u32, last: Option<Part>) -> Option<usize>
 }
 
 /// What a rule on one part needs to know of the whole command line.
-pub fn whole_of(rows: Rows, sorted: &Sorted, switches: Switches, numbers: Numbers) -> Whole
+pub fn whole_of(sorted: &Sorted, switches: Switches, numbers: Numbers) -> Whole
     requires { IsSorted sorted.now }
-    ensures { result ≡ command.whole_of rows sorted.now.parts switches numbers }
+    ensures { result ≡ command.whole_of sorted.now.parts switches numbers }
 {
     Whole {
         dylib: switches.dylib,
-        excess: excess_of(rows, sorted),
         narrow: narrow_of(
             switches.opcodes,
             numbers.headerpad,

@@ -15,8 +15,6 @@ use mo_types::{Arg, UsageRule};
 pub struct Whole {
     /// The image is a dynamic library.
     pub dylib: bool,
-    /// The index of the first input past those that are linked.
-    pub excess: Option<usize>,
     /// The index of the last pad, where it has no room for opcodes.
     pub narrow: Option<usize>,
 }
@@ -94,7 +92,7 @@ fn is_at(index: Option<usize>, part: Part) -> bool
 fn rule_of(whole: Whole, part: Part, values: &[Arg]) -> Option<UsageRule>
     ensures { result ≡ faults.rule_of whole part values.now }
 {
-    if is_unknown(part.option) || is_at(whole.excess, part) {
+    if is_unknown(part.option) {
         return Some(UsageRule::Unknown);
     }
     if values.len() < part.option.values() {

@@ -81,9 +81,6 @@ fn option_of(word: &[u8]) -> CommandOption
     }
 }
 
-/// How many inputs the link takes; a path past them counts as unknown.
-pub const INPUTS_LINKED: usize = 1;
-
 fn is_linked(option: CommandOption) -> bool
     ensures { result ≡ parts.is_linked option }
 {

@@ -28,7 +28,6 @@ fn or_no_input(has_input: bool, fault: Option<UsageFault>) -> Option<UsageFault>
 }
 
 fn line_fault(
-    rows: Rows,
     words: &[Arg],
     sorted: &Sorted,
     switches: Switches,
@@ -36,9 +35,9 @@ fn line_fault(
 ) -> Option<UsageFault>
     requires sorted { IsSorted sorted.now }
     requires within { All (λ part. part.at < length words.now) sorted.now.parts }
-    ensures { result ≡ command.line_fault rows words.now sorted.now.parts switches numbers (command.has_input (sorted_items words.now sorted.now)) }
+    ensures { result ≡ command.line_fault words.now sorted.now.parts switches numbers (command.has_input (sorted_items words.now sorted.now)) }
 {
-    let whole = whole_of(rows, sorted, switches, numbers);
+    let whole = whole_of(sorted, switches, numbers);
     let fault = first_fault(whole, words, sorted.parts.as_slice());
     or_no_input(has_input(sorted), fault)
 }
@@ -51,7 +50,7 @@ fn read_by(alloc: Global, rows: Rows, words: &[Arg]) -> Result<Command, UsageFau
     let sorted = Sorted::new(alloc, parts)?;
     let switches = switches_of(words, &sorted);
     let numbers = numbers_of(words, &sorted);
-    match line_fault(rows, words, &sorted, switches, numbers) {
+    match line_fault(words, &sorted, switches, numbers) {
         Some(fault) => Err(fault),
         None => Ok(command_from(alloc, words, &sorted, switches, numbers)?),
     }
