@@ -148,10 +148,10 @@ same_pushed needs i need few new r same within is at grown =
     let taken : take (i + 1) needs ≡ take i needs ++ need ∷ [] = take_more needs i need within ∙ ap (λ (n : Need). take i needs ++ n ∷ []) (sym is) in
     rw (shown, taken) (joined (take i needs) (held_needs few) need same)
 
-pub same_there : (needs : List Need) (i : ℕ) (need : Need) (few : List (Bor Need)) → HasTheSame (take i needs) (held_needs few) → i < length needs → need ≡ get_or needs i need → Contains (held_needs few) need → HasTheSame (take (i + 1) needs) (held_needs few)
-same_there needs i need few same within is there =
+pub same_there : (needs before : List Need) (i : ℕ) (need : Need) (few : List (Bor Need)) → HasTheSame (take i needs) (held_needs few) → i < length needs → need ≡ get_or needs i need → before ≡ take i needs → Contains before need → HasTheSame (take (i + 1) needs) (held_needs few)
+same_there needs before i need few same within is are there =
     let taken : take (i + 1) needs ≡ take i needs ++ need ∷ [] = take_more needs i need within ∙ ap (λ (n : Need). take i needs ++ n ∷ []) (sym is) in
-    rw taken (met (take i needs) (held_needs few) need same there)
+    rw taken (met (take i needs) (held_needs few) need same (same.all need (subst (λ (ns : List Need). Contains ns need) are there)))
 
 pub same_ends : (needs : List Need) (i : ℕ) (few : List (Bor Need)) → HasTheSame (take i needs) (held_needs few) → length needs ≤ i → HasTheSame needs (held_needs few)
 same_ends needs i few same past = subst (λ (ns : List Need). HasTheSame ns (held_needs few)) (take_all i needs past) same

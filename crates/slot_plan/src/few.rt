@@ -1,5 +1,5 @@
 //! Leaves out needs that are repeated, before anything is sorted.
-ghost use Rattle.std.specs.Prelude.{◌≡◌, ◌<◌, length, Contains, IfOk, IfNone, OnSome, IsTrue};
+ghost use Rattle.std.specs.Prelude.{◌≡◌, Contains, IfOk, IfNone, IsTrue};
 ghost use Rattle.slot_plan.specs.inner.Held.{held_needs, HasTheSame};
 
 use crate::need::{Need, Way};
@@ -8,18 +8,25 @@ use mo_bytes::read_u64;
 use mo_types::{Goal, OutOfMemory};
 use std::alloc::Global;
 
-// The needs, mostly once each: a table of places, by a hash of the need, tells of most needs whether they stand
-// in the answer already. What the table misses stands there twice.
+// So many hashes are taken at a time: the names lie all over the memory, and those of a block are waited for together.
+const BLOCK: usize = 1 << 10;
+
+// The needs, mostly once each: a table of places, by a hash of the need, tells of most needs whether they stood
+// before. What the table misses stands in the answer twice.
 pub(crate) fn few(alloc: Global, needs: &[Need]) -> Result<Vec<&Need>, OutOfMemory>
     ensures { IfOk result (λ few. HasTheSame needs.now (held_needs few.items)) }
 {
     let mut few = Vec::new(alloc);
     let mut seen = Seen::new(alloc)?;
-    for need in needs {
-        let tag = tag_of(need);
-        match free_cell(few.as_slice(), &seen, tag, need) {
+    let mut tags = Vec::new(alloc);
+    for (i, need) in needs.iter().enumerate() {
+        if i % BLOCK == 0 {
+            tags = tags_of(alloc, &needs[i..])?;
+        }
+        let tag = tags.get(i % BLOCK).copied().unwrap_or(0);
+        match free_cell(&needs[..i], &seen, tag, need) {
             Some(free) => {
-                seen.note(free, tag, few.len())?;
+                seen.note(free, tag, i)?;
                 few.push(need)?;
             }
             None => {}
@@ -28,10 +35,19 @@ pub(crate) fn few(alloc: Global, needs: &[Need]) -> Result<Vec<&Need>, OutOfMemo
     Ok(few)
 }
 
-// Where in the table a need with this tag may go, or `None` only where the need is among the few. Of the cells from
-// the tag's own on it looks at eight.
-fn free_cell(few: &[&Need], seen: &Seen, tag: u32, need: &Need) -> Option<usize>
-    ensures { IfNone result (Contains (held_needs few.now) need.now) }
+// Hashes of a block of needs.
+fn tags_of(alloc: Global, needs: &[Need]) -> Result<Vec<u32>, OutOfMemory> {
+    let mut tags = Vec::with_capacity(alloc, BLOCK)?;
+    for need in needs.iter().take(BLOCK) {
+        tags.push(tag_of(need))?;
+    }
+    Ok(tags)
+}
+
+// Where in the table a need with this tag may go, or `None` only where the need stands before. Of the cells from the
+// tag's own on it looks at eight.
+fn free_cell(before: &[Need], seen: &Seen, tag: u32, need: &Need) -> Option<usize>
+    ensures { IfNone result (Contains before.now need.now) }
 {
     for step in 0..8usize {
         let at = seen.cell_of(tag, step);
@@ -42,7 +58,7 @@ fn free_cell(few: &[&Need], seen: &Seen, tag: u32, need: &Need) -> Option<usize>
                 } else {
                     usize::MAX
                 };
-                match few.get(place) {
+                match before.get(place) {
                     Some(seen) => {
                         if is_same(seen, need) {
                             return None;
@@ -61,7 +77,20 @@ fn free_cell(few: &[&Need], seen: &Seen, tag: u32, need: &Need) -> Option<usize>
 fn is_same(a: &Need, b: &Need) -> bool
     ensures { IsTrue result → b.now ≡ a.now }
 {
-    a.way == b.way && a.goal.is_same(&b.goal)
+    a.way == b.way && is_same_goal(&a.goal, &b.goal)
+}
+
+// Whether two goals are the same. Names are compared once.
+fn is_same_goal(a: &Goal, b: &Goal) -> bool
+    ensures { IsTrue result → b.now ≡ a.now }
+{
+    match a {
+        Goal::Flat(name) => match b {
+            Goal::Flat(other) => name == other,
+            _ => false,
+        },
+        _ => a.is_same(b),
+    }
 }
 
 // A hash of a need.

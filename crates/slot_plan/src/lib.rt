@@ -8,6 +8,7 @@ mod list;
 mod need;
 mod order;
 mod plan;
+mod rough;
 mod seen;
 
 pub use laws::{a_goal_stands_once, goals_are_in_order, slots_are_one_list, stubs_have_slots};

@@ -19,7 +19,7 @@ fn word(bytes: &[u8], at: usize) -> u64
 
 // A number of bytes in which two names begin alike.
 #[tactic(auto, using(crate::proofs::Fronts::fronts))]
-fn same_front(a: &[u8], b: &[u8]) -> usize
+pub(crate) fn same_front(a: &[u8], b: &[u8]) -> usize
     ensures first { result ≤ length a.now }
     ensures second { result ≤ length b.now }
     ensures same { (k : ℕ) → k < result → slice_index a.now k ≡ slice_index b.now k }

@@ -10,6 +10,7 @@ use crate::few::few;
 use crate::list::{SlotList, Slots};
 use crate::need::{Need, NeedList, Way};
 use crate::order::compare;
+use crate::rough::roughly_in_order;
 use mo_types::{Goal, OutOfMemory};
 use std::alloc::Global;
 
@@ -50,14 +51,15 @@ impl Table {
     }
 }
 
-// The needs, mostly once each, in the order of their goals.
+// The needs, mostly once each, in the order of their goals. The sort finds most of them in order.
 fn in_order(alloc: Global, needs: &[Need]) -> Result<Vec<&Need>, OutOfMemory>
     ensures same { IfOk result (λ few. HasTheSame needs.now (held_needs few.items)) }
     ensures sorted { IfOk result (λ few. IsSorted (on goal_behind compare_goals) few.items) }
 {
-    let mut few = few(alloc, needs)?;
-    few.sort_unstable_by(|a, b| compare(&a.goal, &b.goal));
-    Ok(few)
+    let few = few(alloc, needs)?;
+    let mut sorted = roughly_in_order(alloc, few.as_slice())?;
+    sorted.sort_by(|a, b| compare(&a.goal, &b.goal))?;
+    Ok(sorted)
 }
 
 // The slots of one section.

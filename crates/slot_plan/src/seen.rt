@@ -70,7 +70,7 @@ impl Seen {
         }
     }
 
-    /// Puts a tag and a place into a cell. Where half of the cells are taken there are four times as many then.
+    /// Puts a tag and a place into a cell. Where half of the cells are taken there are twice as many then.
     pub(crate) fn note(&mut self, at: usize, tag: u32, place: usize) -> Result<(), OutOfMemory> {
         match self.cells.get_mut(at) {
             Some(cell) => *cell = u64::from(tag) << 32
@@ -85,7 +85,7 @@ impl Seen {
     }
 
     fn grow(&mut self) -> Result<(), OutOfMemory> {
-        let mut cells = vec![in self.alloc; 0; self.cells.len().saturating_mul(4)]?;
+        let mut cells = vec![in self.alloc; 0; self.cells.len().saturating_mul(2)]?;
         for cell in self.cells.as_slice() {
             if *cell != 0 {
                 put(cells.as_mut_slice(), *cell);

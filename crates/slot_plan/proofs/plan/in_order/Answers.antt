@@ -10,9 +10,9 @@ use Rattle.slot_plan.proofs.InOrder.{same_moved}
 use Rattle.slot_plan.proofs.plan.in_order.Goals as goal
 
 pub returns-clause-same : goal.returns-clause-same
-returns-clause-same c = same_moved _ _ _ c.in_ok-few.ensures c.sort_unstable_by.ensures.permutation
+returns-clause-same c = same_moved _ _ _ (same_moved _ _ _ c.in_ok-few.ensures (rw c.as_slice.ensures.value at c.in_ok-sorted.ensures)) c.sort_by.ensures.permutation
 
 pub returns-clause-sorted : goal.returns-clause-sorted
-returns-clause-sorted c = c.sort_unstable_by.ensures.sorted (λ (a : Bor Need) (b : Bor Need). is_lt (compare_goals a.now.goal b.now.goal))
+returns-clause-sorted c = c.in_ok-sort_by.ensures.sorted (λ (a : Bor Need) (b : Bor Need). is_lt (compare_goals a.now.goal b.now.goal))
     (ranks_by compare_goals_total goal_behind)
     (answers_always _ _ _ (λ f a r f' k. search rules))
