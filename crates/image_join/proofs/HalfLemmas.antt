@@ -1,5 +1,5 @@
 -- A piece of an image that is filled half by half is filled.
-use Rattle.std.proofs.Common.{◌≡◌, ℕ, ◌+◌, ◌-◌, ◌<◌, ◌≤◌, ◌⊎◌, inl, inr, List, ◌++◌, length, take, drop, get_or, slice_index, Bool, true, false, Result, Ok, Err, IfErr, OnOk, refl, sym, ap, ◌∙◌, subst, add-zero, arith, length-append, length-drop}
+use Rattle.std.proofs.Common.{◌≡◌, ℕ, ◌+◌, ◌-◌, ◌<◌, ◌≤◌, ◌⊎◌, inl, inr, List, ◌++◌, length, take, drop, get_or, slice_index, Bool, true, false, Result, Ok, Err, refl, sym, ap, ◌∙◌, subst, add-zero, arith, length-append, length-drop}
 use Rattle.std.specs.Prelude.{All, Contains}
 use Rattle.std.specs.List.{AllPairs}
 use Rattle.std.specs.Ordering.{is_gt}

@@ -1,3 +1,4 @@
 pub mod HalfLemmas
 pub mod JoinedLemmas
+pub mod OneLemmas
 pub mod WritingLemmas

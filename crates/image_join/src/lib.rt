@@ -8,5 +8,5 @@ mod parts;
 
 pub use filling::fill;
 pub use joining::join;
-pub use laws::parts_are_one_image;
+pub use laws::{filled_images_are_one, filled_or_not, parts_are_one_image};
 pub use parts::{Part, PartList, Parts};

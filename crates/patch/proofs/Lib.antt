@@ -1,7 +1,9 @@
+pub mod ApartLemmas
 pub mod FieldLemmas
 pub mod KeyLemmas
 pub mod LeastLemmas
 pub mod NumberLemmas
+pub mod OneLemmas
 pub mod OrderLemmas
 pub mod RangeLemmas
 pub mod ReadingLemmas

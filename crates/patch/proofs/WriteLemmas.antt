@@ -15,7 +15,7 @@ use Rattle.patch.specs.inner.Writing.{with_number}
 use Rattle.patch.proofs.LeastLemmas.{field_within}
 use Rattle.patch.proofs.NumberLemmas.{byte_outside, length-with_number, number_same, number_there}
 
-four_at_least : (kind : RefKind) → 4 ≤ field_size kind
+pub four_at_least : (kind : RefKind) → 4 ≤ field_size kind
 four_at_least Pointer = lit≤ tt
 four_at_least Diff32 = lit≤ tt
 four_at_least Diff64 = lit≤ tt

@@ -1,6 +1,6 @@
 //! What holds of fields that were written. Each function is a law, which its contract states, and does nothing.
 
-ghost use Rattle.std.specs.Prelude.{ℕ, List, ◌+◌, ◌⊎◌, All};
+ghost use Rattle.std.specs.Prelude.{ℕ, List, ◌+◌, ◌<◌, ◌≡◌, ◌⊎◌, All};
 ghost use Rattle.std.specs.List.{AllPairs};
 ghost use Rattle.mo_bytes.specs.Number.{number};
 ghost use Rattle.mo_types.specs.declared.loaded.LoadedFile.{LoadedFile};
@@ -30,4 +30,10 @@ pub fn no_byte_is_in_two_fields()
 /// No byte of an image is part of two atoms.
 pub fn no_byte_is_in_two_atoms()
     ensures { (files : List LoadedFile) (mets : List Met) (from size : ℕ) (work : List PlacedWork) → AreWork files mets from size work → AllPairs (λ a b. (k : ℕ) → IsBeside files from k a ⊎ IsBeside files from k b) work }
+{}
+
+/// The fields and the other bytes of an atom are all of it: two lists of bytes in which each field holds its value and
+/// every other byte is as it was are the same list.
+pub fn patched_bytes_are_one()
+    ensures { (address : ℕ) (mets : List Met) (old a b : List ℕ) → All (λ byte. byte < 256) a → All (λ byte. byte < 256) b → ArePatched address mets old a → ArePatched address mets old b → a ≡ b }
 {}

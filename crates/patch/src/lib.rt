@@ -12,8 +12,8 @@ mod range;
 pub use atom::patch_atom;
 pub use laws::{
     fields_read_back, instructions_keep_their_other_bits, no_byte_is_in_two_atoms,
-    no_byte_is_in_two_fields,
+    no_byte_is_in_two_fields, patched_bytes_are_one,
 };
 pub use met::{Met, RangeFault};
-pub use order::{fields_are_in_order, work_is_in_order};
+pub use order::{fields_are_in_order, work_is_apart, work_is_in_order};
 pub use range::{PlacedWork, patch_range};

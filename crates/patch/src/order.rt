@@ -1,15 +1,16 @@
-//! Tests of what the calls want, in one pass, for references and atoms in the order of their places.
+//! Tests of what the calls want.
 
-ghost use Rattle.std.specs.Prelude.{◌≡◌, ◌+◌, ◌≤◌, ◌↔◌, All, IsTrue, length};
+ghost use Rattle.std.specs.Prelude.{◌≡◌, ◌+◌, ◌≤◌, ◌↔◌, All, IfOk, IsPermutation, IsTrue, length};
 ghost use Rattle.std.specs.List.{AllPairs};
 ghost use Rattle.mo_types.specs.Rows.{field_size};
 ghost use Rattle.patch.specs.Order.{AreFieldsInOrder, AreWorkInOrder, IsAfter, IsBefore, IsWorkInOrder, StandsBefore};
-ghost use Rattle.patch.specs.Patched.{size_of};
-ghost use Rattle.patch.specs.Range.{bytes_of};
+ghost use Rattle.patch.specs.Patched.{AreFields, size_of};
+ghost use Rattle.patch.specs.Range.{AreWork, IsWork, bytes_of};
 
 use crate::met::Met;
 use crate::range::{PlacedWork, contents_of, references_of};
-use mo_types::{LoadedFile, RefKind};
+use mo_types::{LoadedFile, OutOfMemory, RefKind};
+use std::alloc::Global;
 
 fn width_of(kind: RefKind) -> u64
     ensures { result ≡ field_size kind }
@@ -126,4 +127,95 @@ pub fn work_is_in_order(
         return false;
     }
     are_work(work, files, mets, from, size)
+}
+
+// References by rising place.
+fn by_place(alloc: Global, mets: &[Met]) -> Result<Vec<Met>, OutOfMemory>
+    ensures { IfOk result (λ sorted. IsPermutation mets.now sorted.items) }
+{
+    let mut sorted = Vec::with_capacity(alloc, mets.len())?;
+    sorted.extend_from_slice(mets)?;
+    sorted.sort_unstable_by_key(|met| met.place);
+    Ok(sorted)
+}
+
+// Whether the fields of references lie apart in so many bytes, which begin at an address and end below 2^64. References
+// that neither rise nor fall are put in order first.
+
+fn fields_are_apart(
+    alloc: Global,
+    address: u64,
+    size: usize,
+    mets: &[Met],
+) -> Result<bool, OutOfMemory>
+    ensures { IfOk result (λ apart. IsTrue apart → AreFields address size mets.now) }
+{
+    if fields_are_in_order(address, size, mets) {
+        return Ok(true);
+    }
+    let sorted = by_place(alloc, mets)?;
+    Ok(fields_are_in_order(address, size, sorted.as_slice()))
+}
+
+// Whether an atom's bytes stand within a piece, and its references are there and apart.
+fn is_apart(
+    alloc: Global,
+    item: &PlacedWork,
+    files: &[LoadedFile],
+    mets: &[Met],
+    from: u64,
+    size: usize,
+) -> Result<bool, OutOfMemory>
+    ensures { IfOk result (λ apart. IsTrue apart → IsWork files.now mets.now from size item.now) }
+{
+    let length = contents_of(files, item).len();
+    if item.file >= files.len() || item.at < from || length > size {
+        return Ok(false);
+    }
+    if item.at - from > (size - length) as u64 {
+        return Ok(false);
+    }
+    if item.first > mets.len() || item.count > mets.len() - item.first {
+        return Ok(false);
+    }
+    fields_are_apart(alloc, item.address, length, references_of(mets, item))
+}
+
+// Whether each atom's bytes stand within a piece, and its references are there and apart.
+#[tactic(auto, using(crate::proofs::ApartLemmas::items))]
+fn are_apart(
+    alloc: Global,
+    work: &[PlacedWork],
+    files: &[LoadedFile],
+    mets: &[Met],
+    from: u64,
+    size: usize,
+) -> Result<bool, OutOfMemory>
+    ensures { IfOk result (λ apart. IsTrue apart → All (IsWork files.now mets.now from size) work.now) }
+{
+    for item in work {
+        if !is_apart(alloc, item, files, mets, from, size)? {
+            return Ok(false);
+        }
+    }
+    Ok(true)
+}
+
+/// Whether atoms stand one behind the other in a piece of an image of so many bytes that begins at the offset `from` of
+/// its file, with their references in whatever order: then `patch_range` may be called. It takes one pass, and memory
+/// where references of an atom neither rise nor fall.
+pub fn work_is_apart(
+    alloc: Global,
+    work: &[PlacedWork],
+    files: &[LoadedFile],
+    mets: &[Met],
+    from: u64,
+    size: usize,
+) -> Result<bool, OutOfMemory>
+    ensures { IfOk result (λ apart. IsTrue apart → AreWork files.now mets.now from size work.now) }
+{
+    if !stand_in_order(work, files) {
+        return Ok(false);
+    }
+    are_apart(alloc, work, files, mets, from, size)
 }

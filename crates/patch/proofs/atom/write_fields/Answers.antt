@@ -1,4 +1,3 @@
-use Rattle.std.proofs.Common.{◌∙◌}
 use Rattle.patch.proofs.LeastLemmas.{element_at}
 use Rattle.patch.proofs.WriteLemmas.{writing_goes_on, writing_stops}
 use Rattle.patch.proofs.atom.write_fields.Goals as goal
