@@ -1,5 +1,6 @@
-mod KeptLemmas
+pub mod KeptLemmas
 mod LeastLemmas
 mod ListLemmas
 mod LostLemmas
 mod RunLemmas
+mod StableLemmas

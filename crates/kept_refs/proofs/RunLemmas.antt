@@ -6,13 +6,13 @@ use Rattle.std.specs.List.Sorted.{IsNonDecreasingBy, IsPartitionPoint, IsSorted}
 use Rattle.std.specs.Ordering.{is_lt, nat_cmp}
 use Rattle.std.specs.declared.cmp.Ordering.TheVariants.{Less}
 use Rattle.std.proofs.lemmas.Bool.{cases_lt, eq-eqb, ne_eqb, leb-false, leb-true, ltb-false, ltb-true}
-use Rattle.std.proofs.lemmas.Cmp.{nat_cmp_total, on_total, then_total}
+use Rattle.std.proofs.lemmas.Cmp.{nat_cmp_total, on_total}
 use Rattle.std.proofs.lemmas.List.Sorted.{ranks_by, sorted_far}
 use Rattle.kept_refs.specs.declared.order.Spot.{Spot}
 use Rattle.kept_refs.specs.Order.{compare_spots, is_of, place, place_of}
 
 pub spots_total : IsTotalOrder compare_spots
-spots_total = then_total (on_total place nat_cmp_total) (on_total (λ (s : Spot). s.index) nat_cmp_total)
+spots_total = on_total place nat_cmp_total
 
 pub places_rise : (spots : List Spot) → IsSorted compare_spots spots → IsNonDecreasingBy place spots
 places_rise spots sorted i j d low high = by (cases_lt (place (get_or spots j d)) (place (get_or spots i d)))

@@ -1,8 +1,8 @@
 -- The references of a file by the atoms that have them.
-use Rattle.std.specs.Prelude.{ℕ, ◌+◌, ◌*◌, ◌^◌, ◌==◌, Bool, List, map, IsPermutation}
-use Rattle.std.specs.List.{enumerate_from}
+use Rattle.std.specs.Prelude.{ℕ, ◌≡◌, ◌+◌, ◌*◌, ◌^◌, ◌==◌, Bool, List, map, IsPermutation}
+use Rattle.std.specs.List.{enumerate_from, filter}
 use Rattle.std.specs.List.Sorted.{IsSorted}
-use Rattle.std.specs.Ordering.{nat_cmp, ordering_then}
+use Rattle.std.specs.Ordering.{nat_cmp}
 use Rattle.std.specs.declared.cmp.Ordering.{Ordering}
 use Rattle.mo_types.specs.declared.reference.Ref.{Ref}
 use Rattle.kept_refs.specs.declared.order.Spot.{Spot}
@@ -22,15 +22,16 @@ place_of section offset = section * 2 ^ 64 + offset
 unfoldable pub place : Spot → ℕ
 place spot = place_of spot.section spot.offset
 
--- by atom, and of one atom by place
+-- by atom
 abbrev pub compare_spots : Spot → Spot → Ordering
-compare_spots a b = ordering_then (nat_cmp (place a) (place b)) (nat_cmp a.index b.index)
-
--- each reference once, in order
-pub record AreInOrder (refs : List Ref) (spots : List Spot) : Type 0 where
-  pub all : IsPermutation (spots_of refs) spots
-  pub sorted : IsSorted compare_spots spots
+compare_spots a b = nat_cmp (place a) (place b)
 
 -- a reference of the atom at an offset of the section of a number
 abbrev pub is_of : ℕ → ℕ → Spot → Bool
 is_of section offset spot = place spot == place_of section offset
+
+-- each reference once, by atom, and those of one atom as the file lists them
+pub record AreInOrder (refs : List Ref) (spots : List Spot) : Type 0 where
+  pub all : IsPermutation (spots_of refs) spots
+  pub sorted : IsSorted compare_spots spots
+  pub listed : (section offset : ℕ) → filter (is_of section offset) spots ≡ filter (is_of section offset) (spots_of refs)

@@ -1,7 +1,7 @@
 //! The references of a file, by the atoms that have them.
 
-ghost use Rattle.std.specs.Prelude.{◌≡◌, ◌<◌, ◌≤◌, IfOk, IsPermutation, length, map};
-ghost use Rattle.std.specs.List.{enumerate_from, range_with_len};
+ghost use Rattle.std.specs.Prelude.{◌≡◌, ◌<◌, ◌≤◌, ℕ, IfOk, IsPermutation, OnOk, length, map};
+ghost use Rattle.std.specs.List.{enumerate_from, filter, range_with_len};
 ghost use Rattle.std.specs.List.Sorted.{IsSorted};
 ghost use Rattle.kept_refs.specs.Order as spec;
 
@@ -30,15 +30,12 @@ pub(crate) fn place_of(section: u16, offset: u64) -> u128
     (u128::from(section) << 64) + u128::from(offset)
 }
 
-// The order of references: by atom, and of one atom as they are listed.
+// The order of references by their atoms.
 #[tactic(auto, unfolding(crate::specs::Order::place))]
 fn compare(a: &Spot, b: &Spot) -> Ordering
     ensures { result ≡ spec.compare_spots a.now b.now }
 {
-    match place_of(a.section, a.offset).cmp(&place_of(b.section, b.offset)) {
-        Ordering::Equal => a.index.cmp(&b.index),
-        unequal => unequal,
-    }
+    place_of(a.section, a.offset).cmp(&place_of(b.section, b.offset))
 }
 
 // The references of a file, as they are listed.
@@ -63,11 +60,13 @@ fn spots_in(alloc: Global, refs: &RefList) -> Result<Vec<Spot>, OutOfMemory>
     Ok(spots)
 }
 
-fn put_in_order(spots: &mut Vec<Spot>)
+// Puts references in the order of their atoms; those of one atom stay as they are listed.
+fn put_in_order(spots: &mut Vec<Spot>) -> Result<(), OutOfMemory>
     ensures all { IsPermutation spots.old.items spots.new.items }
-    ensures sorted { IsSorted spec.compare_spots spots.new.items }
+    ensures sorted { OnOk result (IsSorted spec.compare_spots spots.new.items) }
+    ensures listed { (section offset : ℕ) → filter (spec.is_of section offset) spots.new.items ≡ filter (spec.is_of section offset) spots.old.items }
 {
-    spots.sort_unstable_by(compare);
+    Ok(spots.sort_by(compare)?)
 }
 
 /// All references of a file in the order of their atoms, and of one atom in the order in which the file lists them. A
@@ -76,6 +75,6 @@ pub fn ref_order(alloc: Global, refs: &RefList) -> Result<SpotList, OutOfMemory>
     ensures { IfOk result (spec.AreInOrder refs.now) }
 {
     let mut spots = spots_in(alloc, refs)?;
-    put_in_order(&mut spots);
+    put_in_order(&mut spots)?;
     Ok(Items::from_vec(spots))
 }

@@ -1,15 +1,18 @@
--- The edges and supports of all files, file by file.
-use Rattle.std.proofs.Common.{◌≡◌, ℕ, ◌+◌, ◌<◌, ◌≤◌, List, [], ◌++◌, length, get_or, sym, ap, subst, ◌∙◌}
-use Rattle.std.specs.Prelude.{All}
-use Rattle.std.specs.List.{flat_map}
+-- The edges and supports of all files, and the goals of all files' symbols, file by file.
+use Rattle.std.proofs.Common.{◌≡◌, ℕ, suc, ◌+◌, ◌<◌, ◌≤◌, List, [], ◌∷◌, ◌++◌, length, map, take, get_or, slice_get, Some, refl, sym, ap, subst, ◌∙◌, arith}
+use Rattle.std.specs.Prelude.{All, Option}
+use Rattle.std.specs.List.{enumerate_from, flat_map}
+use Rattle.std.specs.Option.{option_map_or}
+use Rattle.std.proofs.lemmas.List.{map-append, take_all, take_more}
+use Rattle.std.proofs.lemmas.List.FromFn.{get_or-enumerate_from, length-enumerate_from}
 use Rattle.lib_bind.specs.declared.library.LibraryGraph.{LibraryGraph}
 use Rattle.mo_cmd.specs.declared.command.Command.{Command}
 use Rattle.mo_types.specs.Loaded.{IsWholeFile}
 use Rattle.mo_types.specs.declared.edge.Edge.{Edge}
 use Rattle.mo_types.specs.declared.goal.Goal.{Goal}
 use Rattle.mo_types.specs.declared.loaded.LoadedFile.{LoadedFile}
-use Rattle.resolve.specs.Edges.{edges, edges_of, file_edges, file_supports, supports, supports_of}
-use Rattle.resolve.specs.Goals.{goals_of_symbols}
+use Rattle.resolve.specs.Edges.{edges, edges_at, edges_by, file_edges, file_supports, supports, supports_at, supports_by}
+use Rattle.resolve.specs.Goals.{goal_table, goals_of_symbols}
 use Rattle.resolve.specs.Representatives.{representatives_of}
 use Rattle.resolve.specs.declared.representative.Representative.{Representative}
 use Rattle.resolve.proofs.GrowLemmas.{IsGrowing, grow_end, grow_item, whole_at}
@@ -17,20 +20,73 @@ use Rattle.resolve.proofs.GrowLemmas.{IsGrowing, grow_end, grow_item, whole_at}
 pub whole_in : (files read : List LoadedFile) (at : ℕ) (file : LoadedFile) → read ≡ files → All IsWholeFile files → at < length read → file ≡ get_or read at file → IsWholeFile file
 whole_in files read at file same whole low is = whole_at read at file (subst (λ (fs : List LoadedFile). All IsWholeFile fs) (sym same) whole) low is
 
-pub edges_more : (files read : List LoadedFile) (graph : LibraryGraph) (command : Command) (old new : List Edge) (at : ℕ) (file : LoadedFile) (literals : List Representative) (goals : List Goal) → IsGrowing (edges_of files graph command) [] old read at → at < length read → file ≡ get_or read at file → literals ≡ representatives_of files → goals ≡ goals_of_symbols files graph command file → new ≡ old ++ file_edges literals goals file → IsGrowing (edges_of files graph command) [] new read (at + 1)
-edges_more files read graph command old new at file literals goals grows low is l g more =
-    grow_item (edges_of files graph command) [] old new read at file file grows low is
-    (more ∙ ap (λ (ls : List Representative). old ++ file_edges ls goals file) l ∙ ap (λ (gs : List Goal). old ++ file_edges (representatives_of files) gs file) g)
+-- ---- goals
 
-pub supports_more : (files read : List LoadedFile) (graph : LibraryGraph) (command : Command) (old new : List Edge) (at : ℕ) (file : LoadedFile) (literals : List Representative) (goals : List Goal) → IsGrowing (supports_of files graph command) [] old read at → at < length read → file ≡ get_or read at file → literals ≡ representatives_of files → goals ≡ goals_of_symbols files graph command file → new ≡ old ++ file_supports literals goals file → IsGrowing (supports_of files graph command) [] new read (at + 1)
-supports_more files read graph command old new at file literals goals grows low is l g more =
-    grow_item (supports_of files graph command) [] old new read at file file grows low is
-    (more ∙ ap (λ (ls : List Representative). old ++ file_supports ls goals file) l ∙ ap (λ (gs : List Goal). old ++ file_supports (representatives_of files) gs file) g)
+-- a list has what a function gives for the elements before a place
+pub record IsMapped {X Y : Type 0} (f : X → Y) (now : List Y) (xs : List X) (at : ℕ) : Type 0 where
+  pub is : now ≡ map f (take at xs)
 
-pub edges_are : (files read : List LoadedFile) (graph : LibraryGraph) (command : Command) (now list : List Edge) (at : ℕ) → read ≡ files → IsGrowing (edges_of files graph command) [] now read at → length read ≤ at → list ≡ now → list ≡ edges files graph command
-unfolding edges
-edges_are files read graph command now list at same grows past is = is ∙ grow_end (edges_of files graph command) [] now read at grows past ∙ ap (flat_map (edges_of files graph command)) same
+pub mapped_start : {X Y : Type 0} (f : X → Y) (now : List Y) (xs : List X) → now ≡ [] → IsMapped f now xs 0
+mapped_start f now xs none = record { is = none }
 
-pub supports_are : (files read : List LoadedFile) (graph : LibraryGraph) (command : Command) (now list : List Edge) (at : ℕ) → read ≡ files → IsGrowing (supports_of files graph command) [] now read at → length read ≤ at → list ≡ now → list ≡ supports files graph command
-unfolding supports
-supports_are files read graph command now list at same grows past is = is ∙ grow_end (supports_of files graph command) [] now read at grows past ∙ ap (flat_map (supports_of files graph command)) same
+pub mapped_more : {X Y : Type 0} (f : X → Y) (now new : List Y) (xs : List X) (at : ℕ) (x d : X) (y : Y) → IsMapped f now xs at → at < length xs → x ≡ get_or xs at d → y ≡ f x → new ≡ now ++ y ∷ [] → IsMapped f new xs (at + 1)
+mapped_more {X = X} {Y = Y} f now new xs at x d y mapped low is same more = record {
+  is =
+      more ∙ ap (λ (ys : List Y). ys ++ y ∷ []) mapped.is
+      ∙ ap (λ (v : Y). map f (take at xs) ++ v ∷ []) same
+      ∙ sym (ap (map f) (take_more xs at d low ∙ ap (λ (v : X). take at xs ++ v ∷ []) (sym is)) ∙ map-append f (take at xs) (x ∷ []));
+}
+
+pub mapped_end : {X Y : Type 0} (f : X → Y) (now list : List Y) (read xs : List X) (at : ℕ) → read ≡ xs → IsMapped f now read at → length read ≤ at → list ≡ now → list ≡ map f xs
+mapped_end {X = X} f now list read xs at same mapped past is = is ∙ mapped.is ∙ ap (map f) (take_all at read past) ∙ ap (map f) same
+
+-- ---- edges
+
+numbered : (files : List LoadedFile) (i : ℕ) (d : LoadedFile) → i < length files → get_or (enumerate_from 0 files) i (0, d) ≡ (i, get_or files i d)
+numbered files i d low = let e : 0 + i ≡ i = omega arith in get_or-enumerate_from 0 files i (0, d) low ∙ ap (λ (n : ℕ). (n, get_or files i d)) e
+
+-- one file more, by what a numbered file gives
+pub files_more : (f : ℕ × LoadedFile → List Edge) (files : List LoadedFile) (now new : List Edge) (at : ℕ) (file : LoadedFile) → IsGrowing f [] now (enumerate_from 0 files) at → at < length files → file ≡ get_or files at file → new ≡ now ++ f (at, file) → IsGrowing f [] new (enumerate_from 0 files) (at + 1)
+files_more f files now new at file grows low is more =
+    grow_item f [] now new (enumerate_from 0 files) at (at, file) (0, file) grows (omega (arith, low, length-enumerate_from 0 files))
+    (ap (λ (x : LoadedFile). (at, x)) is ∙ sym (numbered files at file low)) more
+
+files_are : (f : ℕ × LoadedFile → List Edge) (files : List LoadedFile) (now : List Edge) (at : ℕ) → IsGrowing f [] now (enumerate_from 0 files) at → length files ≤ at → now ≡ [] ++ flat_map f (enumerate_from 0 files)
+files_are f files now at grows past = grow_end f [] now (enumerate_from 0 files) at grows (omega (arith, past, length-enumerate_from 0 files))
+
+pub edges_are : (files read : List LoadedFile) (table : List (List Goal)) (literals : List Representative) (now list : List Edge) (at : ℕ) → read ≡ files → literals ≡ representatives_of files → IsGrowing (edges_at literals table) [] now (enumerate_from 0 read) at → length read ≤ at → list ≡ now → list ≡ edges_by files table
+unfolding edges_by
+edges_are files read table literals now list at same l grows past is =
+    is ∙ files_are (edges_at literals table) read now at grows past
+    ∙ ap (λ (fs : List LoadedFile). flat_map (edges_at literals table) (enumerate_from 0 fs)) same
+    ∙ ap (λ (ls : List Representative). flat_map (edges_at ls table) (enumerate_from 0 files)) l
+
+pub supports_are : (files read : List LoadedFile) (table : List (List Goal)) (literals : List Representative) (now list : List Edge) (at : ℕ) → read ≡ files → literals ≡ representatives_of files → IsGrowing (supports_at literals table) [] now (enumerate_from 0 read) at → length read ≤ at → list ≡ now → list ≡ supports_by files table
+unfolding supports_by
+supports_are files read table literals now list at same l grows past is =
+    is ∙ files_are (supports_at literals table) read now at grows past
+    ∙ ap (λ (fs : List LoadedFile). flat_map (supports_at literals table) (enumerate_from 0 fs)) same
+    ∙ ap (λ (ls : List Representative). flat_map (supports_at ls table) (enumerate_from 0 files)) l
+
+-- ---- file by file
+
+-- numbered files with a table of what a function gives for each are the files with what it gives
+by_file : {G E : Type 0} (f : List G → LoadedFile → List E) (g : LoadedFile → List G) (table : List (List G)) (n : ℕ) (files : List LoadedFile) → ((i : ℕ) → slice_get table (n + i) ≡ slice_get (map g files) i) → flat_map (λ p. option_map_or (λ goals. f goals p.1) (slice_get table p.0) []) (enumerate_from n files) ≡ flat_map (λ file. f (g file) file) files
+by_file f g table n [] at = refl
+by_file {G = G} {E = E} f g table n (x ∷ xs) at =
+    let start : n + 0 ≡ n = omega arith in
+    let here : slice_get table n ≡ Some (g x) = ap (slice_get table) (sym start) ∙ at 0 in
+    let rest = by_file f g table (n + 1) xs (λ i. let next : n + 1 + i ≡ n + suc i = omega arith in ap (slice_get table) next ∙ at (suc i)) in
+    ap (λ (o : Option (List G)). option_map_or (λ goals. f goals x) o [] ++ flat_map (λ p. option_map_or (λ goals. f goals p.1) (slice_get table p.0) []) (enumerate_from (n + 1) xs)) here
+    ∙ ap (λ (es : List E). f (g x) x ++ es) rest
+
+from_start : {G : Type 0} (table : List (List G)) (i : ℕ) → slice_get table (0 + i) ≡ slice_get table i
+from_start table i = let e : 0 + i ≡ i = omega arith in ap (slice_get table) e
+
+pub edges_by_file : (files : List LoadedFile) (graph : LibraryGraph) (command : Command) → edges files graph command ≡ flat_map (λ file. file_edges (representatives_of files) (goals_of_symbols files graph command file) file) files
+unfolding edges_by
+edges_by_file files graph command = by_file (file_edges (representatives_of files)) (goals_of_symbols files graph command) (goal_table files graph command) 0 files (from_start (goal_table files graph command))
+
+pub supports_by_file : (files : List LoadedFile) (graph : LibraryGraph) (command : Command) → supports files graph command ≡ flat_map (λ file. file_supports (representatives_of files) (goals_of_symbols files graph command file) file) files
+unfolding supports_by
+supports_by_file files graph command = by_file (file_supports (representatives_of files)) (goals_of_symbols files graph command) (goal_table files graph command) 0 files (from_start (goal_table files graph command))

@@ -23,6 +23,7 @@ pub mod StandsLemmas
 pub mod GoalLemmas
 pub mod WordsLemmas
 pub mod OneLemmas
+pub mod OneListLemmas
 pub mod GrowLemmas
 pub mod PickLemmas
 pub mod AtomSetLemmas

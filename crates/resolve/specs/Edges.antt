@@ -1,7 +1,7 @@
 -- What leads from one atom to another, so that the other is kept with it (ld(1): -dead_strip; `loader.h`:
 -- S_ATTR_LIVE_SUPPORT; `mach-o/compact_unwind_encoding.h`).
-use Rattle.std.specs.Prelude.{◌==◌, ◌++◌, bit_and, Bool, false, not, List, [], map, slice_get, Option, Some, None, if◌then◌else◌}
-use Rattle.std.specs.List.{flat_map}
+use Rattle.std.specs.Prelude.{ℕ, ◌==◌, ◌++◌, bit_and, Bool, false, not, List, [], map, slice_get, Option, Some, None, if◌then◌else◌}
+use Rattle.std.specs.List.{enumerate_from, flat_map}
 use Rattle.std.specs.Option.{option_and_then, option_map, option_map_or, option_to_list}
 use Rattle.lib_bind.specs.declared.library.LibraryGraph.{LibraryGraph}
 use Rattle.mo_cmd.specs.declared.command.Command.{Command}
@@ -17,7 +17,7 @@ use Rattle.mo_types.specs.declared.reference.Target.{Target}
 use Rattle.mo_types.specs.declared.reference.Target.TheVariants as target
 use Rattle.mo_types.specs.declared.unwind.Unwind.{Unwind}
 use Rattle.mo_types.specs.RelocationRules.{section_numbered}
-use Rattle.resolve.specs.Goals.{goals_of_symbols, stands_for}
+use Rattle.resolve.specs.Goals.{goal_table, stands_for}
 use Rattle.resolve.specs.Representatives.{representatives_of}
 use Rattle.resolve.specs.declared.representative.Representative.{Representative}
 
@@ -70,17 +70,24 @@ ref_supports literals goals object ref = if supports_live object ref.atom then r
 unfoldable pub file_supports : List Representative → List Goal → LoadedFile → List Edge
 file_supports literals goals file = flat_map (ref_supports literals goals file.object) file.refs
 
--- the edges and the supports of a file, by all files
-abbrev pub edges_of : List LoadedFile → LibraryGraph → Command → LoadedFile → List Edge
-edges_of files graph command file = file_edges (representatives_of files) (goals_of_symbols files graph command file) file
+-- those of the file at a place, whose symbols have the goals there
+abbrev pub edges_at : List Representative → List (List Goal) → ℕ × LoadedFile → List Edge
+edges_at literals table p = option_map_or (λ goals. file_edges literals goals p.1) (slice_get table p.0) []
 
-abbrev pub supports_of : List LoadedFile → LibraryGraph → Command → LoadedFile → List Edge
-supports_of files graph command file = file_supports (representatives_of files) (goals_of_symbols files graph command file) file
+abbrev pub supports_at : List Representative → List (List Goal) → ℕ × LoadedFile → List Edge
+supports_at literals table p = option_map_or (λ goals. file_supports literals goals p.1) (slice_get table p.0) []
 
--- What is kept with an atom, file by file: where its references lead, and what unwinding it takes.
-unfoldable pub edges : List LoadedFile → LibraryGraph → Command → List Edge
-edges files graph command = flat_map (edges_of files graph command) files
+-- those of files, file by file, by a table of the goals of each file's symbols
+unfoldable pub edges_by : List LoadedFile → List (List Goal) → List Edge
+edges_by files table = flat_map (edges_at (representatives_of files) table) (enumerate_from 0 files)
+
+unfoldable pub supports_by : List LoadedFile → List (List Goal) → List Edge
+supports_by files table = flat_map (supports_at (representatives_of files) table) (enumerate_from 0 files)
+
+-- What is kept with an atom: where its references lead, and what unwinding it takes.
+abbrev pub edges : List LoadedFile → LibraryGraph → Command → List Edge
+edges files graph command = edges_by files (goal_table files graph command)
 
 -- What is kept with an atom to which it refers: from atoms that support what is live to what they refer to.
-unfoldable pub supports : List LoadedFile → LibraryGraph → Command → List Edge
-supports files graph command = flat_map (supports_of files graph command) files
+abbrev pub supports : List LoadedFile → LibraryGraph → Command → List Edge
+supports files graph command = supports_by files (goal_table files graph command)

@@ -81,6 +81,10 @@ goal_of_symbol files graph command file p =
 unfoldable pub goals_of_symbols : List LoadedFile → LibraryGraph → Command → LoadedFile → List Goal
 goals_of_symbols files graph command file = map (goal_of_symbol files graph command file) (enumerate_from 0 file.object.symbols)
 
+-- those of each file, file by file
+abbrev pub goal_table : List LoadedFile → LibraryGraph → Command → List (List Goal)
+goal_table files graph command = map (goals_of_symbols files graph command) files
+
 -- where a target of a file's reference leads
 unfoldable pub goal_of : List LoadedFile → LibraryGraph → Command → LoadedFile → Target → Goal
 goal_of files graph command file (target.Name index) =

@@ -1,7 +1,7 @@
 //! Where names, symbols and references lead.
 ghost use Rattle.std.specs.Prelude.{◌≡◌, ◌<◌, ◌||◌, IfOk, length, slice_index_or};
 ghost use Rattle.lib_bind.specs.Provides as provides;
-ghost use Rattle.mo_types.specs.Loaded.{IsWholeFile};
+ghost use Rattle.mo_types.specs.Loaded.{IsWholeFile, IsWholeLoaded};
 ghost use Rattle.mo_types.specs.declared.object.Symbol.{Symbol as Declared};
 ghost use Rattle.resolve.specs.Goals as goals;
 ghost use Rattle.resolve.specs.Known.{AreKnown};
@@ -163,6 +163,27 @@ pub fn goals_of_symbols(
         list.push(symbol_goal(winners, libs, loaded, command, file, i as u32)?)?;
     }
     Ok(Items::from_vec(list))
+}
+
+/// Where the symbols of each file lead, file by file, each list in the order of its file's table. Each name is looked up
+/// once a file.
+pub fn goal_table(
+    alloc: Global,
+    loaded: &Loaded,
+    winners: &Winners,
+    libs: &Libraries,
+    command: &Command,
+) -> Result<Items<GoalList>, OutOfMemory>
+    requires whole { IsWholeLoaded loaded.now }
+    requires known { AreKnown command.now loaded.now.files winners.now }
+    ensures { IfOk result (λ table. table ≡ goals.goal_table loaded.now.files libs.now command.now) }
+{
+    let files = loaded.files.as_slice();
+    let mut table = Vec::with_capacity(alloc, files.len())?;
+    for file in files {
+        table.push(goals_of_symbols(alloc, winners, libs, loaded, command, file)?)?;
+    }
+    Ok(Items::from_vec(table))
 }
 
 /// Where a target of a file's reference leads. A target that isn't one of the file's symbols leads nowhere.

@@ -1,16 +1,19 @@
 //! What the words of candidates, the representatives of literals and edges mean, each on a call that does nothing.
-ghost use Rattle.std.specs.Prelude.{◌≡◌, ◌<◌, ℕ, List, Contains, Ok, true};
+ghost use Rattle.std.specs.Prelude.{◌≡◌, ◌<◌, ℕ, List, Option, Contains, Ok, true};
+ghost use Rattle.std.specs.List.{flat_map};
 ghost use Rattle.std.specs.declared.cmp.Ordering.TheVariants.{Less};
 ghost use Rattle.lib_bind.specs.declared.library.LibraryGraph.{LibraryGraph};
 ghost use Rattle.mo_cmd.specs.declared.command.Command.{Command};
 ghost use Rattle.mo_types.specs.Candidates.{Candidate, candidate_word, strength};
 ghost use Rattle.mo_types.specs.Keys.{compare_files};
 ghost use Rattle.mo_types.specs.Loaded.{IsWholeLoaded};
+ghost use Rattle.mo_types.specs.declared.key.FileId.{FileId};
 ghost use Rattle.mo_types.specs.declared.loaded.Loaded.{Loaded};
 ghost use Rattle.mo_types.specs.declared.loaded.LoadedFile.{LoadedFile};
 ghost use Rattle.mo_types.specs.declared.reference.Target.{Target};
-ghost use Rattle.name_ids.specs.Names.{gathered};
-ghost use Rattle.resolve.specs.Edges.{goal_atom, target_atom};
+ghost use Rattle.name_ids.specs.Names.{IsNumbering, gathered};
+ghost use Rattle.resolve.specs.Duplicates.{IsDuplicate};
+ghost use Rattle.resolve.specs.Edges.{edges, file_edges, file_supports, goal_atom, supports, target_atom};
 ghost use Rattle.resolve.specs.Found.{AreNamed};
 ghost use Rattle.resolve.specs.Goals.{goal_of, goals_of_symbols};
 ghost use Rattle.resolve.specs.Laws.{HasRoom};
@@ -55,8 +58,24 @@ pub fn a_name_has_one_winner()
     ensures { (command : Command) (files : List LoadedFile) (winners : List Winner) → AreWinners command files winners → (a b : Winner) → Contains winners a → Contains winners b → a.name ≡ b.name → a ≡ b }
 {}
 
+/// The same files and command have one list of winners.
+pub fn winners_are_one_list()
+    ensures { (command : Command) (files : List LoadedFile) (a b : List Winner) → AreWinners command files a → AreWinners command files b → a ≡ b }
+{}
+
+/// The same files have one answer as to which least name two strong definitions have, by the numbers of distinct names.
+pub fn duplicates_are_one()
+    ensures { (files : List LoadedFile) (names : List (List ℕ)) (a b : Option (ℕ × FileId × FileId)) → IsNumbering names → IsDuplicate files names a → IsDuplicate files names b → a ≡ b }
+{}
+
 /// An edge leads to the atom of its reference's goal: what the goals of a file's symbols give for a target is where the
 /// target leads.
 pub fn edges_lead_to_goals()
     ensures { (files : List LoadedFile) (graph : LibraryGraph) (command : Command) (file : LoadedFile) (target : Target) → target_atom (representatives_of files) (goals_of_symbols files graph command file) target ≡ goal_atom (goal_of files graph command file target) }
+{}
+
+/// Edges and supports are those of each file, by the goals of its own symbols, file by file.
+pub fn edges_are_file_by_file()
+    ensures edges { (files : List LoadedFile) (graph : LibraryGraph) (command : Command) → edges files graph command ≡ flat_map (λ file. file_edges (representatives_of files) (goals_of_symbols files graph command file) file) files }
+    ensures supports { (files : List LoadedFile) (graph : LibraryGraph) (command : Command) → supports files graph command ≡ flat_map (λ file. file_supports (representatives_of files) (goals_of_symbols files graph command file) file) files }
 {}

@@ -2,17 +2,13 @@
 ghost use Rattle.std.specs.Prelude.{◌≡◌, ◌++◌, IfOk, slice_get};
 ghost use Rattle.std.specs.List.{flat_map};
 ghost use Rattle.std.specs.Option.{option_and_then, option_map, option_to_list};
-ghost use Rattle.mo_types.specs.Loaded.{IsWholeLoaded};
 ghost use Rattle.resolve.specs.Edges as spec;
-ghost use Rattle.resolve.specs.Known.{AreKnown};
+ghost use Rattle.resolve.specs.Representatives.{representatives_of};
 
-use crate::goals::goals_of_symbols;
 use crate::known::Winners;
-use lib_bind::Libraries;
-use mo_cmd::Command;
 use mo_types::{
-    AtomKey, Edge, EdgeList, Goal, Items, Loaded, LoadedFile, Object, OutOfMemory, Ref, RefList,
-    Section, Target, Unwind,
+    AtomKey, Edge, EdgeList, Goal, GoalList, Items, Loaded, LoadedFile, Object, OutOfMemory, Ref,
+    RefList, Section, Target, Unwind,
 };
 use std::alloc::Global;
 
@@ -249,6 +245,22 @@ fn with_file_edges(
     with_unwinds(edges, winners, goals, file.unwinds.as_slice())
 }
 
+// Edges, and those of the file at a place.
+fn with_edges_at(
+    before: Vec<Edge>,
+    winners: &Winners,
+    table: &Items<GoalList>,
+    at: usize,
+    file: &LoadedFile,
+) -> Result<Vec<Edge>, OutOfMemory>
+    ensures { IfOk result (λ new. new.items ≡ before.items ++ spec.edges_at winners.now.literals table.now (at, file.now)) }
+{
+    match table.get(at) {
+        Some(goals) => with_file_edges(before, winners, goals.as_slice(), file),
+        None => Ok(before),
+    }
+}
+
 // Edges, and the supports of a file.
 #[tactic(auto, unfolding(crate::specs::Edges::file_supports))]
 fn with_file_supports(
@@ -262,29 +274,43 @@ fn with_file_supports(
     with_supports(before, winners, goals, &file.object, &file.refs)
 }
 
+// Edges, and the supports of the file at a place.
+fn with_supports_at(
+    before: Vec<Edge>,
+    winners: &Winners,
+    table: &Items<GoalList>,
+    at: usize,
+    file: &LoadedFile,
+) -> Result<Vec<Edge>, OutOfMemory>
+    ensures { IfOk result (λ new. new.items ≡ before.items ++ spec.supports_at winners.now.literals table.now (at, file.now)) }
+{
+    match table.get(at) {
+        Some(goals) => with_file_supports(before, winners, goals.as_slice(), file),
+        None => Ok(before),
+    }
+}
+
 /// What leads from one atom to another: first the edges, from an atom to where its references lead, in a difference also
 /// to what is subtracted, and from a function to what handles its exceptions and to the data for that; where an atom is
 /// kept, so are those. Then the supports, from atoms of sections with S_ATTR_LIVE_SUPPORT (`loader.h`) to where their
-/// references lead: where one of these is kept, so is the atom. File by file, each name looked up once a file.
+/// references lead: where one of these is kept, so is the atom. File by file, by the goals of each file's symbols, as
+/// `goal_table` gives them; no name is looked up.
 pub fn edges(
     alloc: Global,
     loaded: &Loaded,
     winners: &Winners,
-    libs: &Libraries,
-    command: &Command,
+    goals: &Items<GoalList>,
 ) -> Result<(EdgeList, EdgeList), OutOfMemory>
-    requires whole { IsWholeLoaded loaded.now }
-    requires known { AreKnown command.now loaded.now.files winners.now }
-    ensures edges { IfOk result (λ lists. lists.0 ≡ spec.edges loaded.now.files libs.now command.now) }
-    ensures supports { IfOk result (λ lists. lists.1 ≡ spec.supports loaded.now.files libs.now command.now) }
+    requires { winners.now.literals ≡ representatives_of loaded.now.files }
+    ensures edges { IfOk result (λ lists. lists.0 ≡ spec.edges_by loaded.now.files goals.now) }
+    ensures supports { IfOk result (λ lists. lists.1 ≡ spec.supports_by loaded.now.files goals.now) }
 {
     let files = loaded.files.as_slice();
     let mut edges = Vec::new(alloc);
     let mut supports = Vec::new(alloc);
-    for file in files {
-        let goals = goals_of_symbols(alloc, winners, libs, loaded, command, file)?;
-        edges = with_file_edges(edges, winners, goals.as_slice(), file)?;
-        supports = with_file_supports(supports, winners, goals.as_slice(), file)?;
+    for (at, file) in files.iter().enumerate() {
+        edges = with_edges_at(edges, winners, goals, at, file)?;
+        supports = with_supports_at(supports, winners, goals, at, file)?;
     }
     Ok((Items::from_vec(edges), Items::from_vec(supports)))
 }

@@ -27,13 +27,13 @@ mod winning;
 mod words;
 
 pub use duplicates::duplicate;
-pub use goals::{goal_of, goal_of_name, goals_of_symbols};
+pub use goals::{goal_of, goal_of_name, goal_table, goals_of_symbols};
 pub use groups::representatives;
 pub use known::Winners;
 pub use laws::{
-    a_name_has_one_winner, candidates_have_numbers, edges_lead_to_goals,
-    representatives_have_the_least_keys, the_earlier_wins,
-    the_same_literals_have_one_representative, the_stronger_wins,
+    a_name_has_one_winner, candidates_have_numbers, duplicates_are_one, edges_are_file_by_file,
+    edges_lead_to_goals, representatives_have_the_least_keys, the_earlier_wins,
+    the_same_literals_have_one_representative, the_stronger_wins, winners_are_one_list,
 };
 pub use leading::edges;
 pub use places::{Place, place_of};
