@@ -212,17 +212,14 @@ const HOMES: [(Given, &[u8], &[u8], u32); 18] = [
     ((b"__DATA", b"__bss", 1, 0), b"__DATA", b"__bss", 1),
 ];
 
-#[test]
-fn each_section_has_a_home(rt: HostRuntime) -> Result<(), Fail> {
-    let alloc = rt.alloc();
-    for (number, (given, segment, name, flags)) in HOMES.iter().enumerate() {
+// Whether each section goes where it should.
+fn has_homes(alloc: Global) -> Result<bool, OutOfMemory> {
+    let mut right = true;
+    for (given, segment, name, flags) in &HOMES {
         let wanted: Wanted = (*segment, *name, *flags, 3, &[(1, 0)]);
-        assert!(rt;
-            go_to(alloc, &[*given], &[(1, 0, 3)], &[wanted])?,
-            "{number}"
-        );
+        right = right && go_to(alloc, &[*given], &[(1, 0, 3)], &[wanted])?;
     }
-    Ok(())
+    Ok(right)
 }
 
 const OBJECT: [Given; 12] = [
@@ -240,10 +237,12 @@ const OBJECT: [Given; 12] = [
     (b"__DATA", b"__thread_vars", 0x13, 0),
 ];
 
-// Everything of an object that has sections of each kind, some of it, nothing, and what the object doesn't have.
+// Each kind of section by itself; everything of an object that has sections of each kind, some of it, nothing, and what
+// the object doesn't have.
 #[test]
 fn sections_in_order(rt: HostRuntime) -> Result<(), Fail> {
     let alloc = rt.alloc();
+    assert!(rt; has_homes(alloc)?);
     let all = [
         (1, 0, 0),
         (2, 0, 4),

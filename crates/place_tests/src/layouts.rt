@@ -6,27 +6,28 @@ use mo_types::{
     OutSection, OutSections,
 };
 use sect_place::{
-    AreaList, BranchTarget, BranchTargetList, IslandArea, IslandPlan, Layout, PlaceFault,
-    PlaceSizes, PlacedSection, Segment, WayList, address, place,
+    AreaList, BranchTarget, BranchTargetList, IslandArea, IslandPlan, IslandShifts, Layout,
+    PlaceFault, PlaceSizes, PlacedSection, Segment, WayList, address, address_with, place,
 };
 use slot_plan::{Need, NeedList, Slots, Way, slots};
 use std::alloc::Global;
 use std::test::Fail;
 
 // An atom of the first file: its section and its offset there, its size, and the power of its alignment.
-type Row = (u16, u64, u64, u8);
+pub(crate) type Row = (u16, u64, u64, u8);
 
 // A section of the image: its name, its type, its alignment and its atoms.
-type Part<'a> = (Name, u8, u8, &'a [Row]);
+pub(crate) type Part<'a> = (Name, u8, u8, &'a [Row]);
 
 // Segments and sections by name.
 #[derive(Clone, Copy, PartialEq, Eq)]
-enum Name {
+pub(crate) enum Name {
     Pagezero,
     Text,
     DataConst,
     Data,
     Other,
+    Foo,
     Linkedit,
     Code,
     Stubs,
@@ -39,6 +40,11 @@ enum Name {
     ThreadBss,
     Bss,
     OtherValues,
+    Const,
+    ConstValues,
+    ConstX,
+    FooBar,
+    FooEmpty,
 }
 
 // The segment, and the section's name, or that of the segment again.
@@ -49,6 +55,7 @@ fn names(name: Name) -> (&'static [u8], &'static [u8]) {
         Name::DataConst => (b"__DATA_CONST", b"__DATA_CONST"),
         Name::Data => (b"__DATA", b"__DATA"),
         Name::Other => (b"__OTHER", b"__OTHER"),
+        Name::Foo => (b"__FOO", b"__FOO"),
         Name::Linkedit => (b"__LINKEDIT", b"__LINKEDIT"),
         Name::Code => (b"__TEXT", b"__text"),
         Name::Stubs => (b"__TEXT", b"__stubs"),
@@ -61,6 +68,22 @@ fn names(name: Name) -> (&'static [u8], &'static [u8]) {
         Name::ThreadBss => (b"__DATA", b"__thread_bss"),
         Name::Bss => (b"__DATA", b"__bss"),
         Name::OtherValues => (b"__OTHER", b"__data"),
+        Name::Const => (b"__TEXT", b"__const"),
+        Name::ConstValues => (b"__DATA_CONST", b"__const"),
+        Name::ConstX => (b"__DATA_CONST", b"__x"),
+        Name::FooBar => (b"__FOO", b"__bar"),
+        Name::FooEmpty => (b"__FOO", b"__empty"),
+    }
+}
+
+// The protection of a segment, and its flags.
+fn rights(segment: Name) -> (u32, u32) {
+    match segment {
+        Name::Pagezero => (0, 0),
+        Name::Text => (5, 0),
+        Name::DataConst => (3, 0x10),
+        Name::Linkedit => (1, 0),
+        _ => (3, 0),
     }
 }
 
@@ -94,7 +117,7 @@ const NOTHING: Case = Case {
     islands: None,
 };
 
-fn key(row: &Row) -> AtomKey {
+pub(crate) fn key(row: &Row) -> AtomKey {
     let file = FileId {
         position: 0,
         member: 0,
@@ -122,7 +145,7 @@ fn atoms(alloc: Global, rows: &[Row]) -> Result<AtomList, OutOfMemory> {
     Ok(atoms)
 }
 
-fn section(alloc: Global, part: &Part) -> Result<OutSection, OutOfMemory> {
+pub(crate) fn section(alloc: Global, part: &Part) -> Result<OutSection, OutOfMemory> {
     let mut keys = KeyList::new(alloc);
     for row in part.3 {
         keys.push(key(row))?;
@@ -252,7 +275,7 @@ fn placed(alloc: Global, rows: &[Row], parts: &[Part], case: &Case) -> Result<La
 }
 
 // A segment of an image: its name, address, bytes of memory, place in the file, bytes there, and count of sections.
-type SegmentRow = (Name, u64, u64, u64, u64, u32);
+pub(crate) type SegmentRow = (Name, u64, u64, u64, u64, u32);
 
 fn is_segment(segment: &Segment, row: &SegmentRow) -> bool {
     segment.name.as_slice() == names(row.0).0
@@ -261,9 +284,10 @@ fn is_segment(segment: &Segment, row: &SegmentRow) -> bool {
         && segment.file_offset == row.3
         && segment.file_size == row.4
         && segment.sections == row.5
+        && (segment.protection, segment.flags) == rights(row.0)
 }
 
-fn has_segments(layout: &Layout, rows: &[SegmentRow]) -> bool {
+pub(crate) fn has_segments(layout: &Layout, rows: &[SegmentRow]) -> bool {
     layout.segments.len() == rows.len()
         && layout
             .segments
@@ -274,7 +298,7 @@ fn has_segments(layout: &Layout, rows: &[SegmentRow]) -> bool {
 }
 
 // A section of an image: its name, address, bytes, and place in the file.
-type SectionRow = (Name, u64, u64, u64);
+pub(crate) type SectionRow = (Name, u64, u64, u64);
 
 fn is_section(placed: &PlacedSection, row: &SectionRow) -> bool {
     placed.section.segment.as_slice() == names(row.0).0
@@ -284,7 +308,7 @@ fn is_section(placed: &PlacedSection, row: &SectionRow) -> bool {
         && placed.file_offset == row.3
 }
 
-fn has_sections(layout: &Layout, rows: &[SectionRow]) -> bool {
+pub(crate) fn has_sections(layout: &Layout, rows: &[SectionRow]) -> bool {
     layout.sections.len() == rows.len()
         && layout
             .sections
@@ -474,6 +498,19 @@ fn empty_dylib(alloc: Global, words: Words, size: u64) -> bool {
     )
 }
 
+// The layout of sections in an executable without stubs.
+pub(crate) fn plain(
+    alloc: Global,
+    rows: &[Row],
+    parts: &OutSections,
+) -> Result<Layout, PlaceFault> {
+    let case = NOTHING;
+    let Ok(command) = command_of(alloc, case.words) else {
+        return Err(PlaceFault::OutOfMemory);
+    };
+    place_all(alloc, &atoms(alloc, rows)?, parts, &case, &command)
+}
+
 #[test]
 fn worked_layouts(rt: HostRuntime) -> Result<(), Fail> {
     let alloc = rt.alloc();
@@ -534,8 +571,32 @@ fn are_placed(alloc: Global, count: u64) -> Result<bool, OutOfMemory> {
     }
 }
 
+// Three islands behind the eleventh atom, of 40 bytes: what is behind them moves by so much, and nothing else.
+fn are_moved(alloc: Global, count: u64) -> Result<bool, PlaceFault> {
+    let rows = many_rows(alloc, count)?;
+    let case = Case {
+        islands: Some(((1, 10, 3, 2), 3)),
+        ..NOTHING
+    };
+    let layout = placed(
+        alloc,
+        rows.as_slice(),
+        &[(Name::Code, 0, 2, rows.as_slice())],
+        &NOTHING,
+    )?;
+    let shifts = IslandShifts::new(alloc, &layout, &plan(alloc, &case)?)?;
+    Ok(
+        rows.iter().zip(0..100_000u64).all(|(row, number)| {
+            let behind = if number > 10 { 40 } else { 0 };
+            address_with(&layout, &shifts, key(row)) == Some(0x1_0000_01b8 + 4 * number + behind)
+        }) && address_with(&layout, &shifts, key(&(2, 0, 0, 0))).is_none(),
+    )
+}
+
 #[test]
 fn thousands_of_atoms(rt: HostRuntime) -> Result<(), Fail> {
-    assert!(rt; are_placed(rt.alloc(), 20_000)?);
+    let alloc = rt.alloc();
+    assert!(rt; are_placed(alloc, 20_000)?);
+    assert!(rt; are_moved(alloc, 20_000) == Ok(true));
     Ok(())
 }

@@ -19,3 +19,7 @@ pub mod Areas
 pub mod Fitting
 pub mod Moving
 pub mod Ranged
+pub mod Single
+pub mod Planned
+pub mod Shifting
+pub mod Shifted

@@ -140,7 +140,7 @@ module _ (kept : List Atom) (sections : List OutSection) (areas : List IslandAre
 and_not : (t c : Bool) → t ≡ true → c ≡ false → (t && not c) ≡ true
 and_not t c e f = rw (e, f) refl
 
-text_choice : (section : OutSection) → is_in (codes "__TEXT") section ≡ true → (is_chosen Code section ≡ true) ⊎ (is_chosen BesideCode section ≡ true)
+pub text_choice : (section : OutSection) → is_in (codes "__TEXT") section ≡ true → (is_chosen Code section ≡ true) ⊎ (is_chosen BesideCode section ≡ true)
 unfolding is_chosen
 text_choice section text = elim (cases_Bool (is_code section)) [ inl code ↦ inl code | inr other ↦ inr (and_not (is_in (codes "__TEXT") section) (is_code section) text other) ]
 

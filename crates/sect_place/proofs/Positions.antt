@@ -213,14 +213,14 @@ differ a b section other here =
     let is : section.segment ≡ a = (names_equal section.segment a).0 here in
     rw is other
 
-unfoldable choice_by : Bool → Bool → Bool → Bool → Choice
+unfoldable pub choice_by : Bool → Bool → Bool → Bool → Choice
 choice_by true b c d = Code
 choice_by false true c d = BesideCode
 choice_by false false true d = Constant
 choice_by false false false true = Writable
 choice_by false false false false = Elsewhere
 
-unfoldable choice_of : OutSection → Choice
+unfoldable pub choice_of : OutSection → Choice
 choice_of section = choice_by (is_code section) (is_in (codes "__TEXT") section) (is_in (codes "__DATA_CONST") section) (is_in (codes "__DATA") section)
 
 unfoldable chosen_by : Choice → Bool → Bool → Bool → Bool → Bool
@@ -295,7 +295,7 @@ agree section = record {
   constant_writable = differ (codes "__DATA_CONST") (codes "__DATA") section refl;
 }
 
-chosen_is : (choice : Choice) (section : OutSection) → is_chosen choice section ≡ true → choice ≡ choice_of section
+pub chosen_is : (choice : Choice) (section : OutSection) → is_chosen choice section ≡ true → choice ≡ choice_of section
 unfolding choice_of
 chosen_is choice section e =
     only choice (is_code section) (is_in (codes "__TEXT") section) (is_in (codes "__DATA_CONST") section) (is_in (codes "__DATA") section) (agree section) (sym (chosen_is_by choice section) ∙ e)

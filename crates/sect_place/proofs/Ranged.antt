@@ -129,6 +129,25 @@ code_rises files kept rising =
     (λ a b p q. one_code all a b (order_members (sections_of all) a p) (order_members (sections_of all) b q))
     (λ a h. section_rise all rise a (order_members (sections_of all) a h)))
 
+-- ---- each section
+
+led_rise : (align : ℕ) (sections : List OutSection) → AllByRecursion (λ (section : OutSection). Rise section.atoms) sections → AllByRecursion (λ (section : OutSection). Rise section.atoms) (led_by align sections)
+led_rise align [] all = tt
+led_rise align (section ∷ sections) all = by (cases_Bool (is_thread_local section)) (led_rise align sections all.1)
+  where
+    by : (is_thread_local section ≡ true) ⊎ (is_thread_local section ≡ false) → AllByRecursion (λ (s : OutSection). Rise s.atoms) (led_by align sections) → AllByRecursion (λ (s : OutSection). Rise s.atoms) (led_by align (section ∷ sections))
+    by (inl local) rest = rw local (all.0, all.1)
+    by (inr other) rest = rw other (all.0, rest)
+
+each_rises : (files : List LoadedFile) (kept : List Atom) → IsStrictlySortedBy (on (λ (atom : Atom). atom.key) compare_keys) kept → AllByRecursion (λ (section : OutSection). Rise section.atoms) (out_sections files kept)
+unfolding out_sections led
+each_rises files kept rising =
+    let all : List Row = rows files kept in
+    let ordered : List OutSection = in_order (sections_of all) in
+    let rise : Rise (map key_of all) = rows_rise files kept (rising_map (λ (atom : Atom). atom.key) compare_keys kept rising) in
+    led_rise (greatest_align (thread_local ordered)) ordered
+    (all_from_in (λ (section : OutSection). Rise section.atoms) ordered (λ a h. section_rise all rise a (order_members (sections_of all) a h)))
+
 -- ---- alignments
 
 max_above : (n : ℕ) (xs : List ℕ) → n ≤ fold max n xs
@@ -212,6 +231,7 @@ in_order_law files kept rising low =
     let apart : Apart (map (λ (atom : Atom). atom.key) kept) = keys_apart (map (λ (atom : Atom). atom.key) kept) (rising_map (λ (atom : Atom). atom.key) compare_keys kept rising) in
     record {
       once = listed_once files kept rising;
+      each = All-from_recursion (λ (section : OutSection). IsStrictlySortedBy compare_keys section.atoms) (out_sections files kept) (each_rises files kept rising);
       code = code_rises files kept rising;
       aligned =
           All-from_recursion (λ (section : OutSection). All (λ (atom : Atom). atom.align ≤ section.align) (atoms_of kept section.atoms)) (out_sections files kept)

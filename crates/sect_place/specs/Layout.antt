@@ -1,7 +1,10 @@
 -- The layout of an image: where everything stands, for the atoms that are kept (`loader.h`: mach_header_64,
 -- segment_command_64, section_64).
-use Rattle.std.specs.Prelude.{ℕ, ◌≡◌, ◌+◌, ◌-◌, ◌*◌, ◌^◌, ◌≤◌, pos, List, [], ◌∷◌, ◌++◌, length, codes, if◌then◌else◌}
+use Rattle.std.specs.Prelude.{ℕ, ◌≡◌, ◌+◌, ◌-◌, ◌*◌, ◌^◌, ◌≤◌, pos, List, [], ◌∷◌, ◌++◌, length, codes, if◌then◌else◌, IsPermutation}
+use Rattle.std.specs.List.Sorted.{IsSorted}
+use Rattle.std.specs.Ordering.{on}
 use Rattle.mo_cmd.specs.declared.command.Command.{Command}
+use Rattle.mo_types.specs.Keys.{compare_keys}
 use Rattle.mo_types.specs.declared.atom.Atom.{Atom}
 use Rattle.mo_types.specs.declared.key.AtomKey.{AtomKey}
 use Rattle.mo_types.specs.declared.out_section.OutSection.{OutSection}
@@ -9,6 +12,7 @@ use Rattle.slot_plan.specs.declared.list.Slots.{Slots}
 use Rattle.sect_place.specs.Arrangement.{MadeBytes, groups_of, parts_count}
 use Rattle.sect_place.specs.Places.{spaced, area_unit, groups_segments, groups_sections, groups_places, groups_end, groups_file, groups_stand}
 use Rattle.sect_place.specs.declared.island.IslandPlan.{IslandPlan}
+use Rattle.sect_place.specs.declared.layout.Layout.{Layout}
 use Rattle.sect_place.specs.declared.layout.Placed.{Placed}
 use Rattle.sect_place.specs.declared.layout.PlacedSection.{PlacedSection}
 use Rattle.sect_place.specs.declared.layout.Segment.{Segment}
@@ -88,6 +92,13 @@ image_stand plan = groups_stand plan.atoms plan.base plan.lead plan.groups
 
 unfoldable pub image_places : Plan → List Placed
 image_places plan = groups_places plan.atoms plan.base plan.lead plan.groups
+
+-- A layout of what is planned: its segments and sections, and its atoms at their places, in order.
+pub record IsLayoutOf (command : Command) (plan : Plan) (layout : Layout) : Type 0 where
+  pub segments : layout.segments ≡ image_segments command plan
+  pub sections : layout.sections ≡ image_sections plan
+  pub places : IsPermutation (image_places plan) layout.placed
+  pub order : IsSorted (on (λ (p : Placed). p.atom) compare_keys) layout.placed
 
 -- the image has this many bytes, which are too many
 abbrev pub IsTooLarge : ℕ → PlaceFault → Type 0

@@ -5,3 +5,4 @@ pub mod Layout
 pub mod OutSections
 pub mod inner
 pub mod Moved
+pub mod Shifts

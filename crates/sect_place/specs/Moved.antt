@@ -25,9 +25,11 @@ no_islands = record { areas = []; ways = [] }
 unfoldable pub code_keys : List OutSection → List AtomKey
 code_keys sections = keys_of (filter is_code sections)
 
--- Sections that list no atom twice, `__text` its atoms in order, and no atom with a greater alignment than the section.
+-- Sections that list no atom twice, each of them and all of `__text` in order, and no atom with a greater alignment than
+-- the section.
 pub record AreInOrder (kept : List Atom) (sections : List OutSection) : Type 0 where
   pub once : AllPairs (λ (a : AtomKey) (b : AtomKey). a ≢ b) (keys_of sections)
+  pub each : All (λ (section : OutSection). IsStrictlySortedBy compare_keys section.atoms) sections
   pub code : IsStrictlySortedBy compare_keys (code_keys sections)
   pub aligned : All (λ (section : OutSection). All (λ (atom : Atom). atom.align ≤ section.align) (atoms_of kept section.atoms)) sections
   pub low : All (λ (section : OutSection). section.align ≤ 14) sections

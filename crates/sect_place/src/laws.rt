@@ -12,12 +12,13 @@ ghost use Rattle.mo_types.specs.declared.loaded.LoadedFile.{LoadedFile};
 ghost use Rattle.mo_types.specs.declared.out_section.OutSection.{OutSection};
 ghost use Rattle.slot_plan.specs.declared.list.Slots.{Slots};
 ghost use Rattle.tlv_plan.specs.Template.{keys_of, stand};
-ghost use Rattle.sect_place.specs.Layout.{Plan, image_stand, image_places, image_sections, plan_of};
+ghost use Rattle.sect_place.specs.Layout.{IsLayoutOf, Plan, image_stand, image_places, image_sections, plan_of};
 ghost use Rattle.sect_place.specs.OutSections.{Home, home_of, out_sections};
 ghost use Rattle.sect_place.specs.Places.{AreLeast, places, part_from, page_up};
 ghost use Rattle.sect_place.specs.Moved.{AreBehindCode, AreInOrder, IsMoved, areas_bytes, no_islands, pages_moved, text_end};
 ghost use Rattle.sect_place.specs.declared.island.IslandArea.{IslandArea};
 ghost use Rattle.sect_place.specs.declared.island.IslandPlan.{IslandPlan};
+ghost use Rattle.sect_place.specs.declared.layout.Layout.{Layout};
 ghost use Rattle.sect_place.specs.declared.layout.Placed.{Placed};
 ghost use Rattle.sect_place.specs.declared.layout.PlacedSection.{PlacedSection};
 ghost use Rattle.sect_place.specs.declared.size.PlaceSizes.{PlaceSizes};
@@ -69,8 +70,15 @@ pub fn no_atom_is_placed_twice()
     ensures { (kept : List Atom) (sections : List OutSection) (slots : Slots) (islands : IslandPlan) (sizes : PlaceSizes) (command : Command) → AllPairs (λ (a : AtomKey) (b : AtomKey). a ≢ b) (keys_of sections) → AllPairs (λ (p : Placed) (q : Placed). p.atom ≢ q.atom) (image_places (plan_of kept sections slots islands sizes command)) }
 {}
 
-/// The sections of an image are in order where the kept atoms rise: no atom is listed twice, `__text` lists its atoms in
-/// order, and no atom has a greater alignment than its section.
+/// What is planned has one layout where no atom is listed twice: its atoms rise, so none stands there twice, and any two
+/// layouts of it are the same.
+pub fn a_layout_is_one()
+    ensures rising { (kept : List Atom) (sections : List OutSection) (slots : Slots) (islands : IslandPlan) (sizes : PlaceSizes) (command : Command) (layout : Layout) → AllPairs (λ (a : AtomKey) (b : AtomKey). a ≢ b) (keys_of sections) → IsLayoutOf command (plan_of kept sections slots islands sizes command) layout → IsStrictlySortedBy (on (λ (p : Placed). p.atom) compare_keys) layout.placed }
+    ensures one { (kept : List Atom) (sections : List OutSection) (slots : Slots) (islands : IslandPlan) (sizes : PlaceSizes) (command : Command) (a b : Layout) → AllPairs (λ (x : AtomKey) (y : AtomKey). x ≢ y) (keys_of sections) → IsLayoutOf command (plan_of kept sections slots islands sizes command) a → IsLayoutOf command (plan_of kept sections slots islands sizes command) b → a ≡ b }
+{}
+
+/// The sections of an image are in order where the kept atoms rise: no atom is listed twice, each section lists its atoms
+/// in order, and none with a greater alignment than its own.
 pub fn sections_are_in_order()
     ensures { (files : List LoadedFile) (kept : List Atom) → IsStrictlySortedBy (on (λ (atom : Atom). atom.key) compare_keys) kept → All (λ (atom : Atom). atom.align ≤ 14) kept → AreInOrder kept (out_sections files kept) }
 {}

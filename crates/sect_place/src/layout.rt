@@ -80,7 +80,8 @@ impl Model for PlacedList {
 impl PlacedList {
     /// The list of some addresses, in the order of their atoms.
     pub fn from_vec(alloc: Global, placed: Vec<Placed>) -> Result<PlacedList, OutOfMemory>
-        ensures { IfOk result (IsPermutation placed.items) }
+        ensures same { IfOk result (IsPermutation placed.items) }
+        ensures order { IfOk result (IsSorted (on (λ (p : Placed). p.atom) compare_keys)) }
     {
         let placed = in_order(placed);
         let hints = hints_of(alloc, placed.as_slice())?;

@@ -13,6 +13,7 @@ mod lookup;
 mod order;
 mod part;
 mod placing;
+mod shift;
 mod size;
 mod to;
 mod walk;
@@ -20,7 +21,7 @@ mod wide;
 
 pub use island::{AreaList, BranchTarget, BranchTargetList, IslandArea, IslandPlan, WayList};
 pub use laws::{
-    atoms_stand_apart, each_kept_atom_is_listed, each_listed_atom_is_placed,
+    a_layout_is_one, atoms_stand_apart, each_kept_atom_is_listed, each_listed_atom_is_placed,
     islands_move_what_follows, no_atom_is_listed_twice, no_atom_is_placed_twice, places_are_least,
     sections_are_in_order, sections_stand_apart,
 };
@@ -30,4 +31,5 @@ pub use layout::{
 pub use listing::out_sections;
 pub use lookup::address;
 pub use placing::place;
+pub use shift::{IslandShifts, address_with};
 pub use size::{PlaceFault, PlaceSizes};

@@ -1,5 +1,5 @@
 ghost use Rattle.std.specs.Prelude.{◌≡◌, ◌+◌, ◌-◌, ◌*◌, ◌<◌, ◌≤◌, ◌^◌, ◌++◌, ◌∷◌, [], All, IfOk, IsPermutation, MatchResult, length, max, if◌then◌else◌};
-ghost use Rattle.std.specs.List.Sorted.{IsStrictlySortedBy};
+ghost use Rattle.std.specs.List.Sorted.{IsSorted, IsStrictlySortedBy};
 ghost use Rattle.std.specs.Ordering.{on};
 ghost use Rattle.mo_types.specs.Keys.{compare_keys};
 ghost use Rattle.mo_types.specs.declared.atom.Atom.{Atom};
@@ -8,6 +8,7 @@ ghost use Rattle.sect_place.specs.Arrangement.{parts_count};
 ghost use Rattle.sect_place.specs.Places as places;
 ghost use Rattle.sect_place.specs.Layout as spec;
 ghost use Rattle.sect_place.specs.Whole.{IsWholeLayout};
+ghost use Rattle.sect_place.specs.declared.layout.Placed.{Placed};
 ghost use Rattle.sect_place.specs.inner.Room.{capped};
 
 use crate::arrange::{MadeSizes, arrange, count_of};
@@ -42,6 +43,7 @@ pub fn place(
     ensures segments { IfOk result (λ layout. layout.segments ≡ spec.image_segments command.now (spec.plan_of kept.now sections.now slots.now islands.now sizes.now command.now)) }
     ensures sections { IfOk result (λ layout. layout.sections ≡ spec.image_sections (spec.plan_of kept.now sections.now slots.now islands.now sizes.now command.now)) }
     ensures places { IfOk result (λ layout. IsPermutation (spec.image_places (spec.plan_of kept.now sections.now slots.now islands.now sizes.now command.now)) layout.placed) }
+    ensures order { IfOk result (λ layout. IsSorted (on (λ (p : Placed). p.atom) compare_keys) layout.placed) }
     ensures whole { IfOk result IsWholeLayout }
     ensures size { MatchResult result (λ layout. spec.image_size (spec.plan_of kept.now sections.now slots.now islands.now sizes.now command.now) < 2 ^ 32) (spec.IsTooLarge (spec.image_size (spec.plan_of kept.now sections.now slots.now islands.now sizes.now command.now))) }
 {
@@ -150,6 +152,7 @@ fn finished(alloc: Global, laid: Laid, base: u128) -> Result<Layout, PlaceFault>
     ensures segments { IfOk result (λ layout. layout.segments ≡ laid.segments.items ++ spec.linkedit (capped laid.end) (capped laid.file) ∷ []) }
     ensures sections { IfOk result (λ layout. layout.sections ≡ laid.sections.items) }
     ensures places { IfOk result (λ layout. IsPermutation laid.placed.items layout.placed) }
+    ensures order { IfOk result (λ layout. IsSorted (on (λ (p : Placed). p.atom) compare_keys) layout.placed) }
     ensures size { MatchResult result (λ layout. laid.end - base < 2 ^ 32) (spec.IsTooLarge (laid.end - base)) }
 {
     let size = laid.end - base;

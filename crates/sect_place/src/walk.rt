@@ -93,7 +93,8 @@ fn bytes_behind(areas: &[IslandArea], unit: u8, key: &AtomKey) -> Result<u128, O
     }
 }
 
-fn area_bytes(unit: u8, count: usize) -> Result<u128, OutOfMemory>
+// How many bytes an area of so many islands has.
+pub(crate) fn area_bytes(unit: u8, count: usize) -> Result<u128, OutOfMemory>
     requires { unit ≤ 14 }
     ensures { IfOk result (λ bytes. bytes ≡ spec.islands_bytes unit count) }
 {

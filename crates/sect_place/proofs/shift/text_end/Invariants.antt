@@ -1,0 +1,6 @@
+use Rattle.std.proofs.Common.{◌≡◌, drop}
+use Rattle.sect_place.specs.Shifts.{text_end_from}
+use Rattle.sect_place.proofs.shift.text_end.Given as goal
+
+abbrev pub invariant-loop-placed : goal.invariant-loop-placed
+invariant-loop-placed l = text_end_from l.end (drop l.placed-index l.sections) ≡ text_end_from 0 l.sections
