@@ -39,77 +39,6 @@ gather_step {X = X} {Y = Y} before now next f xs i x so low is more = record {
 pub gather_end : {X Y : Type 0} (before now : List Y) (f : X → List Y) (xs : List X) (i : ℕ) → IsGathering before now f xs i → length xs ≤ i → now ≡ before ++ flat_map f xs
 gather_end {X = X} {Y = Y} before now f xs i so past = so.gathered ∙ ap (λ (ys : List X). before ++ flat_map f ys) (take_all i xs past)
 
--- ---- what names ask for
-
-filter_append : {X : Type 0} (p : X → Bool) (xs ys : List X) → filter p (xs ++ ys) ≡ filter p xs ++ filter p ys
-filter_append p [] ys = refl
-filter_append {X = X} p (x ∷ xs) ys = by (filter_append p xs ys) (p x) refl
-  where
-    by : filter p (xs ++ ys) ≡ filter p xs ++ filter p ys → (b : Bool) → p x ≡ b → filter p ((x ∷ xs) ++ ys) ≡ filter p (x ∷ xs) ++ filter p ys
-    by rest true e = rw e (ap (λ (zs : List X). x ∷ zs) rest)
-    by rest false e = rw e rest
-
-module _ (has : List ℕ → Bool) (inputs : List Input) (libs : LibraryGraph) where
-  pub asked_append : (xs ys : List (List ℕ)) → asked_of has inputs libs (xs ++ ys) ≡ asked_of has inputs libs xs ++ asked_of has inputs libs ys
-  unfolding asked_of
-  asked_append xs ys = ap (filter_map (asked_by inputs libs)) (filter_append (λ name. not (has name)) xs ys) ∙ filter_map-append (asked_by inputs libs) (filter (λ name. not (has name)) xs) (filter (λ name. not (has name)) ys)
-
-  pub asked_nothing : asked_of has inputs libs [] ≡ []
-  unfolding asked_of
-  asked_nothing = refl
-
-  pub asked_flat : {X : Type 0} (g : X → List (List ℕ)) (xs : List X) → flat_map (λ x. asked_of has inputs libs (g x)) xs ≡ asked_of has inputs libs (flat_map g xs)
-  asked_flat g [] = sym asked_nothing
-  asked_flat g (x ∷ xs) = ap (λ (ids : List FileId). asked_of has inputs libs (g x) ++ ids) (asked_flat g xs) ∙ sym (asked_append (g x) (flat_map g xs))
-
-  pub asked_each : (names : List (List ℕ)) → flat_map (λ name. asked_of has inputs libs (name ∷ [])) names ≡ asked_of has inputs libs names
-  asked_each names = asked_flat (λ name. name ∷ []) names ∙ ap (asked_of has inputs libs) (alone names)
-    where
-      alone : (ns : List (List ℕ)) → flat_map (λ name. name ∷ []) ns ≡ ns
-      alone [] = refl
-      alone (n ∷ ns) = ap (λ (l : List (List ℕ)). n ∷ l) (alone ns)
-
-  -- ---- loops
-
-  pub symbols_asked : (before now : List FileId) (symbols : List Symbol) (i : ℕ) → IsGathering before now (λ symbol. asked_of has inputs libs (undefined_name symbol)) symbols i → length symbols ≤ i → now ≡ before ++ asked_of has inputs libs (undefined_of symbols)
-  symbols_asked before now symbols i so past = gather_end before now (λ symbol. asked_of has inputs libs (undefined_name symbol)) symbols i so past ∙ ap (λ (ids : List FileId). before ++ ids) (asked_flat undefined_name symbols ∙ ap (asked_of has inputs libs) (sym (undefined_are symbols)))
-    where
-      undefined_are : (ss : List Symbol) → undefined_of ss ≡ flat_map undefined_name ss
-      undefined_are [] = refl
-      undefined_are (s ∷ ss) = by (undefined_are ss) (is_undefined s.kind) refl
-        where
-          by : undefined_of ss ≡ flat_map undefined_name ss → (b : Bool) → is_undefined s.kind ≡ b → undefined_of (s ∷ ss) ≡ flat_map undefined_name (s ∷ ss)
-          by rest true e = rw e (ap (λ (l : List (List ℕ)). s.name ∷ l) rest)
-          by rest false e = rw e rest
-
-  pub files_asked : (now : List FileId) (files : List LoadedFile) (i : ℕ) → IsGathering [] now (λ file. asked_of has inputs libs (undefined_in file)) files i → length files ≤ i → now ≡ asked_of has inputs libs (flat_map undefined_in files)
-  files_asked now files i so past = gather_end [] now (λ file. asked_of has inputs libs (undefined_in file)) files i so past ∙ asked_flat undefined_in files
-
-  pub names_asked : (before now : List FileId) (first names : List (List ℕ)) (i : ℕ) → IsGathering before now (λ name. asked_of has inputs libs (name ∷ [])) names i → length names ≤ i → before ≡ asked_of has inputs libs first → now ≡ asked_of has inputs libs (first ++ names)
-  names_asked before now first names i so past is = gather_end before now (λ name. asked_of has inputs libs (name ∷ [])) names i so past ∙ ap (λ (ids : List FileId). before ++ ids) (asked_each names) ∙ ap (λ (ids : List FileId). ids ++ asked_of has inputs libs names) is ∙ sym (asked_append first names)
-
-pub defined_asks_nothing : (has : List ℕ → Bool) (inputs : List Input) (libs : LibraryGraph) (before : List FileId) (symbol : Symbol) → is_undefined symbol.kind ≡ false → before ≡ before ++ asked_of has inputs libs (undefined_name symbol)
-defined_asks_nothing has inputs libs before symbol is = rw is (sym (ap (λ (ids : List FileId). before ++ ids) (asked_nothing has inputs libs) ∙ append-nil before))
-
-pub undefined_asks : (has : List ℕ → Bool) (inputs : List Input) (libs : LibraryGraph) (before after : List FileId) (symbol : Symbol) → is_undefined symbol.kind ≡ true → after ≡ before ++ asked_of has inputs libs (symbol.name ∷ []) → after ≡ before ++ asked_of has inputs libs (undefined_name symbol)
-undefined_asks has inputs libs before after symbol is are = rw is are
-
-pub ruleset asks_nothing = (defined_asks_nothing, undefined_asks)
-
-pub name_asks : (has : List ℕ → Bool) (inputs : List Input) (libs : LibraryGraph) (before after : List FileId) (name : List ℕ) (id : FileId) → has name ≡ false → Some id ≡ asked_by inputs libs name → after ≡ before ++ id ∷ [] → after ≡ before ++ asked_of has inputs libs (name ∷ [])
-unfolding asked_of
-name_asks has inputs libs before after name id missing is are = rw (missing, ← is) are
-
-pub name_asks_nobody : (has : List ℕ → Bool) (inputs : List Input) (libs : LibraryGraph) (before : List FileId) (name : List ℕ) → has name ≡ false → None ≡ asked_by inputs libs name → before ≡ before ++ asked_of has inputs libs (name ∷ [])
-unfolding asked_of
-name_asks_nobody has inputs libs before name missing is = rw (missing, ← is) (sym (append-nil before))
-
-pub name_is_there : (has : List ℕ → Bool) (inputs : List Input) (libs : LibraryGraph) (before : List FileId) (name : List ℕ) → has name ≡ true → before ≡ before ++ asked_of has inputs libs (name ∷ [])
-unfolding asked_of
-name_is_there has inputs libs before name there = rw there (sym (append-nil before))
-
-pub ruleset one_name = (name_asks, name_asks_nobody, name_is_there)
-
 -- ---- ids
 
 pub ids_gathered : (now : List FileId) (sources : List Source) (i : ℕ) → IsGathering [] now (λ source. ids_in source.input) sources i → length sources ≤ i → now ≡ all_ids (inputs_of sources)
@@ -135,6 +64,4 @@ members_end before now position i n so is = so.are ∙ ap (λ (m : ℕ). before 
 
 pub ruleset members = (members_start, members_step, members_end)
 
-pub ruleset gathers = (gather_start, gather_empty, gather_step, files_asked, names_asked, ids_gathered)
-
-pub ruleset symbols = (gather_start, gather_step, symbols_asked)
+pub ruleset gathers = (gather_empty, gather_step, ids_gathered)

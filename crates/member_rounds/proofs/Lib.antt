@@ -8,6 +8,7 @@ pub mod JobLemmas
 pub mod LeastLemmas
 pub mod LinkLemmas
 pub mod NoteLemmas
+pub mod OfferedLemmas
 pub mod OfferLemmas
 pub mod OrderLemmas
 pub mod PieceLemmas
@@ -18,6 +19,7 @@ pub mod RiseLemmas
 pub mod RoundLemmas
 pub mod SearchLemmas
 pub mod SetLemmas
+pub mod SettledLemmas
 pub mod StateLemmas
 pub mod StepLemmas
 pub mod TakeLemmas

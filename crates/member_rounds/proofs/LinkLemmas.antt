@@ -30,9 +30,10 @@ use Rattle.member_rounds.specs.declared.loading.Link.{Link}
 use Rattle.member_rounds.specs.declared.sources.Source.{Source}
 use Rattle.member_rounds.specs.inner.Holding.{AreReadable}
 use Rattle.member_rounds.specs.inner.Linking.{IsLinkAt}
-use Rattle.member_rounds.specs.inner.Working.{AreKept, IsBetween, asked_of, first_names, lists, read_each}
+use Rattle.member_rounds.specs.inner.Working.{AreKept, HaveAsked, IsBetween, first_names, lists, read_each}
 use Rattle.member_rounds.proofs.CountLemmas.{names_grow}
 use Rattle.member_rounds.proofs.FileLemmas.{few_ids, ids_rise}
+use Rattle.member_rounds.proofs.SettledLemmas.{none_settled}
 use Rattle.member_rounds.proofs.StateLemmas.{all_from, all_has, named_in, union_rises}
 use Rattle.member_rounds.proofs.StepLemmas.{ends_early, ends_late, in_order, names_fail, next_round, read_fails, sorted_rises}
 use Rattle.member_rounds.proofs.WorkLemmas.{fresh_in, from_all, in_either, in_left, in_right}
@@ -77,21 +78,17 @@ spare_enough inputs libs wanted link files more count so is few low =
 
 -- ---- the begin
 
-no_candidates : (name : List ℕ) → lists [] name ≡ has_candidate [] name
-unfolding has_candidate candidates
-no_candidates name = refl
-
 first_round : (inputs : List Input) (libs : LibraryGraph) (wanted : List (List ℕ)) → after (all_ids inputs) (is_first inputs) (asks inputs libs wanted) 0 ≡ filter (is_first inputs) (all_ids inputs)
 unfolding after
 first_round inputs libs wanted = refl
 
-pub link_begins : (inputs : List Input) (libs : LibraryGraph) (wanted : List (List ℕ)) (all : List FileId) (link : Link) → all ≡ all_ids inputs → link.rounds ≡ 0 → link.kept.files ≡ [] → link.named ≡ [] → link.new.items ≡ filter (is_first inputs) all → ((id : FileId) → is_in link.left id ≡ (is_in all id && not (is_in link.new.items id))) → link.spare ≤ 2 ^ 24 → (0 < link.spare → length wanted + link.spare ≤ 2 ^ 24) → IsLinkAt inputs libs wanted link
-link_begins inputs libs wanted all link are none nothing unnamed first left limit enough =
+pub link_begins : (inputs : List Input) (libs : LibraryGraph) (wanted : List (List ℕ)) (all : List FileId) (link : Link) → all ≡ all_ids inputs → link.rounds ≡ 0 → link.kept.files ≡ [] → link.settled ≡ [] → link.new.items ≡ filter (is_first inputs) all → ((id : FileId) → is_in link.left id ≡ (is_in all id && not (is_in link.new.items id))) → link.spare ≤ 2 ^ 24 → (0 < link.spare → length wanted + link.spare ≤ 2 ^ 24) → IsLinkAt inputs libs wanted link
+link_begins inputs libs wanted all link are none nothing unsettled first left limit enough =
     let new : link.new.items ≡ after (all_ids inputs) (is_first inputs) (asks inputs libs wanted) 0 = first ∙ ap (filter (is_first inputs)) are ∙ sym (first_round inputs libs wanted) in
     record {
-      between = subst (λ (k : ℕ). IsBetween inputs libs wanted k link.kept.files link.named link.left link.new.items) (sym none) (record {
+      between = subst (λ (k : ℕ). IsBetween inputs libs wanted k link.kept.files link.settled link.left link.new.items) (sym none) (record {
         files = subst (λ (fs : List LoadedFile). AreKept inputs [] fs) (sym nothing) (record { ids = IsPermutation-refl []; read = λ k d low. absurd (omega (arith, low)) });
-        named_are = λ name. ap (λ (ns : List (List ℕ)). lists ns name) unnamed ∙ no_candidates name ∙ ap (λ (fs : List LoadedFile). has_candidate fs name) (sym nothing);
+        settled_are = none_settled inputs libs link.kept.files link.settled link.left nothing unsettled;
         left_are = λ id. left id ∙ ap (λ (ids : List FileId). is_in ids id && not (is_in link.new.items id)) are ∙ ap (λ (ids : List FileId). is_in (all_ids inputs) id && not (is_in ids id)) new;
         new_are = new;
         no_fault = λ j low. absurd (omega (arith, low));
@@ -109,34 +106,37 @@ all_both xs ys one two = all_from IsWholeFile (xs ++ ys) (λ file there. elim (i
   | inr r ↦ all_has IsWholeFile ys file two r
 ])
 
-pub link_goes_on : (inputs : List Input) (libs : LibraryGraph) (wanted : List (List ℕ)) (link next : Link) (files : List LoadedFile) (asked : List FileId)
+pub asked_over : (inputs also : List Input) (libs : LibraryGraph) (before asked : List FileId) (settled after names : List (List ℕ)) → also ≡ inputs → HaveAsked also libs before settled asked after names → HaveAsked inputs libs before settled asked after names
+asked_over inputs also libs before asked settled after names same have = subst (λ (all : List Input). HaveAsked all libs before settled asked after names) same have
+
+pub link_goes_on : (inputs : List Input) (libs : LibraryGraph) (wanted : List (List ℕ)) (link next : Link) (files : List LoadedFile) (noted : List (List ℕ)) (asked : List FileId)
     → AreInOrder inputs
     → IsLinkAt inputs libs wanted link
     → read_each inputs link.new.items ≡ Ok files
     → All IsWholeFile files
     → next.rounds ≡ link.rounds + 1
     → next.kept.files ≡ link.kept.files ++ files
-    → ((name : List ℕ) → lists next.named name ≡ (lists link.named name || has_candidate files name))
+    → ((name : List ℕ) → lists noted name ≡ (lists link.settled name || has_candidate files name))
     → names_fault next.kept.files wanted ≡ None
-    → asked ≡ asked_of (lists next.named) inputs libs (flat_map undefined_in files ++ first_names wanted link.rounds)
+    → HaveAsked inputs libs [] noted asked next.settled (flat_map undefined_in files ++ first_names wanted link.rounds)
     → ((id : FileId) → is_in next.left id ≡ (is_in link.left id && not (is_in asked id)))
     → IsStrictlySortedBy compare_files next.new.items
     → ((id : FileId) → is_in next.new.items id ≡ (is_in link.left id && is_in asked id))
     → length (numbered (external_names next.kept.files ++ wanted)) + next.spare ≤ 2 ^ 24
     → IsLinkAt inputs libs wanted next
-link_goes_on inputs libs wanted link next files asked order so is whole more grown learnt fine are left rises new spare = record {
-  between = subst (λ (k : ℕ). IsBetween inputs libs wanted k next.kept.files next.named next.left next.new.items) (sym (more ∙ add-one link.rounds))
-      (next_round inputs libs wanted link.rounds link.kept.files files next.kept.files link.named next.named link.left next.left link.new.items next.new.items asked (ids_rise inputs order) so.between is grown learnt fine are left rises new);
+link_goes_on inputs libs wanted link next files noted asked order so is whole more grown learnt fine have left rises new spare = record {
+  between = subst (λ (k : ℕ). IsBetween inputs libs wanted k next.kept.files next.settled next.left next.new.items) (sym (more ∙ add-one link.rounds))
+      (next_round inputs libs wanted link.rounds link.kept.files files next.kept.files link.settled noted next.settled link.left next.left link.new.items next.new.items asked (ids_rise inputs order) so.between is grown learnt fine have left rises new);
   whole = subst (λ (fs : List LoadedFile). All IsWholeFile fs) (sym grown) (all_both link.kept.files files so.whole whole);
   spare_limit = omega (arith, spare);
   spare_names = λ some. spare;
 }
 
 pub link_read_fails : (inputs : List Input) (libs : LibraryGraph) (wanted : List (List ℕ)) (link : Link) (fault : RoundFault) → IsLinkAt inputs libs wanted link → link.rounds < length (all_ids inputs) + 1 → read_each inputs link.new.items ≡ Err fault → loaded_of inputs libs wanted ≡ Err fault
-link_read_fails inputs libs wanted link fault so low is = read_fails inputs libs wanted link.rounds link.kept.files link.named link.left link.new.items fault so.between is low
+link_read_fails inputs libs wanted link fault so low is = read_fails inputs libs wanted link.rounds link.kept.files link.settled link.left link.new.items fault so.between is low
 
 pub link_names_fail : (inputs : List Input) (libs : LibraryGraph) (wanted : List (List ℕ)) (link : Link) (files more : List LoadedFile) (fault : RoundFault) → IsLinkAt inputs libs wanted link → link.rounds < length (all_ids inputs) + 1 → read_each inputs link.new.items ≡ Ok files → more ≡ link.kept.files ++ files → names_fault more wanted ≡ Some fault → loaded_of inputs libs wanted ≡ Err fault
-link_names_fail inputs libs wanted link files more fault so low is grown faulty = names_fail inputs libs wanted link.rounds link.kept.files files more link.named link.left link.new.items fault so.between is grown faulty low
+link_names_fail inputs libs wanted link files more fault so low is grown faulty = names_fail inputs libs wanted link.rounds link.kept.files files more link.settled link.left link.new.items fault so.between is grown faulty low
 
 -- ---- the end
 
@@ -154,10 +154,10 @@ module _ (inputs : List Input) (libs : LibraryGraph) (wanted : List (List ℕ)) 
   rise_of order = union_rises inputs libs wanted (ids_rise inputs order)
 
   early : (k : ℕ) → AreInOrder inputs → IsLinkAt inputs libs wanted link → link.rounds ≡ k + 1 → link.new.items ≡ [] → (loaded_of inputs libs wanted ≡ Ok (record { files = files_of inputs (loaded_ids inputs libs wanted) })) × AreKept inputs (loaded_ids inputs libs wanted) link.kept.files
-  early k order so is none = ends_early inputs libs wanted k link.kept.files link.named link.left link.new.items (ids_rise inputs order) (subst (λ (j : ℕ). IsBetween inputs libs wanted j link.kept.files link.named link.left link.new.items) (is ∙ add-one k) so.between) none
+  early k order so is none = ends_early inputs libs wanted k link.kept.files link.settled link.left link.new.items (ids_rise inputs order) (subst (λ (j : ℕ). IsBetween inputs libs wanted j link.kept.files link.settled link.left link.new.items) (is ∙ add-one k) so.between) none
 
   late : IsLinkAt inputs libs wanted link → link.rounds ≡ length (all_ids inputs) + 1 → (loaded_of inputs libs wanted ≡ Ok (record { files = files_of inputs (loaded_ids inputs libs wanted) })) × AreKept inputs (loaded_ids inputs libs wanted) link.kept.files
-  late so is = ends_late inputs libs wanted link.kept.files link.named link.left link.new.items (subst (λ (j : ℕ). IsBetween inputs libs wanted j link.kept.files link.named link.left link.new.items) (is ∙ add-one (length (all_ids inputs))) so.between)
+  late so is = ends_late inputs libs wanted link.kept.files link.settled link.left link.new.items (subst (λ (j : ℕ). IsBetween inputs libs wanted j link.kept.files link.settled link.left link.new.items) (is ∙ add-one (length (all_ids inputs))) so.between)
 
   pub early_exact : (k : ℕ) → AreInOrder inputs → IsLinkAt inputs libs wanted link → link.rounds ≡ k + 1 → link.new.items ≡ [] → IsPermutation link.kept.files loaded.files → IsSortedBy (λ a b. is_lt (compare_files a.id b.id)) loaded.files → loaded_of inputs libs wanted ≡ Ok loaded
   early_exact k order so is none moved sorted = let e = early k order so is none in loaded_by (loaded_ids inputs libs wanted) e.1 (rise_of order) e.0 moved sorted

@@ -29,8 +29,9 @@ use Rattle.member_rounds.specs.Files.{all_ids, file_of}
 use Rattle.member_rounds.specs.Rounds.{asked_by, asks, files_of, has_candidate, is_first, loaded_ids, loaded_of, names_fault, new_ids, round, round_fault, undefined_in}
 use Rattle.member_rounds.specs.declared.fault.RoundFault.{RoundFault}
 use Rattle.member_rounds.specs.declared.input.Input.{Input}
-use Rattle.member_rounds.specs.inner.Working.{AreKept, IsBetween, asked_of, first_names, lists, read_each}
+use Rattle.member_rounds.specs.inner.Working.{AreKept, AreSettled, HaveAsked, IsBetween, asked_of, first_names, lists, read_each}
 use Rattle.member_rounds.proofs.GrowthLemmas.{has_from_in, in_from_has, round_ends}
+use Rattle.member_rounds.proofs.SettledLemmas.{after_settled, asked_alike, noted_settled}
 use Rattle.member_rounds.proofs.WorkLemmas.{asking, fresh_in, fresh_or_before, or_cases, next_is, round_brings, same_tests, stays_in}
 use Rattle.member_rounds.proofs.StateLemmas.{all_has, each_err, each_ok, kept_candidates, fresh_rises, kept_more, kept_names, round_rises, same_ids}
 
@@ -100,6 +101,14 @@ algebra true false true = refl
 algebra true false false = refl
 algebra false r asked = refl
 
+under : (a b c : Bool) → (a ≡ true → b ≡ c) → (a && b) ≡ (a && c)
+under true b c same = same refl
+under false b c same = refl
+
+under_not : (a b c : Bool) → (a ≡ true → b ≡ c) → (a && not b) ≡ (a && not c)
+under_not true b c same = ap not (same refl)
+under_not false b c same = refl
+
 module _ (inputs : List Input) (libs : LibraryGraph) (wanted : List (List ℕ)) where
   abbrev among : ℕ → List FileId
   among k = round inputs libs wanted k
@@ -160,39 +169,44 @@ module _ (inputs : List Input) (libs : LibraryGraph) (wanted : List (List ℕ)) 
       or_right true b e = refl
       or_right false b e = e
 
-  pub read_fails : (k : ℕ) (kept : List LoadedFile) (named : List (List ℕ)) (left new : List FileId) (fault : RoundFault) → IsBetween inputs libs wanted k kept named left new → read_each inputs new ≡ Err fault → k < ended + 1 → loaded_of inputs libs wanted ≡ Err fault
-  read_fails k kept named left new fault so is low = loaded_fails k fault low so.no_fault (fault_of_file k fault (each_err inputs (fresh k) fault (subst (λ (ids : List FileId). read_each inputs ids ≡ Err fault) so.new_are is)))
+  pub read_fails : (k : ℕ) (kept : List LoadedFile) (settled : List (List ℕ)) (left new : List FileId) (fault : RoundFault) → IsBetween inputs libs wanted k kept settled left new → read_each inputs new ≡ Err fault → k < ended + 1 → loaded_of inputs libs wanted ≡ Err fault
+  read_fails k kept settled left new fault so is low = loaded_fails k fault low so.no_fault (fault_of_file k fault (each_err inputs (fresh k) fault (subst (λ (ids : List FileId). read_each inputs ids ≡ Err fault) so.new_are is)))
 
-  pub names_fail : (k : ℕ) (kept files more : List LoadedFile) (named : List (List ℕ)) (left new : List FileId) (fault : RoundFault) → IsBetween inputs libs wanted k kept named left new → read_each inputs new ≡ Ok files → more ≡ kept ++ files → names_fault more wanted ≡ Some fault → k < ended + 1 → loaded_of inputs libs wanted ≡ Err fault
-  names_fail k kept files more named left new fault so is grown faulty low =
+  pub names_fail : (k : ℕ) (kept files more : List LoadedFile) (settled : List (List ℕ)) (left new : List FileId) (fault : RoundFault) → IsBetween inputs libs wanted k kept settled left new → read_each inputs new ≡ Ok files → more ≡ kept ++ files → names_fault more wanted ≡ Some fault → k < ended + 1 → loaded_of inputs libs wanted ≡ Err fault
+  names_fail k kept files more settled left new fault so is grown faulty low =
       let read : read_each inputs (fresh k) ≡ Ok files = subst (λ (ids : List FileId). read_each inputs ids ≡ Ok files) so.new_are is in
       let are : AreKept inputs (among k) more = kept_more inputs libs wanted k kept files more so.files read grown in
       loaded_fails k fault low so.no_fault (fault_of_names k (Some fault) (each_ok inputs (fresh k) files read).0 (sym (kept_names inputs (among k) more wanted are) ∙ faulty))
 
-  pub next_round : (k : ℕ) (kept files more : List LoadedFile) (named known : List (List ℕ)) (left rest new next asked : List FileId)
+  pub next_round : (k : ℕ) (kept files more : List LoadedFile) (settled noted after : List (List ℕ)) (left rest new next asked : List FileId)
       → IsStrictlySortedBy compare_files (all_ids inputs)
-      → IsBetween inputs libs wanted k kept named left new
+      → IsBetween inputs libs wanted k kept settled left new
       → read_each inputs new ≡ Ok files
       → more ≡ kept ++ files
-      → ((name : List ℕ) → lists known name ≡ (lists named name || has_candidate files name))
+      → ((name : List ℕ) → lists noted name ≡ (lists settled name || has_candidate files name))
       → names_fault more wanted ≡ None
-      → asked ≡ asked_of (lists known) inputs libs (flat_map undefined_in files ++ first_names wanted k)
+      → HaveAsked inputs libs [] noted asked after (flat_map undefined_in files ++ first_names wanted k)
       → ((id : FileId) → is_in rest id ≡ (is_in left id && not (is_in asked id)))
       → IsStrictlySortedBy compare_files next
       → ((id : FileId) → is_in next id ≡ (is_in left id && is_in asked id))
-      → IsBetween inputs libs wanted (suc k) more known rest next
-  next_round k kept files more named known left rest new next asked rise so is grown learnt fine are rest_are rises next_are =
+      → IsBetween inputs libs wanted (suc k) more after rest next
+  next_round k kept files more settled noted after left rest new next asked rise so is grown learnt fine have rest_are rises next_are =
       let read : read_each inputs (fresh k) ≡ Ok files = subst (λ (ids : List FileId). read_each inputs ids ≡ Ok files) so.new_are is in
       let held : AreKept inputs (among k) more = kept_more inputs libs wanted k kept files more so.files read grown in
-      let known_are : (name : List ℕ) → lists known name ≡ has_candidate more name = (λ name. learnt name ∙ ap (λ b. b || has_candidate files name) (so.named_are name) ∙ sym (candidates_append kept files name) ∙ ap (λ (fs : List LoadedFile). has_candidate fs name) (sym grown)) in
-      let known_of : (name : List ℕ) → lists known name ≡ has_candidate (files_of inputs (among k)) name = (λ name. known_are name ∙ kept_candidates inputs (among k) more name held) in
-      let asked_are : asked ≡ asked_of (has_candidate (files_of inputs (among k))) inputs libs (asking inputs libs wanted k) = are ∙ same_asked (lists known) (has_candidate (files_of inputs (among k))) inputs libs (flat_map undefined_in files ++ first_names wanted k) known_of ∙ ap (λ (fs : List LoadedFile). asked_of (has_candidate (files_of inputs (among k))) inputs libs (flat_map undefined_in fs ++ first_names wanted k)) (each_files inputs (fresh k) files read) in
-      let brings : (id : FileId) → is_in (fresh (suc k)) id ≡ ((is_in (all_ids inputs) id && not (is_in (among k) id)) && is_in asked id) = round_brings inputs libs wanted k asked asked_are in
+      let more_are : (name : List ℕ) → has_candidate more name ≡ (has_candidate kept name || has_candidate files name) = (λ name. ap (λ (fs : List LoadedFile). has_candidate fs name) grown ∙ candidates_append kept files name) in
+      let noted_are : AreSettled inputs libs more noted left = noted_settled inputs libs kept files more settled noted left so.settled_are learnt more_are in
+      let names : List (List ℕ) = flat_map undefined_in files ++ first_names wanted k in
+      let same_names : names ≡ asking inputs libs wanted k = ap (λ (fs : List LoadedFile). flat_map undefined_in fs ++ first_names wanted k) (each_files inputs (fresh k) files read) in
+      let wholly : List FileId = asked_of (has_candidate (files_of inputs (among k))) inputs libs (asking inputs libs wanted k) in
+      let alike : (id : FileId) → is_in left id ≡ true → is_in asked id ≡ is_in wholly id = (λ id there.
+      asked_alike inputs libs more noted after names asked left have noted_are id there
+      ∙ ap (λ (ids : List FileId). is_in ids id) (same_asked (has_candidate more) (has_candidate (files_of inputs (among k))) inputs libs names (λ name. kept_candidates inputs (among k) more name held) ∙ ap (asked_of (has_candidate (files_of inputs (among k))) inputs libs) same_names)) in
+      let brings : (id : FileId) → is_in (fresh (suc k)) id ≡ ((is_in (all_ids inputs) id && not (is_in (among k) id)) && is_in wholly id) = round_brings inputs libs wanted k wholly refl in
       record {
         files = held;
-        named_are = known_are;
-        left_are = λ id. rest_are id ∙ ap (λ b. b && not (is_in asked id)) (so.left_are id) ∙ algebra (is_in (all_ids inputs) id) (is_in (among k) id) (is_in asked id) ∙ ap (λ b. is_in (all_ids inputs) id && not (is_in (among k) id || b)) (sym (brings id)) ∙ ap (λ b. is_in (all_ids inputs) id && not b) (sym (round_then k id));
-        new_are = same_ids next (fresh (suc k)) rises (fresh_rises inputs libs wanted (suc k) rise) (λ id. next_are id ∙ ap (λ b. b && is_in asked id) (so.left_are id) ∙ sym (brings id));
+        settled_are = after_settled inputs libs more noted after names asked left rest noted_are have rest_are;
+        left_are = λ id. rest_are id ∙ under_not (is_in left id) (is_in asked id) (is_in wholly id) (alike id) ∙ ap (λ b. b && not (is_in wholly id)) (so.left_are id) ∙ algebra (is_in (all_ids inputs) id) (is_in (among k) id) (is_in wholly id) ∙ ap (λ b. is_in (all_ids inputs) id && not (is_in (among k) id || b)) (sym (brings id)) ∙ ap (λ b. is_in (all_ids inputs) id && not b) (sym (round_then k id));
+        new_are = same_ids next (fresh (suc k)) rises (fresh_rises inputs libs wanted (suc k) rise) (λ id. next_are id ∙ under (is_in left id) (is_in asked id) (is_in wholly id) (alike id) ∙ ap (λ b. b && is_in wholly id) (so.left_are id) ∙ sym (brings id));
         no_fault = λ j below. elim (below_or_at j k below) [
           | inl less ↦ so.no_fault j less
           | inr e ↦ subst (λ (m : ℕ). round_fault inputs libs wanted m ≡ None) (sym e) (fault_of_names k None (each_ok inputs (fresh k) files read).0 (sym (kept_names inputs (among k) more wanted held) ∙ fine))
@@ -220,8 +234,8 @@ module _ (inputs : List Input) (libs : LibraryGraph) (wanted : List (List ℕ)) 
           step_by : (xs ys : List FileId) (a b : ℕ) → among a ≡ xs → among b ≡ ys → xs ≡ ys → among (suc a) ≡ among (suc b)
           step_by xs ys a b ea eb e = next_is (all_ids inputs) (is_first inputs) (asks inputs libs wanted) a ∙ ap (λ (zs : List FileId). filter (λ x. is_in zs x || asks inputs libs wanted zs x) (all_ids inputs)) (ea ∙ e ∙ sym eb) ∙ sym (next_is (all_ids inputs) (is_first inputs) (asks inputs libs wanted) b)
 
-  pub ends_early : (k : ℕ) (kept : List LoadedFile) (named : List (List ℕ)) (left new : List FileId) → IsStrictlySortedBy compare_files (all_ids inputs) → IsBetween inputs libs wanted (suc k) kept named left new → new ≡ [] → (loaded_of inputs libs wanted ≡ Ok (record { files = files_of inputs (loaded_ids inputs libs wanted) })) × AreKept inputs (loaded_ids inputs libs wanted) kept
-  ends_early k kept named left new rise so none =
+  pub ends_early : (k : ℕ) (kept : List LoadedFile) (settled : List (List ℕ)) (left new : List FileId) → IsStrictlySortedBy compare_files (all_ids inputs) → IsBetween inputs libs wanted (suc k) kept settled left new → new ≡ [] → (loaded_of inputs libs wanted ≡ Ok (record { files = files_of inputs (loaded_ids inputs libs wanted) })) × AreKept inputs (loaded_ids inputs libs wanted) kept
+  ends_early k kept settled left new rise so none =
       let no_new : fresh (suc k) ≡ [] = sym so.new_are ∙ none in
       let same : among (suc k) ≡ among k = same_ids (among (suc k)) (among k) (round_rises inputs libs wanted (suc k) rise) (round_rises inputs libs wanted k rise) (λ id. round_then k id ∙ ap (λ (ids : List FileId). is_in (among k) id || is_in ids id) no_new ∙ or_nothing (is_in (among k) id)) in
       let last : loaded_ids inputs libs wanted ≡ among k = last_is k same in
@@ -252,8 +266,8 @@ module _ (inputs : List Input) (libs : LibraryGraph) (wanted : List (List ℕ)) 
           let nothing : fresh (suc i) ≡ [] = ap₂ (λ (xs ys : List FileId). filter (λ id. not (is_in xs id)) ys) one (two ∙ sym same) ∙ no_new in
           fault_of_names (suc i) None (ap (first_some (λ id. result_err (file_of inputs id))) nothing) (ap (λ (ids : List FileId). names_fault (files_of inputs ids) wanted) two ∙ names_of_fault k (before_none k (omega arith)))
 
-  pub ends_late : (kept : List LoadedFile) (named : List (List ℕ)) (left new : List FileId) → IsBetween inputs libs wanted (suc ended) kept named left new → (loaded_of inputs libs wanted ≡ Ok (record { files = files_of inputs (loaded_ids inputs libs wanted) })) × AreKept inputs (loaded_ids inputs libs wanted) kept
-  ends_late kept named left new so =
+  pub ends_late : (kept : List LoadedFile) (settled : List (List ℕ)) (left new : List FileId) → IsBetween inputs libs wanted (suc ended) kept settled left new → (loaded_of inputs libs wanted ≡ Ok (record { files = files_of inputs (loaded_ids inputs libs wanted) })) × AreKept inputs (loaded_ids inputs libs wanted) kept
+  ends_late kept settled left new so =
       (loaded_holds (λ j low. so.no_fault j (omega (arith, low))), subst (λ (ids : List FileId). AreKept inputs ids kept) (round_ends (all_ids inputs) (is_first inputs) (asks inputs libs wanted) ended (le_refl ended)) so.files)
 
 -- ---- the files in order

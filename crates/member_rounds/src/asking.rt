@@ -1,17 +1,25 @@
 //! The files for which the names of new files ask.
-ghost use Rattle.std.specs.Prelude.{◌≡◌, ◌++◌, [], ◌∷◌, IfOk};
+ghost use Rattle.std.specs.Prelude.{◌≡◌, ◌++◌, [], ◌∷◌, false, IfOk};
 ghost use Rattle.std.specs.List.{flat_map};
 ghost use Rattle.member_rounds.specs.Rounds as rounds;
 ghost use Rattle.member_rounds.specs.Rounds.{undefined_in};
-ghost use Rattle.member_rounds.specs.Sources.{inputs_of};
-ghost use Rattle.member_rounds.specs.inner.Working.{asked_of, lists, undefined_name, undefined_of};
+ghost use Rattle.member_rounds.specs.inner.Working.{HaveAsked, lists, undefined_name, undefined_of};
 
 use crate::asked::asked_by;
 use crate::name_set::NameSet;
-use crate::sources::Source;
+use crate::offer_index::OfferIndex;
 use lib_bind::Libraries;
 use mo_types::{Bytes, FileId, LoadedFile, OutOfMemory, Symbol, SymbolKind};
 use std::alloc::Global;
+
+/// What names have asked for.
+#[derive(Drop)]
+pub(crate) struct Asked {
+    /// The files.
+    pub(crate) ids: Vec<FileId>,
+    /// The names that needn't ask: those that have a candidate or have asked.
+    pub(crate) settled: NameSet,
+}
 
 fn is_undefined(symbol: &Symbol) -> bool
     ensures { result ≡ rounds.is_undefined symbol.now.kind }
@@ -19,113 +27,138 @@ fn is_undefined(symbol: &Symbol) -> bool
     matches!(symbol.kind, SymbolKind::Undefined)
 }
 
-// Files, and the one for which a name asks.
-#[tactic(auto, using(crate::proofs::GatherLemmas::one_name))]
-fn ask_name(
-    before: Vec<FileId>,
-    sources: &[Source],
+// With what a name asks for that isn't settled.
+#[tactic(auto, using(crate::proofs::SettledLemmas::one_name))]
+fn ask_new_name(
+    before: Asked,
+    offers: &OfferIndex,
     libs: &Libraries,
-    named: &NameSet,
     name: &Bytes,
-) -> Result<Vec<FileId>, OutOfMemory>
-    ensures { IfOk result (λ asked. asked.items ≡ before.items ++ asked_of (lists named.now) (inputs_of sources.now) libs.now (name.now ∷ [])) }
+) -> Result<Asked, OutOfMemory>
+    requires { lists before.settled name.now ≡ false }
+    ensures { IfOk result (λ after. HaveAsked offers.now libs.now before.ids.items before.settled after.ids.items after.settled (name.now ∷ [])) }
 {
-    if named.contains(name) {
-        return Ok(before);
-    }
-    match asked_by(sources, libs, name.as_slice()) {
+    let Asked { mut ids, settled } = before;
+    let settled = settled.with(name)?;
+    match asked_by(offers, libs, name.as_slice()) {
         Some(id) => {
-            let mut asked = before;
-            asked.push(id)?;
-            Ok(asked)
+            ids.push(id)?;
+            Ok(Asked { ids, settled })
         }
-        None => Ok(before),
+        None => Ok(Asked { ids, settled }),
     }
 }
 
-// Files, and the one for which a symbol asks, where it is undefined.
-#[tactic(auto, using(crate::proofs::GatherLemmas::asks_nothing))]
-fn ask_symbol(
-    before: Vec<FileId>,
-    sources: &[Source],
+// With what a name asks for.
+#[tactic(auto, using(crate::proofs::SettledLemmas::asked_before))]
+fn ask_name(
+    before: Asked,
+    offers: &OfferIndex,
     libs: &Libraries,
-    named: &NameSet,
+    name: &Bytes,
+) -> Result<Asked, OutOfMemory>
+    ensures { IfOk result (λ after. HaveAsked offers.now libs.now before.ids.items before.settled after.ids.items after.settled (name.now ∷ [])) }
+{
+    if before.settled.contains(name) {
+        return Ok(before);
+    }
+    ask_new_name(before, offers, libs, name)
+}
+
+// With what a symbol's name asks for, where it is undefined.
+#[tactic(auto, using(crate::proofs::SettledLemmas::one_symbol))]
+fn ask_symbol(
+    before: Asked,
+    offers: &OfferIndex,
+    libs: &Libraries,
     symbol: &Symbol,
-) -> Result<Vec<FileId>, OutOfMemory>
-    ensures { IfOk result (λ asked. asked.items ≡ before.items ++ asked_of (lists named.now) (inputs_of sources.now) libs.now (undefined_name symbol.now)) }
+) -> Result<Asked, OutOfMemory>
+    ensures { IfOk result (λ after. HaveAsked offers.now libs.now before.ids.items before.settled after.ids.items after.settled (undefined_name symbol.now)) }
 {
     if is_undefined(symbol) {
-        ask_name(before, sources, libs, named, &symbol.name)
+        ask_name(before, offers, libs, &symbol.name)
     } else {
         Ok(before)
     }
 }
 
-// Files, and those for which the undefined ones among some symbols ask.
-#[tactic(auto, using(crate::proofs::GatherLemmas::symbols))]
+// With what the names of the undefined ones among some symbols ask for.
+#[tactic(auto, using(crate::proofs::SettledLemmas::symbols))]
 fn ask_symbols(
-    before: Vec<FileId>,
-    sources: &[Source],
+    before: Asked,
+    offers: &OfferIndex,
     libs: &Libraries,
-    named: &NameSet,
     symbols: &[Symbol],
-) -> Result<Vec<FileId>, OutOfMemory>
-    ensures { IfOk result (λ asked. asked.items ≡ before.items ++ asked_of (lists named.now) (inputs_of sources.now) libs.now (undefined_of symbols.now)) }
+) -> Result<Asked, OutOfMemory>
+    ensures { IfOk result (λ after. HaveAsked offers.now libs.now before.ids.items before.settled after.ids.items after.settled (undefined_of symbols.now)) }
 {
     let mut asked = before;
     for symbol in symbols {
-        asked = ask_symbol(asked, sources, libs, named, symbol)?;
+        asked = ask_symbol(asked, offers, libs, symbol)?;
     }
     Ok(asked)
 }
 
-// Files, and those for which a file's names ask.
+// With what a file's names ask for.
 #[tactic(auto, unfolding(crate::specs::Rounds::undefined_in))]
 fn ask_file(
-    before: Vec<FileId>,
-    sources: &[Source],
+    before: Asked,
+    offers: &OfferIndex,
     libs: &Libraries,
-    named: &NameSet,
     file: &LoadedFile,
-) -> Result<Vec<FileId>, OutOfMemory>
-    ensures { IfOk result (λ asked. asked.items ≡ before.items ++ asked_of (lists named.now) (inputs_of sources.now) libs.now (undefined_in file.now)) }
+) -> Result<Asked, OutOfMemory>
+    ensures { IfOk result (λ after. HaveAsked offers.now libs.now before.ids.items before.settled after.ids.items after.settled (undefined_in file.now)) }
 {
-    ask_symbols(before, sources, libs, named, file.object.symbols.as_slice())
+    ask_symbols(before, offers, libs, file.object.symbols.as_slice())
 }
 
-// The files for which the names of files ask.
-#[tactic(auto, using(crate::proofs::GatherLemmas::gathers))]
+// With what the names of files ask for.
+#[tactic(auto, using(crate::proofs::SettledLemmas::files))]
 fn ask_files(
-    alloc: Global,
-    sources: &[Source],
+    before: Asked,
+    offers: &OfferIndex,
     libs: &Libraries,
-    named: &NameSet,
     files: &[LoadedFile],
-) -> Result<Vec<FileId>, OutOfMemory>
-    ensures { IfOk result (λ asked. asked.items ≡ asked_of (lists named.now) (inputs_of sources.now) libs.now (flat_map undefined_in files.now)) }
+) -> Result<Asked, OutOfMemory>
+    ensures { IfOk result (λ after. HaveAsked offers.now libs.now before.ids.items before.settled after.ids.items after.settled (flat_map undefined_in files.now)) }
 {
-    let mut asked = Vec::new(alloc);
+    let mut asked = before;
     for file in files {
-        asked = ask_file(asked, sources, libs, named, file)?;
+        asked = ask_file(asked, offers, libs, file)?;
     }
     Ok(asked)
 }
 
-/// The files for which the names that new files want ask, and some further names.
-#[tactic(auto, using(crate::proofs::GatherLemmas::gathers))]
+// With what names ask for.
+#[tactic(auto, using(crate::proofs::SettledLemmas::names))]
+fn ask_names(
+    before: Asked,
+    offers: &OfferIndex,
+    libs: &Libraries,
+    names: &[Bytes],
+) -> Result<Asked, OutOfMemory>
+    ensures { IfOk result (λ after. HaveAsked offers.now libs.now before.ids.items before.settled after.ids.items after.settled names.now) }
+{
+    let mut asked = before;
+    for name in names {
+        asked = ask_name(asked, offers, libs, name)?;
+    }
+    Ok(asked)
+}
+
+/// What the names ask for that new files want, and some further names, where they aren't settled. Each name asks once.
+#[tactic(auto, using(crate::proofs::SettledLemmas::both))]
 pub(crate) fn ask_all(
     alloc: Global,
-    sources: &[Source],
+    offers: &OfferIndex,
     libs: &Libraries,
-    named: &NameSet,
+    settled: NameSet,
     files: &[LoadedFile],
     names: &[Bytes],
-) -> Result<Vec<FileId>, OutOfMemory>
-    ensures { IfOk result (λ asked. asked.items ≡ asked_of (lists named.now) (inputs_of sources.now) libs.now (flat_map undefined_in files.now ++ names.now)) }
+) -> Result<Asked, OutOfMemory>
+    ensures { IfOk result (λ after. HaveAsked offers.now libs.now [] settled after.ids.items after.settled (flat_map undefined_in files.now ++ names.now)) }
 {
-    let mut asked = ask_files(alloc, sources, libs, named, files)?;
-    for name in names {
-        asked = ask_name(asked, sources, libs, named, name)?;
-    }
-    Ok(asked)
+    let ids = Vec::new(alloc);
+    let asked = ask_files(Asked { ids, settled }, offers, libs, files)?;
+    ask_names(asked, offers, libs, names)
 }

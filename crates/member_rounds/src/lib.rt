@@ -8,6 +8,7 @@ mod collecting;
 mod contents;
 mod counting;
 mod fault;
+mod files_by_name;
 mod id_set;
 mod in_order;
 mod input;
@@ -15,6 +16,7 @@ mod laws;
 mod loading;
 mod name_set;
 mod noting;
+mod offer_index;
 mod offering;
 mod racing;
 mod reading;
@@ -33,6 +35,7 @@ pub use laws::{
     words_are_the_least,
 };
 pub use loading::load;
+pub use offer_index::OfferIndex;
 pub use offering::offer_all;
 pub use racing::race_words;
 pub use reading::read_file;

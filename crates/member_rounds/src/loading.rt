@@ -17,15 +17,17 @@ ghost use Rattle.member_rounds.specs.Sources.{AreInOrder, inputs_of};
 ghost use Rattle.member_rounds.specs.inner.Holding.{AreReadable};
 ghost use Rattle.member_rounds.specs.inner.Linking.{IsLinkAt};
 ghost use Rattle.member_rounds.specs.inner.Working as working;
+ghost use Rattle.member_rounds.specs.inner.Working.{HaveAsked};
 
 use crate::all_files::{all_ids, first_ids};
-use crate::asking::ask_all;
+use crate::asking::{Asked, ask_all};
 use crate::counting::{first_spare, names_of, spare_names};
 use crate::fault::RoundFault;
 use crate::id_set::IdSet;
 use crate::in_order::put_in_order;
 use crate::name_set::NameSet;
 use crate::noting::note_files;
+use crate::offer_index::OfferIndex;
 use crate::round_reading::read_all;
 use crate::sources::Source;
 use crate::taking::{left_of, take_next};
@@ -42,8 +44,8 @@ pub(crate) struct Link {
     pub(crate) rounds: usize,
     /// The files that they brought, round by round.
     pub(crate) kept: Loaded,
-    /// The names that have a candidate in these.
-    pub(crate) named: NameSet,
+    /// The names that needn't ask: those that have a candidate in these or have asked.
+    pub(crate) settled: NameSet,
     /// The files for which no name has asked.
     pub(crate) left: IdSet,
     /// The files of the next round, by rising id.
@@ -106,12 +108,12 @@ fn begin(
     let new = first_ids(alloc, sources, all)?;
     let left = left_at(alloc, all, &new)?;
     let files = LoadedList::new(alloc);
-    let named = NameSet::new(alloc);
+    let settled = NameSet::new(alloc);
     let spare = first_spare(wanted);
     Ok(Link {
         rounds: 0,
         kept: Loaded { files },
-        named,
+        settled,
         left,
         new,
         spare,
@@ -135,26 +137,26 @@ fn read_new<R: Threads + Sync, G: Gate + Sync>(
 }
 
 // Names, and those of the candidates of new files.
-fn note_new(named: NameSet, read: &LoadedList) -> Result<NameSet, OutOfMemory>
-    ensures { IfOk result (λ new. (name : List ℕ) → working.lists new name ≡ (working.lists named name || has_candidate read.now name)) }
+fn note_new(settled: NameSet, read: &LoadedList) -> Result<NameSet, OutOfMemory>
+    ensures { IfOk result (λ new. (name : List ℕ) → working.lists new name ≡ (working.lists settled name || has_candidate read.now name)) }
 {
-    note_files(named, read.as_slice())
+    note_files(settled, read.as_slice())
 }
 
-// The files for which the names of new files ask, and in the first round those of the command line.
+// What the names of new files ask for, and in the first round those of the command line.
 fn ask_new(
     alloc: Global,
-    sources: &[Source],
+    offers: &OfferIndex,
     libs: &Libraries,
-    named: &NameSet,
+    settled: NameSet,
     read: &LoadedList,
     wanted: &NameList,
     rounds: usize,
-) -> Result<Vec<FileId>, OutOfMemory>
-    ensures { IfOk result (λ asked. asked.items ≡ working.asked_of (working.lists named.now) (inputs_of sources.now) libs.now (flat_map undefined_in read.now ++ working.first_names wanted.now rounds)) }
+) -> Result<Asked, OutOfMemory>
+    ensures { IfOk result (λ after. HaveAsked offers.now libs.now [] settled after.ids.items after.settled (flat_map undefined_in read.now ++ working.first_names wanted.now rounds)) }
 {
     let names = first_names(wanted, rounds);
-    ask_all(alloc, sources, libs, named, read.as_slice(), names)
+    ask_all(alloc, offers, libs, settled, read.as_slice(), names)
 }
 
 // No fewer names than new files have, up to the limit of names.
@@ -184,11 +186,13 @@ fn next_round<R: Threads + Sync, G: Gate + Sync>(
     gate: &G,
     workers: u32,
     sources: &[Source],
+    offers: &OfferIndex,
     libs: &Libraries,
     wanted: &NameList,
     link: Link,
 ) -> Result<Link, RoundFault>
     requires order { AreInOrder (inputs_of sources.now) }
+    requires offers { offers.now ≡ inputs_of sources.now }
     requires link { IsLinkAt (inputs_of sources.now) libs.now wanted.now link }
     requires rounds { link.rounds < length (files.all_ids (inputs_of sources.now)) + 1 }
     requires few { link.rounds < 2 ^ 63 }
@@ -203,24 +207,24 @@ fn next_round<R: Threads + Sync, G: Gate + Sync>(
     let Link {
         rounds,
         kept,
-        named,
+        settled,
         left,
         new: _,
         spare,
     } = link;
-    let named = note_new(named, &read)?;
-    let asked = ask_new(alloc, sources, libs, &named, &read, wanted, rounds)?;
+    let settled = note_new(settled, &read)?;
+    let Asked { ids, settled } = ask_new(alloc, offers, libs, settled, &read, wanted, rounds)?;
     let count = count_new(&read);
     let kept = with_files(kept, read)?;
     let spare = match spare_names(alloc, spare, count, &kept, wanted) {
         Ok(spare) => spare,
         Err(fault) => return Err(fault),
     };
-    let (left, new) = take_new(alloc, left, asked)?;
+    let (left, new) = take_new(alloc, left, ids)?;
     Ok(Link {
         rounds: rounds + 1,
         kept,
-        named,
+        settled,
         left,
         new,
         spare,
@@ -252,10 +256,13 @@ pub fn load<R: Threads + Sync, G: Gate + Sync>(
     ensures exact { Gives IsRoundFault result (loaded_of (inputs_of sources.now) libs.now wanted.now) }
     ensures whole { IfOk result IsWholeLoaded }
 {
+    let offers = OfferIndex::new(alloc, sources)?;
     let all = all_ids(alloc, sources)?;
     let mut link = begin(alloc, sources, all.as_slice(), wanted)?;
     for round in 0..all.len() + 1 {
-        link = match next_round(rt, alloc, gate, workers, sources, libs, wanted, link) {
+        link = match next_round(
+            rt, alloc, gate, workers, sources, &offers, libs, wanted, link,
+        ) {
             Ok(next) => next,
             Err(fault) => return Err(fault),
         };

@@ -77,7 +77,7 @@ fn pieces_of<R: Threads + Sync, G: Gate + Sync>(
     requires files { AreReadable sources.now ids.now }
     ensures { IfOk result (λ pieces. ArePieces (inputs_of sources.now) ids.now pieces.items) }
 {
-    let seats = vec![in alloc; 0u32; workers.max(1) as usize]?;
+    let seats = vec![in alloc; 0u32; (workers as usize).min(ids.len()).max(1)]?;
     let task = Reading {
         alloc,
         sources,

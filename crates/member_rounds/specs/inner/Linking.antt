@@ -8,7 +8,7 @@ use Rattle.member_rounds.specs.declared.loading.Link.{Link}
 use Rattle.member_rounds.specs.inner.Working.{IsBetween}
 
 pub record IsLinkAt (inputs : List Input) (libs : LibraryGraph) (wanted : List (List ℕ)) (link : Link) : Type 0 where
-  pub between : IsBetween inputs libs wanted link.rounds link.kept.files link.named link.left link.new.items
+  pub between : IsBetween inputs libs wanted link.rounds link.kept.files link.settled link.left link.new.items
   pub whole : All IsWholeFile link.kept.files
   pub spare_limit : link.spare ≤ 2 ^ 24
   pub spare_names : 0 < link.spare → length (numbered (external_names link.kept.files ++ wanted)) + link.spare ≤ 2 ^ 24

@@ -1,5 +1,5 @@
 -- A link between two of its rounds.
-use Rattle.std.specs.Prelude.{◌≡◌, ℕ, zero, suc, ◌<◌, ◌&&◌, ◌++◌, Bool, not, List, [], ◌∷◌, map, filter, All, None, Result, Ok, IfOk, length, slice_index_or, if◌then◌else◌}
+use Rattle.std.specs.Prelude.{◌≡◌, ℕ, zero, suc, ◌<◌, ◌&&◌, ◌||◌, ◌⊎◌, ◌++◌, Bool, true, false, not, List, [], ◌∷◌, map, filter, All, Some, None, Result, Ok, IfOk, length, slice_index_or, if◌then◌else◌}
 use Rattle.std.specs.List.{filter_map, list_any}
 use Rattle.std.specs.List.Sorted.{IsPermutation}
 use Rattle.std.specs.Str.{bytes_eq}
@@ -82,11 +82,23 @@ pub record AreKept (inputs : List Input) (among : List FileId) (kept : List Load
   pub ids : IsPermutation among (map (λ file. file.id) kept)
   pub read : All (λ file. file_of inputs file.id ≡ Ok file) kept
 
--- a link before a round: the files so far, the names that have a candidate there, the files that are left, those of the
--- round, and no fault before
-pub record IsBetween (inputs : List Input) (libs : LibraryGraph) (wanted : List (List ℕ)) (k : ℕ) (kept : List LoadedFile) (named : List (List ℕ)) (left new : List FileId) : Type 0 where
+-- what names asked for: each that wasn't settled for the member that it asks for, and then it is settled
+pub record HaveAsked (inputs : List Input) (libs : LibraryGraph) (before : List FileId) (settled : List (List ℕ)) (asked : List FileId) (after : List (List ℕ)) (names : List (List ℕ)) : Type 0 where
+  pub settled_are : (name : List ℕ) → lists after name ≡ (lists settled name || lists names name)
+  pub kept : (id : FileId) → is_in before id ≡ true → is_in asked id ≡ true
+  pub came : (id : FileId) → is_in asked id ≡ true → (is_in before id ≡ true) ⊎ ((name : List ℕ) × (lists names name ≡ true) × (lists settled name ≡ false) × (asked_by inputs libs name ≡ Some id))
+  pub asks : (name : List ℕ) (id : FileId) → lists names name ≡ true → lists settled name ≡ false → asked_by inputs libs name ≡ Some id → is_in asked id ≡ true
+
+-- names that needn't ask: those that have a candidate, and others that ask for nothing that is left
+pub record AreSettled (inputs : List Input) (libs : LibraryGraph) (kept : List LoadedFile) (settled : List (List ℕ)) (left : List FileId) : Type 0 where
+  pub all : (name : List ℕ) → has_candidate kept name ≡ true → lists settled name ≡ true
+  pub only : (name : List ℕ) (id : FileId) → lists settled name ≡ true → asked_by inputs libs name ≡ Some id → is_in left id ≡ true → has_candidate kept name ≡ true
+
+-- a link before a round: the files so far, the names that needn't ask, the files that are left, those of the round, and no
+-- fault before
+pub record IsBetween (inputs : List Input) (libs : LibraryGraph) (wanted : List (List ℕ)) (k : ℕ) (kept : List LoadedFile) (settled : List (List ℕ)) (left new : List FileId) : Type 0 where
   pub files : AreKept inputs (before inputs libs wanted k) kept
-  pub named_are : (name : List ℕ) → lists named name ≡ has_candidate kept name
+  pub settled_are : AreSettled inputs libs kept settled left
   pub left_are : (id : FileId) → is_in left id ≡ (is_in (all_ids inputs) id && not (is_in (round inputs libs wanted k) id))
   pub new_are : new ≡ new_ids inputs libs wanted k
   pub no_fault : (j : ℕ) → j < k → round_fault inputs libs wanted j ≡ None

@@ -1,7 +1,6 @@
-use Rattle.member_rounds.specs.Sources.{inputs_of}
-use Rattle.member_rounds.specs.inner.Working.{asked_of, lists, undefined_name}
-use Rattle.member_rounds.proofs.GatherLemmas.{IsGathering}
+use Rattle.member_rounds.specs.inner.Working.{undefined_name}
+use Rattle.member_rounds.proofs.SettledLemmas.{AreAsking}
 use Rattle.member_rounds.proofs.asking.ask_symbols.Given as goal
 
 abbrev pub invariant-loop-symbol : goal.invariant-loop-symbol
-invariant-loop-symbol l = IsGathering l.fn.before.items l.asked.items (λ symbol. asked_of (lists l.named) (inputs_of l.sources) l.libs (undefined_name symbol)) l.symbols l.symbol-index
+invariant-loop-symbol l = AreAsking l.offers l.libs l.fn.before.ids.items l.fn.before.settled l.asked.ids.items l.asked.settled undefined_name l.symbols l.symbol-index

@@ -1,6 +1,6 @@
 use Rattle.std.proofs.Common.{refl}
 use Rattle.member_rounds.specs.Sources.{inputs_of}
-use Rattle.member_rounds.proofs.LinkLemmas.{link_goes_on, link_names_fail, link_read_fails, readable_new, spare_enough}
+use Rattle.member_rounds.proofs.LinkLemmas.{link_goes_on, link_names_fail, asked_over, link_read_fails, readable_new, spare_enough}
 use Rattle.member_rounds.proofs.loading.next_round.Goals as goal
 
 pub read_new-requires-after_bounds : goal.read_new-requires-after_bounds
@@ -16,4 +16,4 @@ pub returns-in-Err-spare_names-clause-fault : goal.returns-in-Err-spare_names-cl
 returns-in-Err-spare_names-clause-fault g c = λ real. link_names_fail (inputs_of c.args.sources.now) c.args.libs.now c.args.wanted.now c.args.link c.in-Ok.read c.in_ok-kept.kept.files c.in-Err-spare_names.fault c.requires.link c.requires.rounds c.in-Ok.ensures.exact c.in_ok-kept.ensures (c.in-Err-spare_names.ensures.fault real)
 
 pub returns-clause-link : goal.returns-clause-link
-returns-clause-link g c = link_goes_on (inputs_of c.args.sources.now) c.args.libs.now c.args.wanted.now c.args.link _ c.in-Ok.read c.in_ok-asked.asked.items c.requires.order c.requires.link c.in-Ok.ensures.exact c.in-Ok.ensures.whole refl c.in_ok-kept.ensures c.in_ok-named.ensures c.in-Ok-spare_names.ensures.few c.in_ok-asked.ensures c.in_ok-left.ensures.left c.in_ok-left.ensures.rises c.in_ok-left.ensures.taken c.in-Ok-spare_names.ensures.spare
+returns-clause-link g c = link_goes_on (inputs_of c.args.sources.now) c.args.libs.now c.args.wanted.now c.args.link _ c.in-Ok.read c.in_ok-settled.settled c.in_ok-ids.field-0.ids.items c.requires.order c.requires.link c.in-Ok.ensures.exact c.in-Ok.ensures.whole refl c.in_ok-kept.ensures c.in_ok-settled.ensures c.in-Ok-spare_names.ensures.few (asked_over _ _ _ _ _ _ _ _ c.requires.offers c.in_ok-ids.ensures) c.in_ok-left.ensures.left c.in_ok-left.ensures.rises c.in_ok-left.ensures.taken c.in-Ok-spare_names.ensures.spare
