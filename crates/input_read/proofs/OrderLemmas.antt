@@ -1,0 +1,46 @@
+-- Inputs by rising positions.
+use Rattle.std.proofs.Common.{◌≡◌, ℕ, ◌+◌, ◌-◌, ◌<◌, ◌≤◌, List, length, map, get_or, [], ◌∷◌, subst, ap, arith}
+use Rattle.std.specs.List.{AllAdjacentBelow}
+use Rattle.std.proofs.lemmas.List.{get_or-map, get_or_default, length-map}
+use Rattle.std.proofs.lemmas.Map.Keys.{IsStrictlyIncreasing-from_sorted, sorted_from_strictly_increasing}
+use Rattle.member_rounds.specs.Sources.{AreInOrder}
+use Rattle.member_rounds.specs.declared.input.Input.{Input}
+
+abbrev pub IsBelow : Input → Input → Type 0
+IsBelow a b = a.position < b.position
+
+abbrev places : List Input → List ℕ
+places inputs = map (λ (input : Input). input.position) inputs
+
+count : (inputs : List Input) → length (places inputs) ≡ length inputs
+count inputs = length-map inputs (λ (input : Input). input.position)
+
+place_at : (inputs : List Input) (k e : ℕ) (d : Input) → k < length inputs → get_or (places inputs) k e ≡ (get_or inputs k d).position
+place_at inputs k e d low = get_or-map (λ (input : Input). input.position) inputs k d e low
+
+some_input : (inputs : List Input) (k : ℕ) → k < length inputs → Input
+some_input [] k low = absurd (omega (arith, low))
+some_input (input ∷ inputs) k low = input
+
+-- where each position is below the next one they are in order
+pub in_order : (inputs : List Input) (i : ℕ) → AllAdjacentBelow IsBelow inputs i → length inputs ≤ i → AreInOrder inputs
+in_order inputs i below past = sorted_from_strictly_increasing (places inputs) (λ k low.
+    let next : k + 1 < length inputs = omega (arith, low, count inputs) in
+    let here : k < length inputs = omega (arith, next) in
+    let d : Input = some_input inputs k here in
+    let less : (get_or inputs k d).position < (get_or inputs (k + 1) d).position = below k d (omega (arith, next, past)) in
+    omega (arith, less, place_at inputs k 0 d here, place_at inputs (k + 1) 0 d next))
+
+-- and nowhere else
+pub out_of_order : (inputs : List Input) (i : ℕ) (a b : Input) → 1 ≤ i → i < length inputs → (get_or inputs i b).position ≤ (get_or inputs (i - 1) a).position → AreInOrder inputs → ⊥
+out_of_order inputs i a b low high over order =
+    let next : i - 1 + 1 ≡ i = omega (arith, low) in
+    let less : get_or (places inputs) (i - 1) 0 < get_or (places inputs) (i - 1 + 1) 0 = IsStrictlyIncreasing-from_sorted (places inputs) order (i - 1) (omega (arith, low, high, count inputs)) in
+    let below : get_or (places inputs) (i - 1) 0 < get_or (places inputs) i 0 = subst (λ (n : ℕ). get_or (places inputs) (i - 1) 0 < get_or (places inputs) n 0) next less in
+    omega (arith, below, over, place_at inputs (i - 1) 0 a (omega (arith, high)), place_at inputs i 0 b high)
+
+pub apart : (inputs : List Input) (i : ℕ) (a b d : Input) → 1 ≤ i → i < length inputs → (get_or inputs (i - 1) a).position < (get_or inputs i b).position → IsBelow (get_or inputs (i - 1) d) (get_or inputs i d)
+apart inputs i a b d low high less =
+    let first : (get_or inputs (i - 1) d).position ≡ (get_or inputs (i - 1) a).position = ap (λ (s : Input). s.position) (get_or_default inputs (i - 1) d a (omega (arith, low, high))) in
+    let second : (get_or inputs i d).position ≡ (get_or inputs i b).position = ap (λ (s : Input). s.position) (get_or_default inputs i d b high) in
+    omega (arith, less, first, second)

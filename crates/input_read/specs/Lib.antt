@@ -1,0 +1,3 @@
+pub mod Form
+pub mod inner
+pub mod Reading
