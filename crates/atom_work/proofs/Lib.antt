@@ -1,0 +1,6 @@
+pub mod AddressLemmas
+pub mod GrowLemmas
+pub mod KeptLemmas
+pub mod ListLemmas
+pub mod OrderLemmas
+pub mod SpotLemmas

@@ -1,0 +1,91 @@
+-- The orders of the references of files.
+use Rattle.std.proofs.Common.{◌≡◌, ℕ, suc, ◌+◌, ◌<◌, ◌≤◌, List, [], ◌∷◌, ◌++◌, length, take, get_or, slice_get, Some, None, zero, ◌⊎◌, inl, inr, refl, sym, ap, ◌∙◌, subst, arith, length-append}
+use Rattle.std.specs.Prelude.{Option}
+use Rattle.std.specs.Option.{option_map_or}
+use Rattle.std.proofs.lemmas.List.{append-nil, take_all, take_more}
+use Rattle.kept_refs.specs.Order.{AreInOrder}
+use Rattle.kept_refs.specs.declared.order.Spot.{Spot}
+use Rattle.mo_types.specs.declared.goal.Goal.{Goal}
+use Rattle.mo_types.specs.declared.loaded.LoadedFile.{LoadedFile}
+use Rattle.patch.specs.declared.met.Met.{Met}
+use Rattle.atom_work.specs.Addresses.{Scene}
+use Rattle.atom_work.specs.Mets.{mets_of}
+use Rattle.atom_work.specs.Rows.{goals_at, kept_mets}
+use Rattle.atom_work.specs.declared.kept.KeptAtom.{KeptAtom}
+use Rattle.atom_work.specs.inner.Orders.{AreOrders}
+
+-- orders of the files before a place
+pub record AreSoFar (files : List LoadedFile) (at : ℕ) (orders : List (List Spot)) : Type 0 where
+  pub are : AreOrders (take at files) orders
+
+none_there : (at : ℕ) (file : LoadedFile) → ◌≡◌ None (Some file) → ⊥
+none_there at file e = cc
+
+pub orders_start : (files : List LoadedFile) (orders : List (List Spot)) → orders ≡ [] → AreSoFar files 0 orders
+orders_start files orders none = record {
+  are = record { count = ap length none; each = λ at file order f o. absurd (none_there at file f) };
+}
+
+-- the last of a list, or one before it
+last_or : {X : Type 0} (xs : List X) (x y : X) (at : ℕ) → slice_get (xs ++ x ∷ []) at ≡ Some y → ((at ≡ length xs) × (y ≡ x)) ⊎ (slice_get xs at ≡ Some y)
+last_or [] x y zero e = inl (refl, cc)
+last_or [] x y (suc at) e = absurd cc
+last_or (z ∷ xs) x y zero e = inr e
+last_or (z ∷ xs) x y (suc at) e = elim (last_or xs x y at e) [
+  | inl p ↦ inl (ap suc p.0, p.1)
+  | inr before ↦ inr before
+]
+
+within : {X : Type 0} (xs : List X) (x : X) (at : ℕ) → slice_get xs at ≡ Some x → at < length xs
+within [] x at e = absurd cc
+within (y ∷ ys) x zero e = omega arith
+within (y ∷ ys) x (suc at) e = omega (arith, within ys x at e)
+
+more : (files : List LoadedFile) (orders : List (List Spot)) (file : LoadedFile) (order : List Spot) → AreOrders files orders → AreInOrder file.refs order → AreOrders (files ++ file ∷ []) (orders ++ order ∷ [])
+more files orders file order are one = record {
+  count = length-append orders (order ∷ []) ∙ ap (λ n. n + 1) are.count ∙ sym (length-append files (file ∷ []));
+  each = λ at f o is_f is_o. elim (last_or files file f at is_f) [
+    | inl p ↦ elim (last_or orders order o at is_o) [
+      | inl q ↦ subst (λ (x : LoadedFile). AreInOrder x.refs o) (sym p.1) (subst (λ (x : List Spot). AreInOrder file.refs x) (sym q.1) one)
+      | inr early ↦ absurd (omega (arith, within orders o at early, p.0, are.count))
+    ]
+    | inr before ↦ elim (last_or orders order o at is_o) [
+      | inl q ↦ absurd (omega (arith, within files f at before, q.0, are.count))
+      | inr early ↦ are.each at f o before early
+    ]
+  ];
+}
+
+pub order_more : (files : List LoadedFile) (at : ℕ) (orders new : List (List Spot)) (file : LoadedFile) (order : List Spot) → AreSoFar files at orders → at < length files → file ≡ get_or files at file → AreInOrder file.refs order → new ≡ orders ++ order ∷ [] → AreSoFar files (at + 1) new
+order_more files at orders new file order so_far low is one grown =
+    let next : take (at + 1) files ≡ take at files ++ file ∷ [] = take_more files at file low ∙ ap (λ (x : LoadedFile). take at files ++ x ∷ []) (sym is) in
+    record { are = subst (λ (xs : List LoadedFile). AreOrders xs new) (sym next) (subst (λ (os : List (List Spot)). AreOrders (take at files ++ file ∷ []) os) (sym grown) (more (take at files) orders file order so_far.are one)) }
+
+pub orders_end : (files : List LoadedFile) (at : ℕ) (orders : List (List Spot)) → AreSoFar files at orders → length files ≤ at → AreOrders files orders
+orders_end files at orders so_far past = subst (λ (xs : List LoadedFile). AreOrders xs orders) (take_all at files past) so_far.are
+
+pub ruleset orders = (orders_start, orders_end)
+
+pub order_of : (files : List LoadedFile) (orders : List (List Spot)) (at : ℕ) (file : LoadedFile) (order : List Spot) → AreOrders files orders → slice_get files at ≡ Some file → slice_get orders at ≡ Some order → AreInOrder file.refs order
+order_of files orders at file order are f o = are.each at file order f o
+
+past : {X : Type 0} (xs : List X) (at : ℕ) → slice_get xs at ≡ None → length xs ≤ at
+past [] at e = omega arith
+past (x ∷ xs) zero e = absurd cc
+past (x ∷ xs) (suc at) e = omega (arith, past xs at e)
+
+pub no_order : (files : List LoadedFile) (orders : List (List Spot)) (at : ℕ) (file : LoadedFile) → AreOrders files orders → slice_get files at ≡ Some file → slice_get orders at ≡ None → ⊥
+no_order files orders at file are f o = absurd (omega (arith, within files file at f, past orders at o, are.count))
+
+-- ---- the references of a kept atom
+
+pub no_kept_mets : (scene : Scene) (files : List LoadedFile) (goals : List (List Goal)) (kept : KeptAtom) (before : List Met) → slice_get files kept.file ≡ None → before ≡ before ++ kept_mets scene files goals kept
+unfolding kept_mets
+no_kept_mets scene files goals kept before none =
+    sym (append-nil before) ∙ ap (λ (o : Option LoadedFile). before ++ option_map_or (λ (file : LoadedFile). mets_of scene (goals_at goals kept.file) file.refs kept.atom.key) o []) (sym none)
+
+pub kept_mets_of : (scene : Scene) (files : List LoadedFile) (goals : List (List Goal)) (kept : KeptAtom) (file : LoadedFile) (some : List Goal) → slice_get files kept.file ≡ Some file → some ≡ goals_at goals kept.file → kept_mets scene files goals kept ≡ mets_of scene some file.refs kept.atom.key
+unfolding kept_mets
+kept_mets_of scene files goals kept file some f is =
+    ap (λ (o : Option LoadedFile). option_map_or (λ (x : LoadedFile). mets_of scene (goals_at goals kept.file) x.refs kept.atom.key) o []) f
+    ∙ ap (λ (gs : List Goal). mets_of scene gs file.refs kept.atom.key) (sym is)

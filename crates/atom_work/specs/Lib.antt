@@ -1,0 +1,5 @@
+pub mod Addresses
+pub mod Atoms
+pub mod Mets
+pub mod Rows
+pub mod inner

@@ -1,0 +1,12 @@
+-- The references at places of a file's list.
+use Rattle.std.specs.Prelude.{List, map, slice_get}
+use Rattle.std.specs.Option.{option_to_list}
+use Rattle.kept_refs.specs.declared.order.Spot.{Spot}
+use Rattle.mo_types.specs.declared.goal.Goal.{Goal}
+use Rattle.mo_types.specs.declared.reference.Ref.{Ref}
+use Rattle.patch.specs.declared.met.Met.{Met}
+use Rattle.atom_work.specs.Addresses.{Scene}
+use Rattle.atom_work.specs.Mets.{met_of}
+
+unfoldable pub mets_at : Scene → List Goal → List Ref → Spot → List Met
+mets_at scene goals refs spot = map (met_of scene goals) (option_to_list (slice_get refs spot.index))

@@ -1,0 +1,12 @@
+//! The atoms of an image as they are placed, and what their references mean there: what is written into the image.
+#![tactic(auto)]
+
+mod addresses;
+mod kept;
+mod mets;
+mod orders;
+mod rows;
+
+pub use addresses::goal_address;
+pub use kept::{KeptAtom, KeptList, atoms_of, kept_atoms};
+pub use rows::{Work, work_of};

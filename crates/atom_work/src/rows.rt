@@ -1,0 +1,261 @@
+//! The atoms that have bytes in the image, in its order, with their places and references.
+ghost use Rattle.std.specs.Prelude.{◌≡◌, ◌+◌, ◌-◌, ◌++◌, ◌∷◌, [], List, IfOk, length, map, not};
+ghost use Rattle.std.specs.List.{filter, filter_map, find, flat_map};
+ghost use Rattle.std.specs.List.Sorted.{IsStrictlySortedBy};
+ghost use Rattle.std.specs.Option.{option_copied, option_to_list};
+ghost use Rattle.std.specs.Ordering.{is_eq, on};
+ghost use Rattle.mo_types.specs.Keys.{compare_keys};
+ghost use Rattle.mo_types.specs.declared.goal.Goal.{Goal};
+ghost use Rattle.atom_work.specs.Addresses.{AreOnce};
+ghost use Rattle.atom_work.specs.Atoms.{kept_at};
+ghost use Rattle.atom_work.specs.Rows as spec;
+ghost use Rattle.atom_work.specs.declared.kept.KeptAtom.{KeptAtom};
+ghost use Rattle.atom_work.specs.inner.Listed.{AreListed};
+ghost use Rattle.atom_work.specs.inner.Orders.{AreOrders};
+
+use crate::addresses::address_of;
+use crate::kept::KeptAtom;
+use crate::mets::with_mets;
+use crate::orders::orders_of;
+use kept_refs::{GoalTable, SpotList};
+use mo_types::{AtomKey, Goal, Items, Loaded, LoadedList, OutOfMemory};
+use patch::{Met, PlacedWork};
+use resolve::Winners;
+use sect_place::{Layout, PlacedSection};
+use std::alloc::Global;
+use std::cmp::Ordering;
+
+/// What is written into an image.
+#[derive(Debug, Drop)]
+pub struct Work {
+    /// The atoms that have bytes, in the order of the image.
+    pub items: Vec<PlacedWork>,
+    /// The references of these atoms, one atom after the other.
+    pub mets: Vec<Met>,
+}
+
+// Where the atoms of an image come from, and where they stand.
+#[derive(Clone, Copy)]
+struct Sources<'a> {
+    files: &'a LoadedList,
+    winners: &'a Winners<'a>,
+    goals: &'a GoalTable,
+    orders: &'a Items<SpotList>,
+    atoms: &'a [KeptAtom],
+    layout: &'a Layout,
+    base: u64,
+}
+
+fn compare(a: &AtomKey, b: &AtomKey) -> Ordering
+    ensures { result ≡ compare_keys a.now b.now }
+{
+    a.cmp(b)
+}
+
+// The kept atom with a key.
+fn find_kept(atoms: &[KeptAtom], key: AtomKey) -> Option<KeptAtom>
+    requires { IsStrictlySortedBy (on (λ (kept : KeptAtom). kept.atom.key) compare_keys) atoms.now }
+    ensures { result ≡ kept_at atoms.now key }
+{
+    match atoms.binary_search_by(|kept| compare(&kept.atom.key, &key)) {
+        Ok(at) => Some(atoms[at]),
+        Err(_) => None,
+    }
+}
+
+// The goals of the symbols of the file at a place.
+fn goals_at(goals: &GoalTable, at: usize) -> &[Goal]
+    ensures { result.now ≡ spec.goals_at goals.now at }
+{
+    match goals.get(at) {
+        Some(some) => some.as_slice(),
+        None => &[],
+    }
+}
+
+// References, and those of a kept atom.
+fn with_kept_mets(
+    before: Vec<Met>,
+    sources: &Sources,
+    kept: &KeptAtom,
+) -> Result<Vec<Met>, OutOfMemory>
+    requires once { AreOnce sources.now.layout.now.placed }
+    requires orders { AreOrders sources.now.files.now sources.now.orders.now }
+    ensures { IfOk result (λ new. new.items ≡ before.items ++ spec.kept_mets (record { literals = sources.now.winners.now.literals; base = sources.now.base; placed = sources.now.layout.now.placed }) sources.now.files.now sources.now.goals.now kept.now) }
+{
+    let Some(file) = sources.files.get(kept.file) else {
+        return Ok(before);
+    };
+    let Some(order) = sources.orders.get(kept.file) else {
+        unreachable!()
+    };
+    with_mets(
+        before,
+        sources.winners,
+        sources.layout,
+        sources.base,
+        goals_at(sources.goals, kept.file),
+        &file.refs,
+        order.as_slice(),
+        kept.atom.key,
+    )
+}
+
+// Where an address of a section stands in the file. A place of 2^64 or more is answered as want of memory.
+fn place_in_file(section: &PlacedSection, address: u64) -> Result<u64, OutOfMemory>
+    ensures { IfOk result (λ place. place ≡ section.now.file_offset + (address - section.now.address)) }
+{
+    match section
+        .file_offset
+        .checked_add(address.saturating_sub(section.address))
+    {
+        Some(place) => Ok(place),
+        None => Err(OutOfMemory),
+    }
+}
+
+// What is written, and a kept atom that stands at an address in a section.
+fn with_row(
+    before: Work,
+    sources: &Sources,
+    section: &PlacedSection,
+    kept: &KeptAtom,
+    address: u64,
+) -> Result<Work, OutOfMemory>
+    requires once { AreOnce sources.now.layout.now.placed }
+    requires orders { AreOrders sources.now.files.now sources.now.orders.now }
+    ensures { IfOk result (λ new. (rows : List spec.Row) → AreListed rows before.items.items before.mets.items → AreListed (rows ++ spec.row_at (record { literals = sources.now.winners.now.literals; base = sources.now.base; placed = sources.now.layout.now.placed }) sources.now.files.now sources.now.goals.now section.now kept.now address ∷ []) new.items.items new.mets.items) }
+{
+    let Work { items, mets } = before;
+    let first = mets.len();
+    let mets = with_kept_mets(mets, sources, kept)?;
+    let mut items = items;
+    items.push(PlacedWork {
+        atom: kept.atom,
+        file: kept.file,
+        at: place_in_file(section, address)?,
+        address,
+        first,
+        count: mets.len() - first,
+    })?;
+    Ok(Work { items, mets })
+}
+
+// What is written, and the atom with a key in a section.
+#[tactic(auto, using(crate::proofs::ListLemmas::no_more), unfolding(crate::specs::Rows::row_of))]
+fn with_key(
+    before: Work,
+    sources: &Sources,
+    section: &PlacedSection,
+    key: AtomKey,
+) -> Result<Work, OutOfMemory>
+    requires once { AreOnce sources.now.layout.now.placed }
+    requires orders { AreOrders sources.now.files.now sources.now.orders.now }
+    requires rising { IsStrictlySortedBy (on (λ (kept : KeptAtom). kept.atom.key) compare_keys) sources.now.atoms.now }
+    ensures { IfOk result (λ new. (rows : List spec.Row) → AreListed rows before.items.items before.mets.items → AreListed (rows ++ option_to_list (spec.row_of (record { literals = sources.now.winners.now.literals; base = sources.now.base; placed = sources.now.layout.now.placed }) sources.now.files.now sources.now.goals.now sources.now.atoms.now section.now key)) new.items.items new.mets.items) }
+{
+    let Some(kept) = find_kept(sources.atoms, key) else {
+        return Ok(before);
+    };
+    let Some(address) = address_of(sources.layout, key) else {
+        return Ok(before);
+    };
+    with_row(before, sources, section, &kept, address)
+}
+
+// What is written, and the atoms of a section.
+fn with_section(
+    before: Work,
+    sources: &Sources,
+    section: &PlacedSection,
+) -> Result<Work, OutOfMemory>
+    requires once { AreOnce sources.now.layout.now.placed }
+    requires orders { AreOrders sources.now.files.now sources.now.orders.now }
+    requires rising { IsStrictlySortedBy (on (λ (kept : KeptAtom). kept.atom.key) compare_keys) sources.now.atoms.now }
+    ensures { IfOk result (λ new. (rows : List spec.Row) → AreListed rows before.items.items before.mets.items → AreListed (rows ++ spec.section_rows (record { literals = sources.now.winners.now.literals; base = sources.now.base; placed = sources.now.layout.now.placed }) sources.now.files.now sources.now.goals.now sources.now.atoms.now section.now) new.items.items new.mets.items) }
+{
+    with_keys(before, sources, section, section.section.atoms.as_slice())
+}
+
+// What is written, and atoms with some keys in a section.
+#[tactic(auto, using(crate::proofs::ListLemmas::keys_start, crate::proofs::ListLemmas::keys_end))]
+fn with_keys(
+    before: Work,
+    sources: &Sources,
+    section: &PlacedSection,
+    keys: &[AtomKey],
+) -> Result<Work, OutOfMemory>
+    requires once { AreOnce sources.now.layout.now.placed }
+    requires orders { AreOrders sources.now.files.now sources.now.orders.now }
+    requires rising { IsStrictlySortedBy (on (λ (kept : KeptAtom). kept.atom.key) compare_keys) sources.now.atoms.now }
+    ensures { IfOk result (λ new. (rows : List spec.Row) → AreListed rows before.items.items before.mets.items → AreListed (rows ++ filter_map (spec.row_of (record { literals = sources.now.winners.now.literals; base = sources.now.base; placed = sources.now.layout.now.placed }) sources.now.files.now sources.now.goals.now sources.now.atoms.now section.now) keys.now) new.items.items new.mets.items) }
+{
+    let mut work = before;
+    for key in keys {
+        work = with_key(work, sources, section, *key)?;
+    }
+    Ok(work)
+}
+
+fn has_bytes(section: &PlacedSection) -> bool
+    ensures { result ≡ spec.has_bytes section.now }
+{
+    !matches!(section.section.kind, 1 | 0x12)
+}
+
+// What is written, and the atoms of the sections that have bytes.
+#[tactic(auto, using(crate::proofs::ListLemmas::sections_start))]
+fn with_sections(
+    before: Work,
+    sources: &Sources,
+    sections: &[PlacedSection],
+) -> Result<Work, OutOfMemory>
+    requires once { AreOnce sources.now.layout.now.placed }
+    requires orders { AreOrders sources.now.files.now sources.now.orders.now }
+    requires rising { IsStrictlySortedBy (on (λ (kept : KeptAtom). kept.atom.key) compare_keys) sources.now.atoms.now }
+    ensures { IfOk result (λ new. (rows : List spec.Row) → AreListed rows before.items.items before.mets.items → AreListed (rows ++ spec.rows (record { literals = sources.now.winners.now.literals; base = sources.now.base; placed = sources.now.layout.now.placed }) sources.now.files.now sources.now.goals.now sources.now.atoms.now sections.now) new.items.items new.mets.items) }
+{
+    let mut work = before;
+    for section in sections {
+        if has_bytes(section) {
+            work = with_section(work, sources, section)?;
+        }
+    }
+    Ok(work)
+}
+
+/// What is written into an image: each kept atom in a section with bytes in the file, in the order of the image, with its
+/// places in the file and in memory, and its references with the addresses to which they lead. An image whose first
+/// address is `base` has the header there.
+///
+/// An address or a place of 2^64 or more is answered as want of memory.
+pub fn work_of(
+    alloc: Global,
+    loaded: &Loaded,
+    winners: &Winners,
+    goals: &GoalTable,
+    kept: &[KeptAtom],
+    layout: &Layout,
+    base: u64,
+) -> Result<Work, OutOfMemory>
+    requires once { AreOnce layout.now.placed }
+    requires rising { IsStrictlySortedBy (on (λ (one : KeptAtom). one.atom.key) compare_keys) kept.now }
+    ensures items { IfOk result (λ work. work.items.items ≡ spec.items_from 0 (spec.rows (record { literals = winners.now.literals; base = base; placed = layout.now.placed }) loaded.now.files goals.now kept.now layout.now.sections)) }
+    ensures mets { IfOk result (λ work. work.mets.items ≡ spec.all_mets (spec.rows (record { literals = winners.now.literals; base = base; placed = layout.now.placed }) loaded.now.files goals.now kept.now layout.now.sections)) }
+{
+    let orders = orders_of(alloc, loaded.files.as_slice())?;
+    let sources = Sources {
+        files: &loaded.files,
+        winners,
+        goals,
+        orders: &orders,
+        atoms: kept,
+        layout,
+        base,
+    };
+    let none = Work {
+        items: Vec::new(alloc),
+        mets: Vec::new(alloc),
+    };
+    with_sections(none, &sources, layout.sections.as_slice())
+}

@@ -1,0 +1,63 @@
+-- A layout of kept atoms that rise has each atom once.
+use Rattle.std.proofs.Common.{◌≡◌, ◌≢◌, ◌≤◌, ◌<◌, ℕ, length, subst, List, [], ◌∷◌, map, get_or, refl, sym, ap, ◌∙◌}
+use Rattle.std.specs.Prelude.{All}
+use Rattle.std.specs.List.{AllPairs}
+use Rattle.std.specs.List.Sorted.{IsStrictlySortedBy}
+use Rattle.std.specs.Ordering.{on}
+use Rattle.std.specs.declared.cmp.Ordering.TheVariants.{Less, Equal}
+use Rattle.std.proofs.lemmas.Cmp.{tied_itself}
+use Rattle.std.proofs.lemmas.List.Elements.{recursion_from_All}
+use Rattle.list_lemmas.proofs.Members.{all_at, all_map}
+use Rattle.list_lemmas.proofs.Rising.{rising_at}
+use Rattle.mo_types.proofs.KeyOrder.{compare_keys_total}
+use Rattle.mo_types.specs.Keys.{compare_keys}
+use Rattle.lib_bind.specs.declared.library.LibraryGraph.{LibraryGraph}
+use Rattle.load_cmds.specs.Sizes.{other_size}
+use Rattle.mo_cmd.specs.declared.command.Command.{Command}
+use Rattle.mo_types.specs.declared.atom.Atom.{Atom}
+use Rattle.mo_types.specs.declared.loaded.LoadedFile.{LoadedFile}
+use Rattle.mo_types.specs.declared.out_section.OutSection.{OutSection}
+use Rattle.sect_place.specs.Layout.{plan_of}
+use Rattle.sect_place.specs.OutSections.{out_sections}
+use Rattle.sect_place.specs.declared.island.IslandPlan.{IslandPlan}
+use Rattle.sect_place.specs.declared.layout.Placed.{Placed}
+use Rattle.slot_plan.specs.declared.list.Slots.{Slots}
+use Rattle.atom_work.specs.Atoms.{atom_of}
+use Rattle.atom_work.specs.declared.kept.KeptAtom.{KeptAtom}
+use Rattle.image_make.specs.Made.{IsFilledImage, no_parts, plan_with, sizes_of}
+use Rattle.patch.specs.Range.{AreWork, IsPlaced, IsSameBeside}
+use Rattle.patch.specs.declared.met.Met.{Met}
+use Rattle.patch.specs.declared.range.PlacedWork.{PlacedWork}
+use Rattle.atom_work.specs.Addresses.{AreOnce}
+
+less_not_equal : Less ≡ Equal → ⊥
+less_not_equal e = cc
+
+pub once : (placed : List Placed) → IsStrictlySortedBy (on (λ (p : Placed). p.atom) compare_keys) placed → AreOnce placed
+once placed rising = λ i j d low high same.
+    less_not_equal (sym (rising_at (on (λ (p : Placed). p.atom) compare_keys) placed i j d rising low high) ∙ ap (λ a. compare_keys a (get_or placed j d).atom) same ∙ tied_itself compare_keys_total (get_or placed j d).atom)
+
+pub rising_atoms : (kept : List KeptAtom) → IsStrictlySortedBy (on (λ (one : KeptAtom). one.atom.key) compare_keys) kept → IsStrictlySortedBy (on (λ (atom : Atom). atom.key) compare_keys) (map atom_of kept)
+unfolding IsStrictlySortedBy
+rising_atoms [] rising = tt
+rising_atoms (one ∷ kept) rising = (all_map atom_of (λ (atom : Atom). compare_keys one.atom.key atom.key ≡ Less) kept rising.0, rising_atoms kept rising.1)
+
+pub low_atoms : (kept : List KeptAtom) → All (λ (one : KeptAtom). one.atom.align ≤ 14) kept → All (λ (atom : Atom). atom.align ≤ 14) (map atom_of kept)
+low_atoms kept low = λ k d within. all_at (λ (atom : Atom). atom.align ≤ 14) (map atom_of kept) k d (all_map atom_of (λ (atom : Atom). atom.align ≤ 14) kept (recursion_from_All (λ (one : KeptAtom). one.atom.align ≤ 14) kept low)) within
+
+pub same_plan : (command : Command) (libs : LibraryGraph) (files : List LoadedFile) (kept : List KeptAtom) (slots : Slots) (islands : IslandPlan) (atoms : List Atom) (sections : List OutSection) (size : ℕ) → atoms ≡ map atom_of kept → sections ≡ out_sections files atoms → size ≡ other_size no_parts command libs
+    → plan_of atoms sections slots islands (record { commands = size; unwind = 0 }) command ≡ plan_with command libs files kept slots islands
+unfolding plan_with
+same_plan command libs files kept slots islands atoms sections size a s z =
+    ap (λ (n : ℕ). plan_of atoms sections slots islands (record { commands = n; unwind = 0 }) command) z
+    ∙ ap (λ (xs : List OutSection). plan_of atoms xs slots islands (sizes_of command libs) command) s
+    ∙ ap (λ (xs : List Atom). plan_of xs (out_sections files xs) slots islands (sizes_of command libs) command) a
+
+pub filled : (files f : List LoadedFile) (mets m : List Met) (items w : List PlacedWork) (blank old image : List ℕ) (n : ℕ) → f ≡ files → m ≡ mets → w ≡ items → old ≡ blank → n ≡ length blank
+    → AreWork f m 0 n w → IsSameBeside files 0 w old image → All (IsPlaced files m 0 image) w → All (λ byte. byte < 256) image → IsFilledImage files mets items blank image
+filled files f mets m items w blank old image n a b c d e work beside placed bytes = record {
+  work = subst (λ (x : List LoadedFile). AreWork x mets 0 (length blank) items) a (subst (λ (x : List Met). AreWork f x 0 (length blank) items) b (subst (λ (x : List PlacedWork). AreWork f m 0 (length blank) x) c (subst (λ (x : ℕ). AreWork f m 0 x w) e work)));
+  beside = subst (λ (x : List PlacedWork). IsSameBeside files 0 x blank image) c (subst (λ (x : List ℕ). IsSameBeside files 0 w x image) d beside);
+  placed = subst (λ (x : List PlacedWork). All (IsPlaced files mets 0 image) x) c (subst (λ (x : List Met). All (IsPlaced files x 0 image) w) b placed);
+  bytes = bytes;
+}

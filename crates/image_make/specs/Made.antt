@@ -1,0 +1,140 @@
+-- The image of the atoms that are kept (`loader.h`).
+use Rattle.std.specs.Prelude.{ℕ, ◌≡◌, ◌+◌, ◌-◌, ◌<◌, ◌≤◌, ◌^◌, Bool, false, List, [], ◌∷◌, length, map, slice_get, All, Result, Ok, Err, if◌then◌else◌}
+use Rattle.std.specs.Option.{option_map_or}
+use Rattle.atom_work.specs.Addresses.{Scene, goal_address}
+use Rattle.atom_work.specs.Atoms.{atom_of, kept_atoms}
+use Rattle.atom_work.specs.Rows.{Row, all_mets, items_from, rows}
+use Rattle.atom_work.specs.declared.kept.KeptAtom.{KeptAtom}
+use Rattle.image_join.specs.Joined.{joined}
+use Rattle.lib_bind.specs.declared.library.LibraryGraph.{LibraryGraph}
+use Rattle.load_cmds.specs.Commands.{commands_of}
+use Rattle.load_cmds.specs.Sizes.{other_size}
+use Rattle.load_cmds.specs.declared.parts.PartKinds.{PartKinds}
+use Rattle.load_cmds.specs.declared.parts.PartPlace.{PartPlace}
+use Rattle.load_cmds.specs.declared.parts.PartSizes.{PartSizes}
+use Rattle.mo_cmd.specs.declared.command.Command.{Command}
+use Rattle.mo_format.specs.declared.loader.TheConstants.{MH_DYLDLINK, MH_NOUNDEFS, MH_PIE, MH_TWOLEVEL}
+use Rattle.mo_types.specs.declared.goal.Goal.{Goal}
+use Rattle.mo_types.specs.declared.key.AtomKey.{AtomKey}
+use Rattle.mo_types.specs.declared.loaded.LoadedFile.{LoadedFile}
+use Rattle.patch.specs.declared.met.Met.{Met}
+use Rattle.patch.specs.declared.range.PlacedWork.{PlacedWork}
+use Rattle.patch.specs.Range.{AreWork, IsLeastFault, IsPlaced, IsSameBeside}
+use Rattle.resolve.specs.declared.representative.Representative.{Representative}
+use Rattle.sect_place.specs.Layout.{IsLayoutOf, IsTooLarge, Plan, base_of, image_size, plan_of}
+use Rattle.sect_place.specs.OutSections.{out_sections}
+use Rattle.sect_place.specs.declared.island.IslandPlan.{IslandPlan}
+use Rattle.sect_place.specs.declared.layout.Layout.{Layout}
+use Rattle.sect_place.specs.declared.layout.Segment.{Segment}
+use Rattle.sect_place.specs.declared.size.PlaceSizes.{PlaceSizes}
+use Rattle.slot_plan.specs.declared.list.Slots.{Slots}
+use Rattle.image_make.specs.declared.fault.MakeFault.{MakeFault}
+use Rattle.image_make.specs.declared.fault.MakeFault.TheVariants.{Place, Range, OutOfMemory}
+
+-- What an image is made of: the command and its libraries, the loaded files with the goals of their symbols, what stands for
+-- each literal, the keys of the atoms that are kept, where the program begins, and the slots and islands that it has.
+pub record Making : Type 0 where
+  pub command : Command
+  pub libs : LibraryGraph
+  pub files : List LoadedFile
+  pub goals : List (List Goal)
+  pub literals : List Representative
+  pub keys : List AtomKey
+  pub entry : Goal
+  pub slots : Slots
+  pub islands : IslandPlan
+
+-- the parts that come with a later version: fixups, exports, symbols, the UUID and the signature
+abbrev pub no_parts : PartKinds
+no_parts = record { fixups = false; trie = false; symbols = false; uuid = false; signature = false }
+
+abbrev pub kept_of : Making → List KeptAtom
+kept_of m = kept_atoms m.literals m.keys m.files
+
+abbrev pub sizes_of : Command → LibraryGraph → PlaceSizes
+sizes_of command libs = record { commands = other_size no_parts command libs; unwind = 0 }
+
+-- what is placed
+unfoldable pub plan_with : Command → LibraryGraph → List LoadedFile → List KeptAtom → Slots → IslandPlan → Plan
+plan_with command libs files kept slots islands =
+    plan_of (map atom_of kept) (out_sections files (map atom_of kept)) slots islands (sizes_of command libs) command
+
+abbrev pub plan_for : Making → Plan
+plan_for m = plan_with m.command m.libs m.files (kept_of m) m.slots m.islands
+
+-- what is planned is too large
+abbrev pub IsSizeFault : Plan → MakeFault → Type 0
+IsSizeFault plan (Place fault) = IsTooLarge (image_size plan) fault
+IsSizeFault plan (Range key fault) = ⊥
+IsSizeFault plan OutOfMemory = Unit {0}
+
+-- a layout of it, which has fewer than 2^32 bytes before `__LINKEDIT`
+pub record IsLaid (m : Making) (layout : Layout) : Type 0 where
+  pub layout_of : IsLayoutOf m.command (plan_for m) layout
+  pub small : image_size (plan_for m) < 2 ^ 32
+
+-- the offset of the first instruction from the start of `__TEXT`
+abbrev pub entry_offset : Making → Layout → ℕ
+entry_offset m layout = goal_address (base_of m.command) layout.placed m.entry - base_of m.command
+
+abbrev pub no_place : PartPlace
+no_place = record { offset = 0; size = 0 }
+
+abbrev pub parts_of : ℕ → PartSizes
+parts_of entryoff = record {
+  there = no_parts;
+  fixups = no_place;
+  trie = no_place;
+  symbols = no_place;
+  indirect = no_place;
+  strings = no_place;
+  signature = no_place;
+  locals = 0;
+  exported = 0;
+  undefined = 0;
+  entryoff = entryoff;
+  flags = MH_NOUNDEFS + MH_DYLDLINK + MH_TWOLEVEL + MH_PIE;
+}
+
+-- where the last segment ends in the file
+unfoldable pub file_end : List Segment → ℕ
+file_end segments = option_map_or (λ segment. segment.file_offset + segment.file_size) (slice_get segments (length segments - 1)) 0
+
+-- the image before its atoms are written: the header with the load commands, and zeros
+unfoldable pub blank_of : List ℕ → Layout → List ℕ
+blank_of front layout = joined (record { size = file_end layout.segments; parts = record { from = 0; bytes = front } ∷ [] })
+
+abbrev pub front_of : Making → Layout → List ℕ
+front_of m layout = commands_of layout (parts_of (entry_offset m layout)) m.command m.libs
+
+abbrev pub blank : Making → Layout → List ℕ
+blank m layout = blank_of (front_of m layout) layout
+
+abbrev pub scene_of : Making → Layout → Scene
+scene_of m layout = record { literals = m.literals; base = base_of m.command; placed = layout.placed }
+
+-- the atoms that have bytes, with their places and references
+abbrev pub rows_of : Making → Layout → List Row
+rows_of m layout = rows (scene_of m layout) m.files m.goals (kept_of m) layout.sections
+
+abbrev pub work_of : Making → Layout → List PlacedWork
+work_of m layout = items_from 0 (rows_of m layout)
+
+abbrev pub mets_of : Making → Layout → List Met
+mets_of m layout = all_mets (rows_of m layout)
+
+-- an image is a blank one with its atoms, which stand apart, each with its fields, and no other change
+pub record IsFilledImage (files : List LoadedFile) (mets : List Met) (items : List PlacedWork) (old image : List ℕ) : Type 0 where
+  pub work : AreWork files mets 0 (length old) items
+  pub beside : IsSameBeside files 0 items old image
+  pub placed : All (IsPlaced files mets 0 image) items
+  pub bytes : All (λ byte. byte < 256) image
+
+-- an image, or why there is none; want of memory is left to the code
+abbrev pub IsMade : Making → Result (List ℕ) MakeFault → Type 0
+IsMade m (Ok image) = (layout : Layout) × IsLaid m layout × IsFilledImage m.files (mets_of m layout) (work_of m layout) (blank m layout) image
+IsMade m (Err (Place fault)) = IsTooLarge (image_size (plan_for m)) fault
+IsMade m (Err (Range key fault)) =
+    (layout : Layout) × IsLaid m layout × AreWork m.files (mets_of m layout) 0 (length (blank m layout)) (work_of m layout)
+    × IsLeastFault m.files (mets_of m layout) (work_of m layout) key fault
+IsMade m (Err OutOfMemory) = Unit {0}

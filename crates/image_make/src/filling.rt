@@ -1,0 +1,87 @@
+//! A blank image, filled with its atoms.
+ghost use Rattle.std.specs.Prelude.{◌≡◌, ◌<◌, All, IfOk};
+ghost use Rattle.image_make.specs.Made as spec;
+ghost use Rattle.image_make.specs.inner.Filled.{IsFilled};
+
+use crate::fault::MakeFault;
+use atom_work::Work;
+use image_join::{Part, PartList, Parts, fill, join};
+use mo_outside::Gate;
+use mo_types::{Bytes, Loaded, OutOfMemory};
+use patch::work_is_apart;
+use sect_place::{Layout, Segment};
+use std::alloc::Global;
+use std::thread::Threads;
+
+// Where the last segment ends in the file. A place of 2^64 or more is answered as want of memory.
+#[tactic(auto, unfolding(crate::specs::Made::file_end))]
+fn file_end(segments: &[Segment]) -> Result<u64, OutOfMemory>
+    ensures { IfOk result (λ end. end ≡ spec.file_end segments.now) }
+{
+    match segments.get(segments.len().saturating_sub(1)) {
+        Some(last) => match last.file_offset.checked_add(last.file_size) {
+            Some(end) => Ok(end),
+            None => Err(OutOfMemory),
+        },
+        None => Ok(0),
+    }
+}
+
+/// An image with its header and load commands, and zeros behind them. A header that has no room before the end of the
+/// last segment is answered as want of memory.
+#[tactic(auto, unfolding(crate::specs::Made::blank_of))]
+pub(crate) fn blank_image(
+    alloc: Global,
+    layout: &Layout,
+    front: Bytes,
+) -> Result<Vec<u8>, OutOfMemory>
+    ensures { IfOk result (λ blank. blank.items ≡ spec.blank_of front layout.now) }
+{
+    let size = file_end(layout.segments.as_slice())?;
+    if size >= 1 << 32 || front.len() as u64 > size {
+        return Err(OutOfMemory);
+    }
+    let mut parts = PartList::new(alloc);
+    parts.push(Part {
+        from: 0,
+        bytes: front,
+    })?;
+    join(alloc, &Parts { size, parts })
+}
+
+// Each element of a slice of bytes is one.
+fn are_bytes(bytes: &[u8])
+    ensures { All (λ byte. byte < 256) bytes.now }
+{
+    let _ = bytes;
+}
+
+/// An image with its atoms, each with the fields of its references, written by so many workers. Atoms that don't stand
+/// apart are answered as want of memory.
+pub(crate) fn fill_image<R: Threads + Sync, G: Gate + Sync>(
+    rt: &R,
+    alloc: Global,
+    gate: &G,
+    workers: u32,
+    loaded: &Loaded,
+    work: &Work,
+    blank: Vec<u8>,
+) -> Result<Bytes, MakeFault>
+    ensures { IsFilled loaded.now.files work.now.mets.items work.now.items.items blank.items result }
+{
+    let mut image = blank;
+    let files = loaded.files.as_slice();
+    let items = work.items.as_slice();
+    let mets = work.mets.as_slice();
+    if !work_is_apart(alloc, items, files, mets, 0, image.len())? {
+        return Err(MakeFault::OutOfMemory);
+    }
+    match fill(rt, gate, workers, image.as_mut_slice(), items, loaded, mets) {
+        Ok(()) => {
+            let image = Bytes::from_vec(image)?;
+            are_bytes(image.as_slice());
+            Ok(image)
+        }
+        Err((atom, fault)) => Err(MakeFault::Range { atom, fault }),
+    }
+}

@@ -1,0 +1,64 @@
+//! The header of an image with its load commands.
+ghost use Rattle.std.specs.Prelude.{◌≡◌, ◌-◌, IfOk};
+ghost use Rattle.atom_work.specs.Addresses.{AreOnce, goal_address};
+ghost use Rattle.load_cmds.specs.Commands.{commands_of};
+ghost use Rattle.sect_place.specs.Layout.{base_of};
+ghost use Rattle.sect_place.specs.Whole.{IsWholeLayout};
+ghost use Rattle.image_make.specs.Made as spec;
+
+use crate::laying::NO_PARTS;
+use atom_work::goal_address;
+use lib_bind::Libraries;
+use load_cmds::{PartPlace, PartSizes, commands};
+use mo_cmd::Command;
+use mo_format::loader::{MH_DYLDLINK, MH_NOUNDEFS, MH_PIE, MH_TWOLEVEL};
+use mo_types::{Bytes, Goal, OutOfMemory};
+use sect_place::Layout;
+use std::alloc::Global;
+
+/// Where `__TEXT` begins in memory: in an executable behind `__PAGEZERO`, in a library at 0.
+pub(crate) fn base_of(command: &Command) -> u64
+    ensures { result ≡ base_of command.now }
+{
+    if command.dylib { 0 } else { 1 << 32 }
+}
+
+const NO_PLACE: PartPlace = PartPlace { offset: 0, size: 0 };
+
+// The parts of an image and what else its load commands tell.
+fn parts_of(entryoff: u64) -> PartSizes
+    ensures { result ≡ spec.parts_of entryoff }
+{
+    PartSizes {
+        there: NO_PARTS,
+        fixups: NO_PLACE,
+        trie: NO_PLACE,
+        symbols: NO_PLACE,
+        indirect: NO_PLACE,
+        strings: NO_PLACE,
+        signature: NO_PLACE,
+        locals: 0,
+        exported: 0,
+        undefined: 0,
+        entryoff,
+        flags: MH_NOUNDEFS + MH_DYLDLINK + MH_TWOLEVEL + MH_PIE,
+    }
+}
+
+/// The header with the load commands of an image that begins at a goal.
+pub(crate) fn front_of(
+    alloc: Global,
+    command: &Command,
+    libs: &Libraries,
+    layout: &Layout,
+    entry: &Goal,
+) -> Result<Bytes, OutOfMemory>
+    requires whole { IsWholeLayout layout.now }
+    requires once { AreOnce layout.now.placed }
+    ensures { IfOk result (λ front. front ≡ commands_of layout.now (spec.parts_of (goal_address (base_of command.now) layout.now.placed entry.now - base_of command.now)) command.now libs.now) }
+{
+    let base = base_of(command);
+    let start = goal_address(layout, base, entry)?;
+    let parts = parts_of(start.saturating_sub(base));
+    commands(alloc, layout, &parts, command, libs)
+}

@@ -1,0 +1,64 @@
+//! Where everything of an image stands.
+ghost use Rattle.std.specs.Prelude.{◌≡◌, ◌≤◌, ◌<◌, ◌^◌, All, IfErr, IfOk};
+ghost use Rattle.std.specs.List.{AllPairs};
+ghost use Rattle.std.specs.List.Sorted.{IsStrictlySortedBy};
+ghost use Rattle.std.specs.Ordering.{on};
+ghost use Rattle.atom_work.specs.Addresses.{AreOnce};
+ghost use Rattle.atom_work.specs.declared.kept.KeptAtom.{KeptAtom};
+ghost use Rattle.mo_types.specs.Keys.{compare_keys};
+ghost use Rattle.mo_types.specs.Loaded.{IsBefore};
+ghost use Rattle.mo_types.specs.declared.loaded.LoadedFile.{LoadedFile};
+ghost use Rattle.sect_place.specs.Layout.{IsLayoutOf, image_size};
+ghost use Rattle.sect_place.specs.Whole.{IsWholeLayout};
+ghost use Rattle.image_make.specs.Made as spec;
+
+use crate::fault::MakeFault;
+use atom_work::{KeptAtom, atoms_of};
+use lib_bind::Libraries;
+use load_cmds::{PartKinds, other_size};
+use mo_cmd::Command;
+use mo_types::Loaded;
+use sect_place::{IslandPlan, Layout, PlaceFault, PlaceSizes, out_sections, place};
+use slot_plan::Slots;
+use std::alloc::Global;
+
+/// No part of `__LINKEDIT` is there yet.
+pub(crate) const NO_PARTS: PartKinds = PartKinds {
+    fixups: false,
+    trie: false,
+    symbols: false,
+    uuid: false,
+    signature: false,
+};
+
+/// Where everything of an image with some atoms stands, or how many bytes it would have, where these are 2^32 or more.
+pub(crate) fn lay_out(
+    alloc: Global,
+    command: &Command,
+    libs: &Libraries,
+    loaded: &Loaded,
+    kept: &[KeptAtom],
+    slots: &Slots,
+    islands: &IslandPlan,
+) -> Result<Layout, MakeFault>
+    requires files { AllPairs (λ (a : LoadedFile) (b : LoadedFile). IsBefore a.id b.id) loaded.now.files }
+    requires rising { IsStrictlySortedBy (on (λ (one : KeptAtom). one.atom.key) compare_keys) kept.now }
+    requires low { All (λ one. one.atom.align ≤ 14) kept.now }
+    ensures layout_of { IfOk result (λ layout. IsLayoutOf command.now (spec.plan_with command.now libs.now loaded.now.files kept.now slots.now islands.now) layout) }
+    ensures small { IfOk result (λ layout. image_size (spec.plan_with command.now libs.now loaded.now.files kept.now slots.now islands.now) < 2 ^ 32) }
+    ensures whole { IfOk result IsWholeLayout }
+    ensures once { IfOk result (λ layout. AreOnce layout.placed) }
+    ensures fault { IfErr result (spec.IsSizeFault (spec.plan_with command.now libs.now loaded.now.files kept.now slots.now islands.now)) }
+{
+    let atoms = atoms_of(alloc, kept)?;
+    let sections = out_sections(alloc, loaded, &atoms)?;
+    let sizes = PlaceSizes {
+        commands: other_size(NO_PARTS, command, libs),
+        unwind: 0,
+    };
+    match place(alloc, &atoms, &sections, slots, islands, &sizes, command) {
+        Ok(layout) => Ok(layout),
+        Err(PlaceFault::OutOfMemory) => Err(MakeFault::OutOfMemory),
+        Err(fault) => Err(MakeFault::Place(fault)),
+    }
+}
