@@ -2,9 +2,12 @@
 """Times calls over long tables: `table_speed.py [RUNS]`.
 
 Reads archives of 50,000 members and 500,000 offers, of 500,000 pairs that name one string of 1 MB or its ends, of
-50,000 names of 1,042 bytes that differ in their last 10, and of 30,000 names with one hash; and lists the slots of a
-million needs of 1,000 to 1,000,000 goals. Prints for each the least and the median milliseconds of the call. The
-program is built before by `rt run` in `crates/table_speed`.
+50,000 names of 1,042 bytes that differ in their last 10, and of 30,000 names with one hash; lists the slots of a
+million needs of 1,000 to 1,000,000 goals; numbers 200,000 names of 40 bytes that a million external symbols have;
+lays out 500,000 atoms of 2,000 sections, and looks for a million of their addresses, without islands and with eight
+areas; binds 240 libraries, each of which re-exports the next one and the last one the first; and looks 100,000 names of
+47 bytes up in libraries of 200,000 names. Prints for each the least and the median milliseconds of the call. The program
+is built before by `rt run` in `crates/table_speed`.
 """
 import statistics
 import struct
@@ -74,12 +77,16 @@ def archives():
 
 def run(*words):
     done = subprocess.run([PROGRAM, *map(str, words)], capture_output=True, text=True, check=True)
-    return int(done.stderr)
+    return [int(line) for line in done.stderr.split()]
+
+
+def tell_all(names, runs, *words):
+    for name, times in zip(names, zip(*[run(*words) for _ in range(runs)])):
+        print(f"{name}: {min(times)} ms, median {statistics.median(times):.0f} ms")
 
 
 def tell(name, runs, *words):
-    times = [run(*words) for _ in range(runs)]
-    print(f"{name}: {min(times)} ms, median {statistics.median(times):.0f} ms")
+    tell_all([name], runs, *words)
 
 
 def main(runs):
@@ -92,6 +99,13 @@ def main(runs):
             tell(name, runs, "archive", path)
     for goals in (1_000, 30_000, 200_000, 1_000_000):
         tell(f"a million needs of {goals:,} goals", runs, "slots", 1_000_000, goals)
+    tell("a million external symbols with 200,000 names", runs, "names", 1000, 200_000)
+    tell_all(
+        ["the sections of 500,000 atoms", "their layout", "a million addresses", "a million with islands"],
+        runs, "places", 8, 250)
+    tell("240 libraries in a ring are bound, of 200,160 names", runs, "closure", 240, 834)
+    for libraries, names in ((40, 5_000), (1, 200_000)):
+        tell(f"100,000 look-ups in {libraries} libraries of {names:,} names", runs, "providers", libraries, names)
 
 
 if __name__ == "__main__":

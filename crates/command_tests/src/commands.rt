@@ -12,6 +12,11 @@ use crate::bytes::{
 use lib_bind::{Libraries, Library, LibraryList, LinkList, are_libraries, are_links};
 use load_cmds::{PartKinds, PartPlace, PartSizes, commands, other_size};
 use mo_cmd::{Command, UsageFault, read_all_words};
+use mo_format::loader::{
+    MH_DYLDLINK, MH_NO_REEXPORTED_DYLIBS, MH_NOUNDEFS, MH_PIE, MH_TWOLEVEL,
+    S_ATTR_PURE_INSTRUCTIONS, S_ATTR_SOME_INSTRUCTIONS, S_CSTRING_LITERALS, S_REGULAR, S_ZEROFILL,
+    SECTION_TYPE,
+};
 use mo_types::{
     Arg, ArgList, Atom, AtomKey, AtomList, Bytes, FileId, Goal, Items, KeyList, NameList,
     OutOfMemory, OutSection, OutSections,
@@ -22,8 +27,9 @@ use std::alloc::Global;
 use std::test::Fail;
 use tbd_doc::{ExportList, Stub, StubList};
 
-// A section of the image: its segment, its name, its type, its flags, its alignment, and which of two atoms it has.
-type Row = (&'static [u8], &'static [u8], u8, u32, u8, Option<u16>);
+// A section of the image: its segment, its name, its flags with its type in them, its alignment, and which of two atoms
+// it has.
+type Row = (&'static [u8], &'static [u8], u32, u8, Option<u16>);
 
 // A library: its install name, its versions, and whether it is weak and re-exported.
 type Lib = (&'static [u8], u32, u32, bool, bool);
@@ -41,6 +47,13 @@ struct Case<'a> {
     libs: &'a [Lib],
     parts: PartSizes,
 }
+
+// The flags of the header: of every image, of a program, and of a library that exports no other.
+const IMAGE: u32 = MH_NOUNDEFS | MH_DYLDLINK | MH_TWOLEVEL;
+
+const PROGRAM: u32 = MH_NOUNDEFS | MH_DYLDLINK | MH_TWOLEVEL | MH_PIE;
+
+const LIBRARY: u32 = MH_NOUNDEFS | MH_DYLDLINK | MH_TWOLEVEL | MH_NO_REEXPORTED_DYLIBS;
 
 const NO_PLACE: PartPlace = PartPlace { offset: 0, size: 0 };
 
@@ -62,7 +75,7 @@ const NO_PARTS: PartSizes = PartSizes {
     exported: 0,
     undefined: 0,
     entryoff: 0,
-    flags: 0x20_0085,
+    flags: PROGRAM,
 };
 
 const ALL: PartKinds = PartKinds {
@@ -114,7 +127,7 @@ fn are_low(sections: &[OutSection]) -> bool
 
 fn sections_of(alloc: Global, rows: &[Row]) -> Result<OutSections, OutOfMemory> {
     let mut sections = OutSections::new(alloc);
-    for (segment, name, kind, flags, align, atom) in rows {
+    for (segment, name, flags, align, atom) in rows {
         let mut atoms = KeyList::new(alloc);
         if let Some(number) = atom {
             atoms.push(key(*number))?;
@@ -122,7 +135,7 @@ fn sections_of(alloc: Global, rows: &[Row]) -> Result<OutSections, OutOfMemory> 
         sections.push(OutSection {
             segment: Bytes::from_static(*segment),
             name: Bytes::from_static(*name),
-            kind: *kind,
+            kind: (*flags & SECTION_TYPE) as u8,
             flags: *flags,
             align: *align,
             atoms,
@@ -236,7 +249,13 @@ fn is_made(alloc: Global, case: &Case, wanted: &[u8]) -> Result<bool, OutOfMemor
     Ok(bytes.as_slice() == wanted)
 }
 
-const CODE: Row = (b"__TEXT", b"__text", 0, 0x8000_0400, 2, Some(1));
+const CODE: Row = (
+    b"__TEXT",
+    b"__text",
+    S_REGULAR | S_ATTR_PURE_INSTRUCTIONS | S_ATTR_SOME_INSTRUCTIONS,
+    2,
+    Some(1),
+);
 
 fn one_function(alloc: Global) -> Result<bool, OutOfMemory> {
     let case = Case {
@@ -259,7 +278,10 @@ fn hello(alloc: Global, parts: PartSizes, wanted: &[u8]) -> Result<bool, OutOfMe
     let case = Case {
         words: "-platform_version macos 14.0.0 14.2 -o hello hello.o",
         atoms: (32, 3),
-        sections: &[CODE, (b"__TEXT", b"__cstring", 2, 2, 0, Some(2))],
+        sections: &[
+            CODE,
+            (b"__TEXT", b"__cstring", S_CSTRING_LITERALS, 0, Some(2)),
+        ],
         stubs: 1,
         tlv: 0,
         unwind: 68,
@@ -305,7 +327,7 @@ const HELLO_PARTS: PartSizes = PartSizes {
     exported: 2,
     undefined: 1,
     entryoff: 0x428,
-    flags: 0x20_0085,
+    flags: PROGRAM,
 };
 
 fn empty_dylib(alloc: Global, parts: PartSizes, wanted: &[u8]) -> Result<bool, OutOfMemory> {
@@ -352,7 +374,7 @@ const EMPTY_PARTS: PartSizes = PartSizes {
     exported: 0,
     undefined: 0,
     entryoff: 0x4000,
-    flags: 0x10_0085,
+    flags: LIBRARY,
 };
 
 fn every_command(alloc: Global) -> Result<bool, OutOfMemory> {
@@ -360,12 +382,11 @@ fn every_command(alloc: Global) -> Result<bool, OutOfMemory> {
         words: "-dylib -install_name @rpath/libfull.7.dylib -current_version 1.2.3 -compatibility_version 1.0 -platform_version macos 11.0 12.3 -rpath @loader_path/.. -rpath /a/b/lib -o x x.o",
         atoms: (16, 0x4001),
         sections: &[
-            (b"__DATA", b"__data", 0, 0, 4, Some(1)),
+            (b"__DATA", b"__data", S_REGULAR, 4, Some(1)),
             (
                 b"__a_segment_of_a_long_name",
                 b"__a_section_of_a_long_name",
-                1,
-                1,
+                S_ZEROFILL,
                 0,
                 Some(2),
             ),
@@ -409,7 +430,7 @@ fn every_command(alloc: Global) -> Result<bool, OutOfMemory> {
             exported: 3,
             undefined: 4,
             entryoff: 0,
-            flags: 0x85,
+            flags: IMAGE,
         },
     };
     is_made(alloc, &case, EVERY_COMMAND)
@@ -450,7 +471,7 @@ fn the_bytes_of_yaml2obj(rt: HostRuntime) -> Result<(), Fail> {
         ..NO_PARTS
     };
     let library = PartSizes {
-        flags: 0x10_0085,
+        flags: LIBRARY,
         ..NO_PARTS
     };
     assert!(rt; one_function(alloc)?);

@@ -7,8 +7,8 @@ use std::alloc::Global;
 // How a name begins: 40 bytes.
 const FRONT: &[u8] = b"_a_name_that_is_as_long_as_those_of_C_is";
 
-// A name of 47 bytes.
-fn name_of(alloc: Global, number: u32) -> Result<Bytes, OutOfMemory> {
+/// A name of 47 bytes.
+pub(crate) fn name_of(alloc: Global, number: u32) -> Result<Bytes, OutOfMemory> {
     let mut name = Vec::from_slice(alloc, FRONT)?;
     let mut rest = number;
     for _i in 0..7 {
