@@ -1,4 +1,4 @@
-use mo_cmd::{Command, InputForm, UsageFault, paths_for, read_all_words, read_list, read_words};
+use mo_cmd::{Command, InputForm, Rows, UsageFault, paths_for, read_all_words, read_list, read_words};
 use mo_types::{Arg, ArgList, Bytes, Feature, Items, NameList, ObjFault, OutOfMemory, UsageRule};
 use std::alloc::Global;
 use std::process::Abort;
@@ -385,7 +385,7 @@ fn all_tell(alloc: Global, told: Told, words: &ArgList, expected: &str) -> bool 
 }
 
 fn link_tells(alloc: Global, told: Told, words: &ArgList, expected: &str) -> bool {
-    let read = read_words(alloc, words);
+    let read = read_words(alloc, Rows::Objects, words);
     tells(alloc, told, &read, expected)
 }
 

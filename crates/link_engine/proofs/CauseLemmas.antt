@@ -1,6 +1,7 @@
 -- From a verdict to the cause of each refusal, and back.
 use Rattle.std.proofs.Common.{◌≡◌, ℕ, ◌≤◌, ◌⊎◌, inl, inr, List, [], ◌∷◌, length, slice_get, Option, Some, None, Result, Ok, Err, IfErr, refl, sym, ap, ◌∙◌, subst, arith}
 use Rattle.mo_cmd.specs.Command as whole
+use Rattle.mo_cmd.specs.declared.parts.Rows.TheVariants.{Objects}
 use Rattle.mo_cmd.specs.declared.command.Command.{Command as WholeCommand}
 use Rattle.mo_cmd.specs.declared.command.CommandInput.{CommandInput}
 use Rattle.mo_cmd.specs.declared.command.UsageFault.{UsageFault}
@@ -44,7 +45,7 @@ told_kind (Err NoMemory) = tt
 
 command_kind : (words : List (List ℕ)) → IfErr (command_of words) IsUsage
 unfolding command_of
-command_kind words = told_kind (whole.command_of words)
+command_kind words = told_kind (whole.command_by Objects words)
 
 no_refusal : (words : List (List ℕ)) (refusal : Refusal) → command_of words ≡ Err (stop.Refused refusal) → ⊥
 no_refusal words refusal e = subst (λ (r : Result Command Stop). IfErr r IsUsage) e (command_kind words)

@@ -4,6 +4,7 @@ use Rattle.mo_types.specs.declared.cause.UsageRule.TheVariants.{NoInput}
 use Rattle.mo_cmd.specs.Command as whole
 use Rattle.mo_cmd.specs.declared.command.Command.{Command as WholeCommand}
 use Rattle.mo_cmd.specs.declared.command.UsageFault.{UsageFault}
+use Rattle.mo_cmd.specs.declared.parts.Rows.TheVariants.{Objects}
 use Rattle.mo_cmd.specs.declared.command.UsageFault.TheVariants as fault
 use Rattle.link_engine.specs.declared.words.Command.{Command}
 use Rattle.link_engine.specs.declared.stop.Stop.{Stop}
@@ -19,4 +20,4 @@ told (Err (fault.At word rule)) = Err (Usage word rule)
 told (Err fault.OutOfMemory) = Err (Usage 0 NoInput)
 
 unfoldable pub command_of : List (List ℕ) → Result Command Stop
-command_of words = told (whole.command_of words)
+command_of words = told (whole.command_by Objects words)

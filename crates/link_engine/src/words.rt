@@ -4,7 +4,7 @@ ghost use Rattle.link_engine.specs.Steps.{IsWordsStop};
 ghost use Rattle.link_engine.specs.Stop.{Answers};
 
 use crate::stop::{StepFault, Stop};
-use mo_cmd::{CommandInputList, UsageFault};
+use mo_cmd::{CommandInputList, Rows, UsageFault};
 use mo_types::{ArgList, Bytes};
 use std::alloc::Global;
 
@@ -32,7 +32,7 @@ pub fn read_words(alloc: Global, words: &ArgList) -> Result<Command, StepFault>
     ensures exact { Answers result (command_of words.now) }
     ensures kind { IfErr result IsWordsStop }
 {
-    match mo_cmd::read_words(alloc, words) {
+    match mo_cmd::read_words(alloc, Rows::Objects, words) {
         Ok(command) => Ok(take(command)),
         Err(UsageFault::At { word, rule }) => Err(StepFault::Stop(Stop::Usage { word, rule })),
         Err(UsageFault::OutOfMemory) => Err(StepFault::OutOfMemory),

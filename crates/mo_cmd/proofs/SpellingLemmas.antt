@@ -1,5 +1,5 @@
 -- Items and their spellings: the words are those of their items, and items are read back from their words.
-use Rattle.std.proofs.Common.{◌≡◌, ℕ, zero, suc, ◌+◌, ◌-◌, ◌<◌, ◌≤◌, ◌⊎◌, inl, inr, ◌++◌, ◌∷◌, [], List, length, take, drop, get_or, map, Bool, true, false, cond, ◌&&◌, Option, Some, None, Result, Ok, Err, refl, sym, ap, ◌∙◌, subst, arith, append_assoc, append-nil, length-append}
+use Rattle.std.proofs.Common.{◌≡◌, ℕ, zero, suc, ◌+◌, ◌⊎◌, inl, inr, ◌++◌, ◌∷◌, [], List, length, take, drop, get_or, map, Bool, true, false, cond, ◌&&◌, Option, Some, None, Ok, refl, sym, ap, ◌∙◌, subst, arith, append_assoc, length-append}
 use Rattle.std.specs.Prelude.{bytes_eq}
 use Rattle.std.specs.List.{find}
 use Rattle.std.specs.Option.{option_map_or}
@@ -13,14 +13,13 @@ use Rattle.mo_cmd.specs.declared.options.CommandOption.{CommandOption}
 use Rattle.mo_cmd.specs.declared.options.CommandOption.TheVariants as option
 use Rattle.mo_cmd.specs.declared.parts.Part.{Part}
 use Rattle.mo_cmd.specs.declared.parts.Rows.{Rows}
-use Rattle.mo_cmd.specs.declared.parts.Rows.TheVariants.{All, Brought}
 use Rattle.mo_cmd.specs.declared.values.Form.{Form}
 use Rattle.mo_cmd.specs.declared.values.Form.TheVariants.{Separate, Attached, Whole}
 use Rattle.mo_cmd.specs.Options.{name_of, values_of, options, option_named}
-use Rattle.mo_cmd.specs.Parts.{has_nul, is_plain, is_attached, is_linked, among, option_of, option_attached, parts_from, parts_of}
+use Rattle.mo_cmd.specs.Parts.{has_nul, is_plain, is_attached, has, among, option_of, option_attached, parts_from, parts_of}
 use Rattle.mo_cmd.specs.Items.{Item, form_of, value_of, values_by, spelled, spelling, spellings, item_of, items_of}
 use Rattle.mo_cmd.specs.Command.{command_by, command_from, decided, line_fault, has_input, switches_of, numbers_of}
-use Rattle.mo_cmd.specs.Laws.{has_count, first_word, IsSpelled, AreSpelled, AreReadBack, AreConsumed, IsOfItems, HasDefaults}
+use Rattle.mo_cmd.specs.Laws.{has_count, first_word, AreSpelled, AreReadBack, AreConsumed, IsOfItems, HasDefaults}
 
 -- What the option of a word says of the word
 
@@ -86,8 +85,7 @@ option_says word =
     (pick (is_plain word) option.Path (option_map_or (λ meant. meant) (option_named word) (option_attached word)) word (λ _. refl) (either_says (option_named word) word (named_says word)))
 
 among_says : (rows : Rows) (meant : CommandOption) (word : List ℕ) → IsSaid meant word → IsSaid (among rows meant) word
-among_says All meant word said = said
-among_says Brought meant word said = pick (is_linked meant) meant option.Unknown word (λ _. said) refl
+among_says rows meant word said = pick (has rows meant) meant option.Unknown word (λ _. said) refl
 
 -- The words are those of their items
 

@@ -20,7 +20,7 @@ use Rattle.mo_cmd.specs.declared.options.Field.{Field}
 use Rattle.mo_cmd.specs.declared.options.Field.TheVariants as field
 use Rattle.mo_cmd.specs.declared.parts.Part.{Part}
 use Rattle.mo_cmd.specs.declared.parts.Rows.{Rows}
-use Rattle.mo_cmd.specs.declared.parts.Rows.TheVariants.{All, Brought}
+use Rattle.mo_cmd.specs.declared.parts.Rows.TheVariants.{All}
 use Rattle.mo_cmd.specs.Options.{field_of, number_of}
 use Rattle.mo_cmd.specs.Parts.{parts_of}
 use Rattle.mo_cmd.specs.Items.{Item, items_of, value_of}
@@ -244,12 +244,9 @@ decided_of words parts items =
 unfoldable pub command_by : Rows → List (List ℕ) → Result Command UsageFault
 command_by rows words = decided_of words (parts_of rows words) (items_of rows words)
 
--- with all rows, and with those that the link has yet
+-- with all rows
 abbrev pub whole_command_of : List (List ℕ) → Result Command UsageFault
 whole_command_of words = command_by All words
-
-abbrev pub command_of : List (List ℕ) → Result Command UsageFault
-command_of words = command_by Brought words
 
 abbrev pub IsUsage : UsageFault → Type 0
 IsUsage (At word rule) = Unit {0}

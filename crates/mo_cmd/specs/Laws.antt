@@ -1,6 +1,5 @@
 -- What holds of every command line, in words of its items.
 use Rattle.std.specs.Prelude.{◌≡◌, ℕ, ◌^◌, false, List, [], ◌∷◌, length, codes, None, Ok}
-use Rattle.mo_cmd.specs.declared.options.CommandOption.{CommandOption}
 use Rattle.mo_cmd.specs.declared.options.CommandOption.TheVariants as option
 use Rattle.mo_cmd.specs.declared.command.InputForm.TheVariants.{Path}
 use Rattle.mo_cmd.specs.declared.parts.Rows.{Rows}

@@ -1,12 +1,12 @@
 -- What the words of a command line are: options with their values, paths, and words that no row has.
-use Rattle.std.specs.Prelude.{ℕ, zero, suc, ◌+◌, ◌==◌, ◌&&◌, nat_lt, nat_eq, Bool, true, false, not, List, [], ◌∷◌, length, if◌then◌else◌}
+use Rattle.std.specs.Prelude.{ℕ, zero, suc, ◌+◌, ◌==◌, ◌&&◌, nat_le, nat_lt, nat_eq, Bool, false, not, List, [], ◌∷◌, length, if◌then◌else◌}
 use Rattle.std.specs.List.{list_any, starts_with}
 use Rattle.std.specs.Option.{option_map_or}
 use Rattle.mo_cmd.specs.declared.options.CommandOption.{CommandOption}
 use Rattle.mo_cmd.specs.declared.options.CommandOption.TheVariants as option
 use Rattle.mo_cmd.specs.declared.parts.Part.{Part}
 use Rattle.mo_cmd.specs.declared.parts.Rows.{Rows}
-use Rattle.mo_cmd.specs.declared.parts.Rows.TheVariants.{All, Brought}
+use Rattle.mo_cmd.specs.declared.parts.Rows.TheVariants.{Objects, Libraries, Stripping, Exports, Islands, Opcodes, All}
 use Rattle.mo_cmd.specs.Options.{name_of, values_of, option_named}
 
 -- a NUL stands in the word
@@ -39,17 +39,51 @@ option_of word =
     else if is_plain word then option.Path
     else option_map_or (λ named. named) (option_named word) (option_attached word)
 
--- WHAT THE LINK HAS YET. An option that isn't here counts as unknown.
-abbrev pub is_linked : CommandOption → Bool
-is_linked option.Path = true
-is_linked option.Output = true
-is_linked option.Threads = true
-is_linked _ = false
+-- the first form of the link that has an option
+abbrev pub since : CommandOption → Rows
+since option.Path = Objects
+since option.Unknown = Objects
+since option.Output = Objects
+since option.Threads = Objects
+since option.DeadStrip = Stripping
+since option.Dylib = Exports
+since option.InstallName = Exports
+since option.DylibInstallName = Exports
+since option.CurrentVersion = Exports
+since option.DylibCurrentVersion = Exports
+since option.CompatibilityVersion = Exports
+since option.DylibCompatibilityVersion = Exports
+since option.ReexportFramework = Exports
+since option.ReexportLibrary = Exports
+since option.ReexportLibraryNamed = Exports
+since option.ExportedSymbolsList = Exports
+since option.ExportedSymbol = Exports
+since option.UnexportedSymbolsList = Exports
+since option.UnexportedSymbol = Exports
+since option.Map = Exports
+since option.BranchReach = Islands
+since option.Generate = Islands
+since option.NoFixupChains = Opcodes
+since option.Icf = All
+since _ = Libraries
+
+-- each form has what those before it have
+abbrev pub number : Rows → ℕ
+number Objects = 0
+number Libraries = 1
+number Stripping = 2
+number Exports = 3
+number Islands = 4
+number Opcodes = 5
+number All = 6
+
+-- WHAT A LINK HAS. An option that its form hasn't counts as unknown.
+abbrev pub has : Rows → CommandOption → Bool
+has rows meant = nat_le (number (since meant)) (number rows)
 
 -- the option, where the rows that are asked for have it
 abbrev pub among : Rows → CommandOption → CommandOption
-among All meant = meant
-among Brought meant = if is_linked meant then meant else option.Unknown
+among rows meant = if has rows meant then meant else option.Unknown
 
 -- The parts of the words from the one of index `at` on, of which the first `skipped` are values of an option before
 -- them. A part is an option, and the index of its word.

@@ -5,13 +5,24 @@ use crate::options::{CommandOption, option_named};
 use mo_types::{Arg, Items, OutOfMemory};
 use std::alloc::Global;
 
-/// Which rows of the table of options count.
+/// Which rows of the table of options count: each form of the link has those of the forms before it, and a word that its
+/// rows don't have is unknown.
 #[derive(Clone, Copy, Debug, PartialEq, Eq)]
 pub enum Rows {
-    /// All of them.
+    /// Objects by their paths, the path of the image and the number of workers.
+    Objects,
+    /// Archives and libraries with where they are looked for, the machine and the platform, and what becomes of names.
+    Libraries,
+    /// What isn't reached may be left out.
+    Stripping,
+    /// Dynamic libraries, what is exported, and the map.
+    Exports,
+    /// How far branches reach, and functions that are made as inputs.
+    Islands,
+    /// Fixups as opcodes.
+    Opcodes,
+    /// All of them: identical code may be folded too.
     All,
-    /// Those that the link has yet.
-    Brought,
 }
 
 /// An option or a path of the command line, and the index of its word.
@@ -81,22 +92,60 @@ fn option_of(word: &[u8]) -> CommandOption
     }
 }
 
-fn is_linked(option: CommandOption) -> bool
-    ensures { result ≡ parts.is_linked option }
+// The first form of the link that has an option.
+fn since(option: CommandOption) -> Rows
+    ensures { result ≡ parts.since option }
 {
-    matches!(
-        option,
-        CommandOption::Path | CommandOption::Output | CommandOption::Threads
-    )
+    match option {
+        CommandOption::Path
+        | CommandOption::Unknown
+        | CommandOption::Output
+        | CommandOption::Threads => Rows::Objects,
+        CommandOption::DeadStrip => Rows::Stripping,
+        CommandOption::Dylib
+        | CommandOption::InstallName
+        | CommandOption::DylibInstallName
+        | CommandOption::CurrentVersion
+        | CommandOption::DylibCurrentVersion
+        | CommandOption::CompatibilityVersion
+        | CommandOption::DylibCompatibilityVersion
+        | CommandOption::ReexportFramework
+        | CommandOption::ReexportLibrary
+        | CommandOption::ReexportLibraryNamed
+        | CommandOption::ExportedSymbolsList
+        | CommandOption::ExportedSymbol
+        | CommandOption::UnexportedSymbolsList
+        | CommandOption::UnexportedSymbol
+        | CommandOption::Map => Rows::Exports,
+        CommandOption::BranchReach | CommandOption::Generate => Rows::Islands,
+        CommandOption::NoFixupChains => Rows::Opcodes,
+        CommandOption::Icf => Rows::All,
+        _ => Rows::Libraries,
+    }
+}
+
+// Where a form of the link stands among all.
+fn number(rows: Rows) -> u8
+    ensures { result ≡ parts.number rows }
+{
+    match rows {
+        Rows::Objects => 0,
+        Rows::Libraries => 1,
+        Rows::Stripping => 2,
+        Rows::Exports => 3,
+        Rows::Islands => 4,
+        Rows::Opcodes => 5,
+        Rows::All => 6,
+    }
 }
 
 fn among(rows: Rows, option: CommandOption) -> CommandOption
     ensures { result ≡ parts.among rows option }
 {
-    match rows {
-        Rows::All => option,
-        Rows::Brought if is_linked(option) => option,
-        Rows::Brought => CommandOption::Unknown,
+    if number(since(option)) <= number(rows) {
+        option
+    } else {
+        CommandOption::Unknown
     }
 }
 

@@ -3,7 +3,7 @@
 ghost use Rattle.std.specs.Prelude.{◌≡◌, ◌<◌, All, length};
 ghost use Rattle.mo_types.specs.Gives.{Gives};
 ghost use Rattle.mo_cmd.specs.Command as command;
-ghost use Rattle.mo_cmd.specs.Command.{IsUsage, command_by, command_of, whole_command_of};
+ghost use Rattle.mo_cmd.specs.Command.{IsUsage, command_by, whole_command_of};
 ghost use Rattle.mo_cmd.specs.Sorted.{IsSorted, sorted_items};
 
 use crate::build::{Numbers, Switches, has_input, numbers_of, switches_of, whole_of};
@@ -56,17 +56,17 @@ fn read_by(alloc: Global, rows: Rows, words: &[Arg]) -> Result<Command, UsageFau
     }
 }
 
-/// Reads the words of a command line after the program's name (ld(1)), by the options that the link has yet:
-/// any other one is unknown. The fault of the least word decides.
-pub fn read_words(alloc: Global, words: &ArgList) -> Result<Command, UsageFault>
-    ensures { Gives IsUsage result (command_of words.now) }
+/// Reads the words of a command line after the program's name (ld(1)), by the options that a form of the link has: any
+/// other one is unknown. The fault of the least word decides.
+pub fn read_words(alloc: Global, rows: Rows, words: &ArgList) -> Result<Command, UsageFault>
+    ensures { Gives IsUsage result (command_by rows words.now) }
 {
-    read_by(alloc, Rows::Brought, words.as_slice())
+    read_by(alloc, rows, words.as_slice())
 }
 
 /// Reads the words of a command line after the program's name, by all options.
 pub fn read_all_words(alloc: Global, words: &ArgList) -> Result<Command, UsageFault>
     ensures { Gives IsUsage result (whole_command_of words.now) }
 {
-    read_by(alloc, Rows::All, words.as_slice())
+    read_words(alloc, Rows::All, words)
 }
