@@ -13,7 +13,6 @@ use Rattle.load_cmds.specs.declared.parts.PartKinds.{PartKinds}
 use Rattle.load_cmds.specs.declared.parts.PartPlace.{PartPlace}
 use Rattle.load_cmds.specs.declared.parts.PartSizes.{PartSizes}
 use Rattle.mo_cmd.specs.declared.command.Command.{Command}
-use Rattle.mo_format.specs.declared.loader.TheConstants.{MH_DYLDLINK, MH_NOUNDEFS, MH_PIE, MH_TWOLEVEL}
 use Rattle.mo_types.specs.declared.goal.Goal.{Goal}
 use Rattle.mo_types.specs.declared.key.AtomKey.{AtomKey}
 use Rattle.mo_types.specs.declared.loaded.LoadedFile.{LoadedFile}
@@ -32,7 +31,8 @@ use Rattle.image_make.specs.declared.fault.MakeFault.{MakeFault}
 use Rattle.image_make.specs.declared.fault.MakeFault.TheVariants.{Place, Range, OutOfMemory}
 
 -- What an image is made of: the command and its libraries, the loaded files with the goals of their symbols, what stands for
--- each literal, the keys of the atoms that are kept, where the program begins, and the slots and islands that it has.
+-- each literal, the keys of the atoms that are kept, the header's flags, where the program begins, and the slots and islands
+-- that it has.
 pub record Making : Type 0 where
   pub command : Command
   pub libs : LibraryGraph
@@ -40,6 +40,7 @@ pub record Making : Type 0 where
   pub goals : List (List Goal)
   pub literals : List Representative
   pub keys : List AtomKey
+  pub flags : ℕ
   pub entry : Goal
   pub slots : Slots
   pub islands : IslandPlan
@@ -80,8 +81,8 @@ entry_offset m layout = goal_address (base_of m.command) layout.placed m.entry -
 abbrev pub no_place : PartPlace
 no_place = record { offset = 0; size = 0 }
 
-abbrev pub parts_of : ℕ → PartSizes
-parts_of entryoff = record {
+abbrev pub parts_of : ℕ → ℕ → PartSizes
+parts_of flags entryoff = record {
   there = no_parts;
   fixups = no_place;
   trie = no_place;
@@ -93,7 +94,7 @@ parts_of entryoff = record {
   exported = 0;
   undefined = 0;
   entryoff = entryoff;
-  flags = MH_NOUNDEFS + MH_DYLDLINK + MH_TWOLEVEL + MH_PIE;
+  flags = flags;
 }
 
 -- where the last segment ends in the file
@@ -105,7 +106,7 @@ unfoldable pub blank_of : List ℕ → Layout → List ℕ
 blank_of front layout = joined (record { size = file_end layout.segments; parts = record { from = 0; bytes = front } ∷ [] })
 
 abbrev pub front_of : Making → Layout → List ℕ
-front_of m layout = commands_of layout (parts_of (entry_offset m layout)) m.command m.libs
+front_of m layout = commands_of layout (parts_of m.flags (entry_offset m layout)) m.command m.libs
 
 abbrev pub blank : Making → Layout → List ℕ
 blank m layout = blank_of (front_of m layout) layout

@@ -11,7 +11,6 @@ use atom_work::goal_address;
 use lib_bind::Libraries;
 use load_cmds::{PartPlace, PartSizes, commands};
 use mo_cmd::Command;
-use mo_format::loader::{MH_DYLDLINK, MH_NOUNDEFS, MH_PIE, MH_TWOLEVEL};
 use mo_types::{Bytes, Goal, OutOfMemory};
 use sect_place::Layout;
 use std::alloc::Global;
@@ -26,8 +25,8 @@ pub(crate) fn base_of(command: &Command) -> u64
 const NO_PLACE: PartPlace = PartPlace { offset: 0, size: 0 };
 
 // The parts of an image and what else its load commands tell.
-fn parts_of(entryoff: u64) -> PartSizes
-    ensures { result ≡ spec.parts_of entryoff }
+fn parts_of(flags: u32, entryoff: u64) -> PartSizes
+    ensures { result ≡ spec.parts_of flags entryoff }
 {
     PartSizes {
         there: NO_PARTS,
@@ -41,24 +40,25 @@ fn parts_of(entryoff: u64) -> PartSizes
         exported: 0,
         undefined: 0,
         entryoff,
-        flags: MH_NOUNDEFS + MH_DYLDLINK + MH_TWOLEVEL + MH_PIE,
+        flags,
     }
 }
 
-/// The header with the load commands of an image that begins at a goal.
+/// The header, of these flags, with the load commands of an image that begins at a goal.
 pub(crate) fn front_of(
     alloc: Global,
     command: &Command,
     libs: &Libraries,
     layout: &Layout,
+    flags: u32,
     entry: &Goal,
 ) -> Result<Bytes, OutOfMemory>
     requires whole { IsWholeLayout layout.now }
     requires once { AreOnce layout.now.placed }
-    ensures { IfOk result (λ front. front ≡ commands_of layout.now (spec.parts_of (goal_address (base_of command.now) layout.now.placed entry.now - base_of command.now)) command.now libs.now) }
+    ensures { IfOk result (λ front. front ≡ commands_of layout.now (spec.parts_of flags (goal_address (base_of command.now) layout.now.placed entry.now - base_of command.now)) command.now libs.now) }
 {
     let base = base_of(command);
     let start = goal_address(layout, base, entry)?;
-    let parts = parts_of(start.saturating_sub(base));
+    let parts = parts_of(flags, start.saturating_sub(base));
     commands(alloc, layout, &parts, command, libs)
 }

@@ -35,6 +35,8 @@ pub struct Scheme<'a> {
     pub goals: &'a GoalTable,
     /// The atoms that are kept, by rising key.
     pub keys: &'a KeyList,
+    /// The header's flags (`loader.h`: MH_NOUNDEFS and its kin).
+    pub flags: u32,
     /// Where the program begins.
     pub entry: &'a Goal,
     pub slots: &'a Slots,
@@ -54,7 +56,7 @@ pub fn make_image<R: Threads + Sync, G: Gate + Sync>(
     requires keys { IsStrictlySortedBy compare_keys scheme.now.keys.now }
     requires rising { IsStrictlySortedBy (on (λ (one : KeptAtom). one.atom.key) compare_keys) (kept_atoms scheme.now.winners.now.literals scheme.now.keys.now scheme.now.loaded.now.files) }
     requires low { All (λ one. one.atom.align ≤ 14) (kept_atoms scheme.now.winners.now.literals scheme.now.keys.now scheme.now.loaded.now.files) }
-    ensures { IsMade (record { command = scheme.now.command.now; libs = scheme.now.libs.now; files = scheme.now.loaded.now.files; goals = scheme.now.goals.now; literals = scheme.now.winners.now.literals; keys = scheme.now.keys.now; entry = scheme.now.entry.now; slots = scheme.now.slots.now; islands = scheme.now.islands.now }) result }
+    ensures { IsMade (record { command = scheme.now.command.now; libs = scheme.now.libs.now; files = scheme.now.loaded.now.files; goals = scheme.now.goals.now; literals = scheme.now.winners.now.literals; keys = scheme.now.keys.now; flags = scheme.now.flags; entry = scheme.now.entry.now; slots = scheme.now.slots.now; islands = scheme.now.islands.now }) result }
 {
     let kept = kept_atoms(alloc, scheme.loaded, scheme.winners, scheme.keys)?;
     let layout = lay_out(
@@ -66,7 +68,14 @@ pub fn make_image<R: Threads + Sync, G: Gate + Sync>(
         scheme.slots,
         scheme.islands,
     )?;
-    let front = front_of(alloc, scheme.command, scheme.libs, &layout, scheme.entry)?;
+    let front = front_of(
+        alloc,
+        scheme.command,
+        scheme.libs,
+        &layout,
+        scheme.flags,
+        scheme.entry,
+    )?;
     let blank = blank_image(alloc, &layout, front)?;
     let work = work_of(
         alloc,

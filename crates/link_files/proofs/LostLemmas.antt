@@ -1,0 +1,74 @@
+-- Names that lead nowhere.
+use Rattle.std.proofs.Common.{◌≡◌, ℕ, ◌+◌, ◌<◌, ◌≤◌, Bool, true, false, List, [], ◌∷◌, ◌++◌, length, drop, get_or, Option, Some, None, refl, sym, ap, ◌∙◌, add-one, drop-cons, append_assoc}
+use Rattle.std.specs.List.{filter}
+use Rattle.std.specs.Option.{option_map}
+use Rattle.std.proofs.lemmas.List.{append-nil, drop_all}
+use Rattle.kept_refs.specs.Undefined.{is_nobody, undefined}
+use Rattle.kept_refs.specs.declared.lost.Lost.{Lost}
+use Rattle.kept_refs.specs.inner.Lost.{held}
+use Rattle.lib_bind.specs.declared.library.LibraryGraph.{LibraryGraph}
+use Rattle.mo_cmd.specs.declared.command.Command.{Command}
+use Rattle.mo_types.specs.declared.answer.Refusal.{Refusal}
+use Rattle.mo_types.specs.declared.answer.Refusal.TheVariants.{Undefined}
+use Rattle.mo_types.specs.declared.goal.Goal.{Goal}
+use Rattle.mo_types.specs.declared.key.AtomKey.{AtomKey}
+use Rattle.mo_types.specs.declared.loaded.LoadedFile.{LoadedFile}
+use Rattle.resolve.specs.Goals.{goal_of_name, goal_table}
+use Rattle.link_files.specs.Lost.{lost_wanted, undefined_refusal}
+use Rattle.link_files.specs.Names.{wanted}
+
+-- those that pass a test, of the elements before a place
+pub record IsSifted {X : Type 0} (test : X → Bool) (kept xs : List X) (at : ℕ) : Type 0 where
+  pub same : kept ++ filter test (drop at xs) ≡ filter test xs
+
+pub sift_starts : {X : Type 0} (test : X → Bool) (xs : List X) → IsSifted test [] xs 0
+sift_starts test xs = record { same = refl }
+
+from_here : {X : Type 0} (xs : List X) (at : ℕ) (x : X) → at < length xs → x ≡ get_or xs at x → drop at xs ≡ x ∷ drop (at + 1) xs
+from_here xs at x within is = rw (drop-cons xs at x within, ← is, add-one) refl
+
+passing : {X : Type 0} (test : X → Bool) (x : X) (rest : List X) → test x ≡ true → filter test (x ∷ rest) ≡ x ∷ filter test rest
+passing test x rest yes_ = rw yes_ refl
+
+failing : {X : Type 0} (test : X → Bool) (x : X) (rest : List X) → test x ≡ false → filter test (x ∷ rest) ≡ filter test rest
+failing test x rest no_ = rw no_ refl
+
+pub sift_keeps : {X : Type 0} (test : X → Bool) (kept new xs : List X) (at : ℕ) (x : X) → IsSifted test kept xs at → at < length xs → x ≡ get_or xs at x → test x ≡ true → new ≡ kept ++ x ∷ [] → IsSifted test new xs (at + 1)
+sift_keeps {X = X} test kept new xs at x sifted within is passes more = record {
+  same =
+      ap (λ (ys : List X). ys ++ filter test (drop (at + 1) xs)) more
+      ∙ append_assoc kept (x ∷ []) (filter test (drop (at + 1) xs))
+      ∙ ap (λ (ys : List X). kept ++ ys) (sym (ap (filter test) (from_here xs at x within is) ∙ passing test x (drop (at + 1) xs) passes))
+      ∙ sifted.same;
+}
+
+pub sift_passes : {X : Type 0} (test : X → Bool) (kept xs : List X) (at : ℕ) (x : X) → IsSifted test kept xs at → at < length xs → x ≡ get_or xs at x → test x ≡ false → IsSifted test kept xs (at + 1)
+sift_passes {X = X} test kept xs at x sifted within is fails = record {
+  same =
+      ap (λ (ys : List X). kept ++ ys) (sym (ap (filter test) (from_here xs at x within is) ∙ failing test x (drop (at + 1) xs) fails))
+      ∙ sifted.same;
+}
+
+pub sift_ends : {X : Type 0} (test : X → Bool) (kept xs : List X) (at : ℕ) → IsSifted test kept xs at → length xs ≤ at → kept ≡ filter test xs
+sift_ends {X = X} test kept xs at sifted past =
+    sym (append-nil kept) ∙ ap (λ (ys : List X). kept ++ filter test ys) (sym (drop_all at xs past)) ∙ sifted.same
+
+pub ruleset lost = (sift_starts, sift_ends)
+
+-- ---- what the code found
+
+pub lost_told : (command : Command) (libs : LibraryGraph) (files : List LoadedFile) (keys : List AtomKey) (goals : List (List Goal)) (wants names : List (List ℕ)) (found : Option Lost) (lost : Lost) (refusal : Refusal)
+    → goals ≡ goal_table files libs command → wants ≡ wanted command → names ≡ filter (λ name. is_nobody (goal_of_name files libs command name)) wants → option_map held found ≡ undefined keys files goals names
+    → found ≡ Some lost → refusal ≡ Undefined lost.name.now lost.label.now → Some refusal ≡ undefined_refusal command libs files keys
+unfolding undefined_refusal lost_wanted
+lost_told command libs files keys goals wants names found lost refusal g w n is some told =
+    let all : option_map held found ≡ undefined keys files (goal_table files libs command) (lost_wanted command libs files) = rw (← g, ← w, ← n) is in
+    ap Some told ∙ ap (option_map (λ p. Undefined p.0 p.1)) (ap (option_map held) (sym some) ∙ all)
+
+pub none_lost : (command : Command) (libs : LibraryGraph) (files : List LoadedFile) (keys : List AtomKey) (goals : List (List Goal)) (wants names : List (List ℕ)) (found : Option Lost)
+    → goals ≡ goal_table files libs command → wants ≡ wanted command → names ≡ filter (λ name. is_nobody (goal_of_name files libs command name)) wants → option_map held found ≡ undefined keys files goals names
+    → found ≡ None → None ≡ undefined_refusal command libs files keys
+unfolding undefined_refusal lost_wanted
+none_lost command libs files keys goals wants names found g w n is none =
+    let all : option_map held found ≡ undefined keys files (goal_table files libs command) (lost_wanted command libs files) = rw (← g, ← w, ← n) is in
+    ap (option_map (λ p. Undefined p.0 p.1)) (ap (option_map held) (sym none) ∙ all)

@@ -1,0 +1,5 @@
+use Rattle.link_files.proofs.NameLemmas.{IsCounted}
+use Rattle.link_files.proofs.names.atoms_refusal.Given as goal
+
+abbrev pub invariant-loop-file : goal.invariant-loop-file
+invariant-loop-file l = IsCounted l.files l.left l.file-index

@@ -1,0 +1,27 @@
+-- The flags of an image's header (`loader.h`: mach_header_64).
+use Rattle.std.specs.Prelude.{ℕ, ◌+◌, ◌&&◌, Bool, List, if◌then◌else◌}
+use Rattle.std.specs.List.{list_any}
+use Rattle.lib_bind.specs.declared.library.LibraryGraph.{LibraryGraph}
+use Rattle.mark_core.specs.Kept.{has}
+use Rattle.mo_cmd.specs.declared.command.Command.{Command}
+use Rattle.mo_format.specs.declared.loader.TheConstants.{MH_DYLDLINK, MH_NOUNDEFS, MH_NO_REEXPORTED_DYLIBS, MH_PIE, MH_TWOLEVEL, MH_WEAK_DEFINES}
+use Rattle.mo_types.specs.declared.key.AtomKey.{AtomKey}
+use Rattle.resolve.specs.Roots.{winner_atom}
+use Rattle.resolve.specs.declared.representative.Representative.{Representative}
+use Rattle.resolve.specs.declared.winner.Winner.{Winner}
+
+-- a weak definition that other images see, whose atom is kept
+unfoldable pub is_weak_export : List Representative → List AtomKey → Winner → Bool
+is_weak_export literals keys winner = winner.weak && winner.exported && has keys (winner_atom literals winner)
+
+abbrev pub weak_flag : Bool → ℕ
+weak_flag weak = if weak then MH_WEAK_DEFINES else 0
+
+abbrev pub kind_flag : Bool → Bool → ℕ
+kind_flag dylib reexports = if dylib then (if reexports then 0 else MH_NO_REEXPORTED_DYLIBS) else MH_PIE
+
+-- Two-level names, all of which are defined; whether weak definitions are exported; and an executable may stand anywhere.
+unfoldable pub header_flags : Command → LibraryGraph → List Winner → List Representative → List AtomKey → ℕ
+header_flags command libs winners literals keys =
+    MH_NOUNDEFS + MH_DYLDLINK + MH_TWOLEVEL + weak_flag (list_any (is_weak_export literals keys) winners)
+    + kind_flag command.dylib (list_any (λ library. library.reexport) libs.libraries)

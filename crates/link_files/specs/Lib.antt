@@ -1,0 +1,9 @@
+pub mod Causes
+pub mod Steps
+pub mod Names
+pub mod Flags
+pub mod Lost
+pub mod Later
+pub mod Refusals
+pub mod Linked
+pub mod inner

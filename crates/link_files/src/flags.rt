@@ -1,0 +1,64 @@
+//! The flags of the image's header.
+ghost use Rattle.std.specs.Prelude.{◌≡◌};
+ghost use Rattle.std.specs.List.{list_any};
+ghost use Rattle.std.specs.List.Sorted.{IsStrictlySortedBy};
+ghost use Rattle.mo_types.specs.Keys.{compare_keys};
+ghost use Rattle.link_files.specs.Flags as spec;
+
+use crate::kept::is_kept;
+use lib_bind::{Libraries, Library};
+use mo_cmd::Command;
+use mo_format::loader::{
+    MH_DYLDLINK, MH_NO_REEXPORTED_DYLIBS, MH_NOUNDEFS, MH_PIE, MH_TWOLEVEL, MH_WEAK_DEFINES,
+};
+use mo_types::AtomKey;
+use resolve::{Winner, Winners};
+
+#[tactic(auto, unfolding(crate::specs::Flags::is_weak_export))]
+fn is_weak_export(winners: &Winners, keys: &[AtomKey], winner: &Winner) -> bool
+    requires { IsStrictlySortedBy compare_keys keys.now }
+    ensures { result ≡ spec.is_weak_export winners.now.literals keys.now winner.now }
+{
+    winner.weak && winner.exported && is_kept(keys, winners.representative(winner.atom))
+}
+
+// Whether a weak definition is kept that other images see.
+fn any_weak_export(winners: &Winners, list: &[Winner], keys: &[AtomKey]) -> bool
+    requires { IsStrictlySortedBy compare_keys keys.now }
+    ensures { result ≡ list_any (spec.is_weak_export winners.now.literals keys.now) list.now }
+{
+    list.iter()
+        .any(|winner| is_weak_export(winners, keys, winner))
+}
+
+fn any_reexported(libraries: &[Library]) -> bool
+    ensures { result ≡ list_any (λ library. library.reexport) libraries.now }
+{
+    libraries.iter().any(|library| library.reexport)
+}
+
+/// The flags of an image that keeps these atoms (`loader.h`).
+#[tactic(auto, unfolding(crate::specs::Flags::header_flags))]
+pub(crate) fn header_flags(
+    command: &Command,
+    libs: &Libraries,
+    winners: &Winners,
+    keys: &[AtomKey],
+) -> u32
+    requires { IsStrictlySortedBy compare_keys keys.now }
+    ensures { result ≡ spec.header_flags command.now libs.now winners.now.winners winners.now.literals keys.now }
+{
+    let weak = if any_weak_export(winners, winners.winners(), keys) {
+        MH_WEAK_DEFINES
+    } else {
+        0
+    };
+    let kind = if !command.dylib {
+        MH_PIE
+    } else if any_reexported(libs.graph().libraries.as_slice()) {
+        0
+    } else {
+        MH_NO_REEXPORTED_DYLIBS
+    };
+    MH_NOUNDEFS + MH_DYLDLINK + MH_TWOLEVEL + weak + kind
+}

@@ -1,0 +1,31 @@
+//! The atoms that a link keeps.
+ghost use Rattle.std.specs.Prelude.{◌≡◌, IfOk};
+ghost use Rattle.mark_core.specs.Kept.{IsKept};
+ghost use Rattle.mo_types.specs.Loaded.{IsWholeLoaded};
+ghost use Rattle.resolve.specs.Edges.{edges_by, supports_by};
+ghost use Rattle.resolve.specs.Representatives.{representatives_of};
+ghost use Rattle.resolve.specs.Roots.{roots};
+
+use kept_refs::GoalTable;
+use mark_core::kept;
+use mo_cmd::Command;
+use mo_types::{KeyList, Loaded, OutOfMemory};
+use resolve::{Winners, edges, roots};
+use std::alloc::Global;
+
+/// The keys of the atoms that are kept, in order: those that are reached from the roots.
+pub(crate) fn kept_keys(
+    alloc: Global,
+    loaded: &Loaded,
+    winners: &Winners,
+    goals: &GoalTable,
+    command: &Command,
+) -> Result<KeyList, OutOfMemory>
+    requires whole { IsWholeLoaded loaded.now }
+    requires literals { winners.now.literals ≡ representatives_of loaded.now.files }
+    ensures { IfOk result (IsKept (edges_by loaded.now.files goals.now) (supports_by loaded.now.files goals.now) (roots command.now winners.now loaded.now.files)) }
+{
+    let (edges, supports) = edges(alloc, loaded, winners, goals)?;
+    let roots = roots(alloc, loaded, winners, command)?;
+    kept(alloc, &edges, &supports, &roots)
+}

@@ -1,0 +1,155 @@
+//! Goals that come with a later version.
+ghost use Rattle.std.specs.Prelude.{◌≡◌, false, slice_get, IfOk};
+ghost use Rattle.std.specs.List.{list_any};
+ghost use Rattle.std.specs.List.Sorted.{IsStrictlySortedBy};
+ghost use Rattle.std.specs.Option.{option_copied, option_map_or};
+ghost use Rattle.mo_types.specs.Keys.{compare_keys};
+ghost use Rattle.resolve.specs.Goals.{goal_of_name, goal_table};
+ghost use Rattle.link_files.specs.Later as spec;
+
+use crate::kept::is_kept;
+use kept_refs::GoalTable;
+use lib_bind::Libraries;
+use mo_cmd::Command;
+use mo_types::{
+    AtomKey, Bytes, Feature, Goal, KeyList, Loaded, LoadedFile, OutOfMemory, Ref, RefList, Refusal,
+    Target,
+};
+
+fn is_outer(goal: &Goal) -> bool
+    ensures { result ≡ spec.is_outer goal.now }
+{
+    matches!(goal, Goal::Import { .. } | Goal::Flat(_))
+}
+
+fn is_looked_up(goal: &Goal) -> bool
+    ensures { result ≡ spec.is_looked_up goal.now }
+{
+    matches!(
+        goal,
+        Goal::WeakSelf(_, _, _) | Goal::Import { .. } | Goal::Flat(_)
+    )
+}
+
+fn is_later_target(goals: &[Goal], target: Target) -> bool
+    ensures { result ≡ spec.is_later_target goals.now target }
+{
+    match target {
+        Target::Name(index) => match goals.get(index as usize) {
+            Some(goal) => is_looked_up(goal),
+            None => false,
+        },
+        Target::Local(_, _) => false,
+    }
+}
+
+#[tactic(auto, unfolding(crate::specs::Later::is_later_ref))]
+fn is_later_ref(goals: &[Goal], reference: &Ref) -> bool
+    ensures { result ≡ spec.is_later_ref goals.now reference.now }
+{
+    if is_later_target(goals, reference.target) {
+        return true;
+    }
+    match reference.minus {
+        Some(minus) => is_later_target(goals, minus),
+        None => false,
+    }
+}
+
+// Whether there is a reference of a kept atom at a place, with such a goal.
+fn is_later_at(keys: &[AtomKey], goals: &[Goal], refs: &RefList, at: usize) -> bool
+    requires { IsStrictlySortedBy compare_keys keys.now }
+    ensures { result ≡ option_map_or (spec.is_kept_later keys.now goals.now) (slice_get refs.now at) false }
+{
+    match refs.get(at) {
+        Some(reference) => { is_later_ref(goals, &reference) && is_kept(keys, reference.atom) }
+        None => false,
+    }
+}
+
+#[tactic(auto, using(input_read::proofs::FormLemmas::looks))]
+fn any_later(keys: &[AtomKey], goals: &[Goal], refs: &RefList) -> bool
+    requires { IsStrictlySortedBy compare_keys keys.now }
+    ensures { result ≡ list_any (spec.is_kept_later keys.now goals.now) refs.now }
+{
+    for at in 0..refs.len() {
+        if is_later_at(keys, goals, refs, at) {
+            return true;
+        }
+    }
+    false
+}
+
+// What messages call a file at a place, where it has such a reference.
+#[tactic(auto, unfolding(crate::specs::Later::later_at))]
+fn later_at<'a>(
+    keys: &[AtomKey],
+    goals: &GoalTable,
+    at: usize,
+    file: &'a LoadedFile,
+) -> Option<&'a Bytes>
+    requires { IsStrictlySortedBy compare_keys keys.now }
+    ensures { option_copied result ≡ spec.later_at keys.now goals.now (at, file.now) }
+{
+    let goals = goals.get(at)?;
+    if any_later(keys, goals.as_slice(), &file.refs) {
+        Some(&file.label)
+    } else {
+        None
+    }
+}
+
+// The first such file.
+#[tactic(auto, using(crate::proofs::LaterLemmas::finds), unfolding(crate::specs::Later::later_file))]
+fn later_file<'a>(keys: &[AtomKey], goals: &GoalTable, files: &'a [LoadedFile]) -> Option<&'a Bytes>
+    requires { IsStrictlySortedBy compare_keys keys.now }
+    ensures { option_copied result ≡ spec.later_file keys.now files.now goals.now }
+{
+    for (at, file) in files.iter().enumerate() {
+        if let Some(label) = later_at(keys, goals, at, file) {
+            return Some(label);
+        }
+    }
+    None
+}
+
+// The path of an executable whose entry is in another image.
+fn later_entry<'a>(command: &'a Command, entry: &Goal) -> Option<&'a Bytes>
+    ensures { option_copied result ≡ spec.entry_label command.now entry.now }
+{
+    if !command.dylib && is_outer(entry) {
+        Some(&command.output)
+    } else {
+        None
+    }
+}
+
+/// The first file of which a kept atom refers to what the loader looks up, or the image, where its entry is such; where
+/// there is one.
+#[tactic(auto, unfolding(crate::specs::Later::later_refusal, crate::specs::Later::later_entry))]
+pub(crate) fn later_refusal(
+    loaded: &Loaded,
+    libs: &Libraries,
+    command: &Command,
+    goals: &GoalTable,
+    keys: &KeyList,
+    entry: &Goal,
+) -> Result<Option<Refusal>, OutOfMemory>
+    requires goals { goals.now ≡ goal_table loaded.now.files libs.now command.now }
+    requires keys { IsStrictlySortedBy compare_keys keys.now }
+    requires entry { entry.now ≡ goal_of_name loaded.now.files libs.now command.now command.now.entry }
+    ensures { IfOk result (λ found. found ≡ spec.later_refusal command.now libs.now loaded.now.files keys.now) }
+{
+    let _libs = libs;
+    let found = match later_file(keys.as_slice(), goals, loaded.files.as_slice()) {
+        Some(label) => Some(label),
+        None => later_entry(command, entry),
+    };
+    match found {
+        Some(label) => Ok(Some(Refusal::Unsupported {
+            file: label.clone()?,
+            feature: Feature::Later,
+        })),
+        None => Ok(None),
+    }
+}

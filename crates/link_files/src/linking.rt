@@ -1,0 +1,113 @@
+//! From loaded files to their image: a line of steps, each of which may refuse.
+ghost use Rattle.std.specs.Prelude.{◌≡◌, Ok};
+ghost use Rattle.mo_types.specs.Loaded.{IsWholeLoaded};
+ghost use Rattle.name_ids.specs.Names.{gathered};
+ghost use Rattle.resolve.specs.Known.{AreKnown};
+ghost use Rattle.link_files.specs.Linked.{AreLow, AsKept, AsNamed, IsLinked};
+ghost use Rattle.link_files.specs.Names as spec;
+ghost use Rattle.link_files.specs.Steps.{Answers};
+
+use crate::duplicates::duplicate_refusal;
+use crate::flags::header_flags;
+use crate::image::image_of;
+use crate::keeping::kept_keys;
+use crate::later::later_refusal;
+use crate::lost::undefined_refusal;
+use crate::names::{atoms_refusal, names_of, wanted_names};
+use crate::racing::raced_words;
+use lib_bind::Libraries;
+use member_rounds::RoundFault;
+use mo_cmd::Command;
+use mo_outside::Gate;
+use mo_types::{Bytes, Loaded, NameList};
+use name_ids::NameTable;
+use resolve::{Winners, goal_of_name, goal_table, winners};
+use std::alloc::Global;
+use std::thread::Threads;
+
+// With the winners of all names: the atoms that are kept, what they lead to, and the image of them.
+fn link_kept<R: Threads + Sync, G: Gate + Sync>(
+    rt: &R,
+    alloc: Global,
+    gate: &G,
+    command: &Command,
+    libs: &Libraries,
+    loaded: &Loaded,
+    wanted: &NameList,
+    winners: &Winners,
+) -> Result<Bytes, RoundFault>
+    requires whole { IsWholeLoaded loaded.now }
+    requires low { AreLow loaded.now.files }
+    requires wanted { wanted.now ≡ spec.wanted command.now }
+    requires known { AreKnown command.now loaded.now.files winners.now }
+    ensures { Answers (AsKept command.now libs.now loaded.now.files) result }
+{
+    let goals = goal_table(alloc, loaded, winners, libs, command)?;
+    let keys = kept_keys(alloc, loaded, winners, &goals, command)?;
+    let lost = undefined_refusal(alloc, winners, libs, loaded, command, &goals, &keys, wanted)?;
+    if let Some(refusal) = lost {
+        return Err(RoundFault::Refused(refusal));
+    }
+    let name = command.entry.as_slice();
+    let entry = goal_of_name(alloc, winners, libs, loaded, command, name)?;
+    if let Some(refusal) = later_refusal(loaded, libs, command, &goals, &keys, &entry)? {
+        return Err(RoundFault::Refused(refusal));
+    }
+    let flags = header_flags(command, libs, winners, keys.as_slice());
+    image_of(
+        rt, alloc, gate, command, libs, loaded, winners, &goals, &keys, flags, &entry,
+    )
+}
+
+// With the numbers of all names: that none has two strong definitions, and then the race of their candidates.
+fn link_named<R: Threads + Sync, G: Gate + Sync>(
+    rt: &R,
+    alloc: Global,
+    gate: &G,
+    command: &Command,
+    libs: &Libraries,
+    loaded: &Loaded,
+    wanted: &NameList,
+    names: &NameTable,
+) -> Result<Bytes, RoundFault>
+    requires whole { IsWholeLoaded loaded.now }
+    requires low { AreLow loaded.now.files }
+    requires wanted { wanted.now ≡ spec.wanted command.now }
+    requires numbers { gathered loaded.now.files wanted.now ≡ Ok names.now }
+    ensures { Answers (AsNamed command.now libs.now loaded.now.files names.now) result }
+{
+    if let Some(refusal) = duplicate_refusal(alloc, loaded, names)? {
+        return Err(RoundFault::Refused(refusal));
+    }
+    let workers = command.threads;
+    let words = raced_words(rt, alloc, gate, workers, loaded, wanted, names)?;
+    let winners = winners(alloc, loaded, names, words.as_slice(), command)?;
+    link_kept(rt, alloc, gate, command, libs, loaded, wanted, &winners)
+}
+
+/// The image of loaded files, written by as many workers as the command says, or the first refusal of these: 2^24 names;
+/// 2^24 atoms; a name with two strong definitions; one that is referred to or wanted and leads nowhere; a goal that comes
+/// with a later version; an image of 2^32 bytes; a value that doesn't fit its field. The answer is the same for every number
+/// of workers.
+pub fn link_files<R: Threads + Sync, G: Gate + Sync>(
+    rt: &R,
+    alloc: Global,
+    gate: &G,
+    command: &Command,
+    libs: &Libraries,
+    loaded: &Loaded,
+) -> Result<Bytes, RoundFault>
+    requires whole { IsWholeLoaded loaded.now }
+    requires low { AreLow loaded.now.files }
+    ensures { Answers (IsLinked command.now libs.now loaded.now.files) result }
+{
+    let wanted = wanted_names(alloc, command)?;
+    let names = match names_of(alloc, command, loaded, &wanted) {
+        Ok(names) => names,
+        Err(fault) => return Err(fault),
+    };
+    if let Some(refusal) = atoms_refusal(loaded.files.as_slice()) {
+        return Err(RoundFault::Refused(refusal));
+    }
+    link_named(rt, alloc, gate, command, libs, loaded, &wanted, &names)
+}
