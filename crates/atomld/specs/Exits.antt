@@ -7,7 +7,7 @@ use Rattle.link_engine.specs.Settles.{Seen, Settles}
 use Rattle.link_engine.specs.declared.stop.Stop.{Stop}
 
 -- the exit status is that of an answer that agrees with the verdict, as what was written and told does
-pub record Exits (given : Result Plan Stop) (code : ℕ) (out_fault quiet : Type 0) (old new : Seen) : Type 0 where
+pub record Exits (is : Result Plan Stop → Type 0) (code : ℕ) (out_fault quiet : Type 0) (old new : Seen) : Type 0 where
   pub status : Status
   pub exits : code ≡ code_of status
-  pub settles : Settles given status out_fault quiet old new
+  pub settles : Settles is status out_fault quiet old new

@@ -19,6 +19,7 @@ use std::process::ExitCode;
 fn main(rt: HostRuntime) -> ExitCode {
     let alloc = rt.alloc();
     ExitCode::from(run(
+        &rt,
         alloc,
         gather(&rt, alloc),
         &mut DiskFiles::new(rt),

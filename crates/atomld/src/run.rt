@@ -4,7 +4,7 @@ ghost use Rattle.std.specs.Prelude.{◌≡◌, ◌≢◌, ◌⊎◌, List, ℕ, 
 ghost use Rattle.mo_outside.specs.Faults.{Rises};
 ghost use Rattle.link_engine.specs.Asks.{Answered, inputs_of};
 ghost use Rattle.link_engine.specs.Command.{command_of};
-ghost use Rattle.link_engine.specs.Verdict.{verdict};
+ghost use Rattle.link_engine.specs.Verdict.{IsVerdict};
 ghost use Rattle.atomld.specs.Exits.{Exits};
 
 use link_engine::link;
@@ -12,9 +12,11 @@ use mo_message::tell;
 use mo_outside::{Diag, Files, FreeGate, Out};
 use mo_types::{ArgList, OutOfMemory, Status};
 use std::alloc::Global;
+use std::thread::Threads;
 
 // Links what the words say, and answers the exit status.
-fn link_words<F: Files, O: Out, D: Diag>(
+fn link_words<R: Threads + Sync, F: Files, O: Out, D: Diag>(
+    rt: &R,
     alloc: Global,
     words: &ArgList,
     files: &mut F,
@@ -22,17 +24,18 @@ fn link_words<F: Files, O: Out, D: Diag>(
     diag: &mut D,
 ) -> u8
     ensures { Answered F.answers (F.holds files.old) (inputs_of (command_of words.now)) (result ≢ 4)
-        (λ answers. Exits (verdict words.now answers) result (Rises (O.faults out.old) (O.faults out.new)) (¬ Rises (D.faults diag.old) (D.faults diag.new))
+        (λ answers. Exits (IsVerdict words.now answers) result (Rises (O.faults out.old) (O.faults out.new)) (¬ Rises (D.faults diag.old) (D.faults diag.new))
         (record { files = O.files out.old; calls = O.calls out.old; lines = D.lines diag.old })
         (record { files = O.files out.new; calls = O.calls out.new; lines = D.lines diag.new }))
         (record { told = F.asked files.old; self = files.old }) (record { told = F.asked files.new; self = files.new }) }
 {
-    link(alloc, words, files, out, diag, &FreeGate).code()
+    link(rt, alloc, words, files, out, diag, &FreeGate).code()
 }
 
 /// Links what the words say, or tells that memory for them was refused, and answers the exit status.
 #[tactic(auto, using(crate::proofs::ExitLemmas::values))]
-pub fn run<F: Files, O: Out, D: Diag>(
+pub fn run<R: Threads + Sync, F: Files, O: Out, D: Diag>(
+    rt: &R,
     alloc: Global,
     words: Result<ArgList, OutOfMemory>,
     files: &mut F,
@@ -40,14 +43,14 @@ pub fn run<F: Files, O: Out, D: Diag>(
     diag: &mut D,
 ) -> u8
     ensures exits { IfOk words (λ words. Answered F.answers (F.holds files.old) (inputs_of (command_of words)) (result ≢ 4)
-        (λ answers. Exits (verdict words answers) result (Rises (O.faults out.old) (O.faults out.new)) (¬ Rises (D.faults diag.old) (D.faults diag.new))
+        (λ answers. Exits (IsVerdict words answers) result (Rises (O.faults out.old) (O.faults out.new)) (¬ Rises (D.faults diag.old) (D.faults diag.new))
         (record { files = O.files out.old; calls = O.calls out.old; lines = D.lines diag.old })
         (record { files = O.files out.new; calls = O.calls out.new; lines = D.lines diag.new }))
         (record { told = F.asked files.old; self = files.old }) (record { told = F.asked files.new; self = files.new })) }
     ensures memory { IfErr words (λ fault. result ≡ 4) }
 {
     match words {
-        Ok(words) => link_words(alloc, &words, files, out, diag),
+        Ok(words) => link_words(rt, alloc, &words, files, out, diag),
         Err(_) => {
             tell(diag, b"", &Status::OutOfMemory);
             Status::OutOfMemory.code()

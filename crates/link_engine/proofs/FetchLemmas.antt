@@ -18,7 +18,7 @@ use Rattle.link_engine.specs.Input.{content_of, contents_of}
 use Rattle.link_engine.specs.declared.stop.Stop.{Stop}
 use Rattle.link_engine.specs.Stop.{Answers}
 use Rattle.link_engine.specs.Steps.{IsFileStop}
-use Rattle.link_engine.proofs.DistinctLemmas.{from_place}
+use Rattle.link_engine.proofs.Places.{from_place}
 use Rattle.link_engine.proofs.FilesLemmas.{map-append, one_more}
 use Rattle.link_engine.proofs.StopLemmas.{first_ends, passed_on}
 use Rattle.link_engine.proofs.WritingLemmas.{tells_both}

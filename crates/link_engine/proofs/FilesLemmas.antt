@@ -7,7 +7,7 @@ use Rattle.mo_outside.specs.Log.{OutCall}
 use Rattle.mo_outside.specs.Tells.{Tells}
 use Rattle.mo_outside.specs.Written.{Written}
 use Rattle.link_engine.specs.Writing.{AreCallsUpTo, AreFileCalls, AreFilesCalls, ArePartCalls, Hands, WritesAll, WritesPart, WritesUpTo, WritesWhole, whole_file}
-use Rattle.link_engine.proofs.DistinctLemmas.{from_place}
+use Rattle.link_engine.proofs.Places.{from_place}
 use Rattle.link_engine.proofs.WritingLemmas.{tells_both}
 
 abbrev Files : Type 0

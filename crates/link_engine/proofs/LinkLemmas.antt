@@ -12,14 +12,16 @@ use Rattle.link_engine.specs.declared.stop.StepFault.{StepFault}
 use Rattle.link_engine.specs.declared.stop.StepFault.TheVariants as fault
 use Rattle.link_engine.specs.declared.stop.Stop.{Stop}
 use Rattle.link_engine.specs.declared.stop.Stop.TheVariants as stop
-use Rattle.link_engine.specs.declared.words.Command.{Command}
+use Rattle.link_files.specs.Steps.{Then}
+use Rattle.mo_cmd.specs.declared.command.Command.{Command}
 use Rattle.link_engine.specs.Asks.{AllAgree, Answered, FilesSeen, answers_in, asked_for, inputs_of, paths_in}
 use Rattle.link_engine.specs.Command.{command_of}
-use Rattle.link_engine.specs.Input.{answers_from, content_of, contents_of, files_of, found}
+use Rattle.link_engine.specs.Input.{answers_from, content_of, contents_of, found}
 use Rattle.link_engine.specs.Settles.{Carries, CarriesPart, Seen, Settles}
 use Rattle.link_engine.specs.Steps.{IsReadWell, IsStop}
-use Rattle.link_engine.specs.Stop.{Answers, status_for, status_of}
-use Rattle.link_engine.specs.Verdict.{plan_for, verdict, verdict_over}
+use Rattle.link_engine.specs.Stop.{Meets, status_for, status_of}
+use Rattle.link_engine.specs.Verdict.{AsCommanded, AsFetched, IsVerdict, IsVerdictOver}
+use Rattle.link_engine.proofs.OneLemmas.{one_verdict}
 
 -- An answer before anything is written, against the verdict.
 
@@ -50,32 +52,36 @@ told_once fault.OutOfMemory (stop.Usage other more) e = absurd cc
 told_once fault.OutOfMemory (stop.ReadFault path) e = absurd cc
 told_once fault.OutOfMemory (stop.Refused refusal) e = absurd cc
 
-stops_only : (given : Result Plan Stop) (end : StepFault) (why : Stop) → Answers {A = Plan} (Err end) given → status_for end ≡ status_of why → given ≡ Err why
-stops_only given end why answers same = subst (λ (e : StepFault). Answers {A = Plan} (Err e) given) (told_once end why same) answers
+-- no two things are given
+abbrev IsOne : (Result Plan Stop → Type 0) → Type 0
+IsOne is = (a b : Result Plan Stop) → is a → is b → a ≡ b
 
-stops_as : (given : Result Plan Stop) (end : StepFault) → Answers {A = Plan} (Err end) given → (why : Stop) → given ≡ Err why → (status_for end ≡ status_of why) ⊎ (status_for end ≡ OutOfMemory)
-stops_as given (fault.Stop told) answers why is = inl (ap status_of (same_fault (sym answers ∙ is)))
-stops_as given fault.OutOfMemory answers why is = inr refl
+stops_only : (is : Result Plan Stop → Type 0) (end : StepFault) (why : Stop) → Meets {A = Plan} is (Err end) → status_for end ≡ status_of why → is (Err why)
+stops_only is end why meets same = subst (λ (e : StepFault). Meets {A = Plan} is (Err e)) (told_once end why same) meets
 
-stops_not : (given : Result Plan Stop) (end : StepFault) (out_fault : Type 0) → Answers {A = Plan} (Err end) given → (plan : Plan) → given ≡ Ok plan → (status_for end ≡ Done) ⊎ ((status_for end ≡ OutOfMemory) ⊎ out_fault)
-stops_not given (fault.Stop told) out_fault answers plan is = absurd (no_plan (sym answers ∙ is))
-stops_not given fault.OutOfMemory out_fault answers plan is = inr (inl refl)
+stops_as : (is : Result Plan Stop → Type 0) (end : StepFault) → IsOne is → Meets {A = Plan} is (Err end) → (why : Stop) → is (Err why) → (status_for end ≡ status_of why) ⊎ (status_for end ≡ OutOfMemory)
+stops_as is (fault.Stop told) one meets why other = inl (ap status_of (same_fault (one (Err told) (Err why) meets other)))
+stops_as is fault.OutOfMemory one meets why other = inr refl
 
-settles_stop : (given : Result Plan Stop) (end : StepFault) (out_fault quiet : Type 0) (old new : Seen) → Answers {A = Plan} (Err end) given → Settles given (status_for end) out_fault quiet old new
-settles_stop given end out_fault quiet old new answers = record {
+stops_not : (is : Result Plan Stop → Type 0) (end : StepFault) (out_fault : Type 0) → IsOne is → Meets {A = Plan} is (Err end) → (plan : Plan) → is (Ok plan) → (status_for end ≡ Done) ⊎ ((status_for end ≡ OutOfMemory) ⊎ out_fault)
+stops_not is (fault.Stop told) out_fault one meets plan other = absurd (no_plan (one (Err told) (Ok plan) meets other))
+stops_not is fault.OutOfMemory out_fault one meets plan other = inr (inl refl)
+
+settles_stop : (is : Result Plan Stop → Type 0) (end : StepFault) (out_fault quiet : Type 0) (old new : Seen) → IsOne is → Meets {A = Plan} is (Err end) → Settles is (status_for end) out_fault quiet old new
+settles_stop is end out_fault quiet old new one meets = record {
   stops = λ why. record {
-    only = stops_only given end why answers;
-    always = stops_as given end answers why;
+    only = stops_only is end why meets;
+    always = stops_as is end one meets why;
   };
-  plans = stops_not given end out_fault answers;
+  plans = stops_not is end out_fault one meets;
   done = λ same. absurd (subst IsStop same (status_is_stop end));
   part = λ same. absurd (subst IsStop same (status_is_stop end));
 }
 
-pub settles_ended : (given : Result Plan Stop) (end : StepFault) (status result : Status) (out_fault quiet : Type 0) (old new : Seen) → status ≡ status_for end → result ≡ status → Answers {A = Plan} (Err end) given → Settles given result out_fault quiet old new
-settles_ended given end status result out_fault quiet old new told same answers =
-    subst (λ (s : Status). Settles given s out_fault quiet old new) (sym (same ∙ told))
-    (settles_stop given end out_fault quiet old new answers)
+pub settles_ended : (words : List (List ℕ)) (answers : List Answer) (end : StepFault) (status result : Status) (out_fault quiet : Type 0) (old new : Seen) → status ≡ status_for end → result ≡ status → Meets {A = Plan} (IsVerdict words answers) (Err end) → Settles (IsVerdict words answers) result out_fault quiet old new
+settles_ended words answers end status result out_fault quiet old new told same meets =
+    subst (λ (s : Status). Settles (IsVerdict words answers) s out_fault quiet old new) (sym (same ∙ told))
+    (settles_stop (IsVerdict words answers) end out_fault quiet old new (one_verdict words answers) meets)
 
 -- an answer after something was written
 not_stop : (status : Status) (why : Stop) → (status ≡ Done) ⊎ (status ≡ WriteFault) → status ≡ status_of why → ⊥
@@ -86,11 +92,11 @@ not_stop status (stop.Usage word rule) (inr failed) same = absurd cc
 not_stop status (stop.ReadFault path) (inr failed) same = absurd cc
 not_stop status (stop.Refused refusal) (inr failed) same = absurd cc
 
-pub settles_plan : (given : Result Plan Stop) (plan : Plan) (status : Status) (out_fault quiet : Type 0) (old new : Seen) → given ≡ Ok plan → (status ≡ Done) ⊎ (status ≡ WriteFault) → (status ≡ WriteFault → out_fault) → (status ≡ Done → Carries plan quiet old new) → (status ≡ WriteFault → CarriesPart plan quiet old new) → Settles given status out_fault quiet old new
-settles_plan given plan status out_fault quiet old new is kind writes done part = record {
+pub settles_plan : (words : List (List ℕ)) (answers : List Answer) (plan : Plan) (status : Status) (out_fault quiet : Type 0) (old new : Seen) → IsVerdict words answers (Ok plan) → (status ≡ Done) ⊎ (status ≡ WriteFault) → (status ≡ WriteFault → out_fault) → (status ≡ Done → Carries plan quiet old new) → (status ≡ WriteFault → CarriesPart plan quiet old new) → Settles (IsVerdict words answers) status out_fault quiet old new
+settles_plan words answers plan status out_fault quiet old new is kind writes done part = record {
   stops = λ why. record {
     only = λ same. absurd (not_stop status why kind same);
-    always = λ refused. absurd (no_plan (sym refused ∙ is));
+    always = λ refused. absurd (no_plan (one_verdict words answers (Err why) (Ok plan) refused is));
   };
   plans = λ other built. elim kind [
     | inl at_done ↦ inl at_done
@@ -122,19 +128,38 @@ same_contents files (input ∷ inputs) ((path, Absent) ∷ asked) (one, agree) p
 same_contents files (input ∷ inputs) ((path, Unread) ∷ asked) (one, agree) paths = inr (input.value, refl)
 same_contents files (input ∷ inputs) ((path, given.Refused) ∷ asked) (one, agree) paths = inr (input.value, refl)
 
+-- two relations of what may be given are the same
+record AreSame (P Q : Result Plan Stop → Type 0) : Type 0 where
+  to : (given : Result Plan Stop) → P given → Q given
+  from : (given : Result Plan Stop) → Q given → P given
+
 same_verdict : (words : List (List ℕ)) (files : FileMap) (asked : List Asked) → AllAgree (Some files) asked → paths_in asked ≡ asked_for (inputs_of (command_of words)) (answers_in asked)
-    → (verdict words (answers_in asked) ≡ verdict_over words files) ⊎ ((path : List ℕ) × (verdict words (answers_in asked) ≡ Err (stop.ReadFault path)))
-unfolding verdict
+    → AreSame (IsVerdict words (answers_in asked)) (IsVerdictOver words files) ⊎ ((path : List ℕ) × IsVerdict words (answers_in asked) (Err (stop.ReadFault path)))
+unfolding IsVerdict
 same_verdict words files asked agree paths = by_command (command_of words) paths
   where
     by_command : (read : Result Command Stop) → paths_in asked ≡ asked_for (inputs_of read) (answers_in asked)
-        → ((read >>= λ command. contents_of command.inputs (answers_in asked) >>= λ contents. plan_for command (files_of command.inputs contents)) ≡ (read >>= λ command. contents_of command.inputs (answers_from files (inputs_of read)) >>= λ contents. plan_for command (files_of command.inputs contents)))
-        ⊎ ((path : List ℕ) × ((read >>= λ command. contents_of command.inputs (answers_in asked) >>= λ contents. plan_for command (files_of command.inputs contents)) ≡ Err (stop.ReadFault path)))
-    by_command (Err why) same = inl refl
+        → AreSame (λ given. Then read given (λ command. AsCommanded command (answers_in asked) given)) (λ given. Then read given (λ command. AsCommanded command (answers_from files (inputs_of read)) given))
+        ⊎ ((path : List ℕ) × Then {B = Plan} read (Err (stop.ReadFault path)) (λ command. AsCommanded command (answers_in asked) (Err (stop.ReadFault path))))
+    by_command (Err why) same = inl (record { to = λ given p. p; from = λ given p. p })
     by_command (Ok command) same = elim (same_contents files command.inputs asked agree same) [
-      | inl contents ↦ inl (ap (λ (r : Result (List (List ℕ)) Stop). r >>= λ contents. plan_for command (files_of command.inputs contents)) contents)
-      | inr (path, unread) ↦ inr (path, ap (λ (r : Result (List (List ℕ)) Stop). r >>= λ contents. plan_for command (files_of command.inputs contents)) unread)
+      | inl contents ↦ inl (record {
+        to = λ given p. subst (λ (r : Result (List (List ℕ)) Stop). Then r given (λ cs. AsFetched command cs given)) contents p;
+        from = λ given p. subst (λ (r : Result (List (List ℕ)) Stop). Then r given (λ cs. AsFetched command cs given)) (sym contents) p;
+      })
+      | inr (path, unread) ↦ inr (path, rw unread refl)
     ]
+
+settles_same : (P Q : Result Plan Stop → Type 0) (status : Status) (out_fault quiet : Type 0) (old new : Seen) → AreSame P Q → Settles P status out_fault quiet old new → Settles Q status out_fault quiet old new
+settles_same P Q status out_fault quiet old new same given = record {
+  stops = λ why. record {
+    only = λ told. same.to (Err why) ((given.stops why).only told);
+    always = λ q. (given.stops why).always (same.from (Err why) q);
+  };
+  plans = λ plan q. given.plans plan (same.from (Ok plan) q);
+  done = λ told. let d = given.done told in (d.0, same.to (Ok d.0) d.1, d.2);
+  part = λ told. let d = given.part told in (d.0, same.to (Ok d.0) d.1, d.2);
+}
 
 read_well_no_memory : (status : Status) → IsReadWell status → status ≡ OutOfMemory → ⊥
 read_well_no_memory status well same = subst IsReadWell same well
@@ -143,12 +168,12 @@ read_well_no_fault : (status : Status) (path : List ℕ) → IsReadWell status �
 read_well_no_fault status path well same = subst IsReadWell same well
 
 pub settles_told : {S : Type 0} (fetches : S → List ℕ → Answer → S → Type 0) (held : Option FileMap) (words : List (List ℕ)) (status : Status) (out_fault quiet : Type 0) (seen_old seen_new : Seen) (old new : FilesSeen S)
-    → Answered fetches held (inputs_of (command_of words)) (status ≢ OutOfMemory) (λ answers. Settles (verdict words answers) status out_fault quiet seen_old seen_new) old new
-    → IfSome held (λ files. IsReadWell status → Settles (verdict_over words files) status out_fault quiet seen_old seen_new)
+    → Answered fetches held (inputs_of (command_of words)) (status ≢ OutOfMemory) (λ answers. Settles (IsVerdict words answers) status out_fault quiet seen_old seen_new) old new
+    → IfSome held (λ files. IsReadWell status → Settles (IsVerdictOver words files) status out_fault quiet seen_old seen_new)
 settles_told fetches None words status out_fault quiet seen_old seen_new old new given = tt
 settles_told fetches (Some files) words status out_fault quiet seen_old seen_new old new given = λ well.
     elim (same_verdict words files given.asked given.agree (given.all (read_well_no_memory status well))) [
-      | inl same ↦ subst (λ (r : Result Plan Stop). Settles r status out_fault quiet seen_old seen_new) same given.holds
+      | inl same ↦ settles_same (IsVerdict words (answers_in given.asked)) (IsVerdictOver words files) status out_fault quiet seen_old seen_new same given.holds
       | inr (path, unread) ↦ elim ((given.holds.stops (stop.ReadFault path)).always unread) [
         | inl told ↦ absurd (read_well_no_fault status path well told)
         | inr memory ↦ absurd (read_well_no_memory status well memory)

@@ -1,28 +1,26 @@
 -- The steps before writing, by the answers of the files.
-use Rattle.std.proofs.Common.{◌≡◌, ◌≢◌, ℕ, inl, inr, List, [], ◌∷◌, Option, Some, None, Result, Ok, Err, IsErrAnd, refl, sym, ap, ◌∙◌, subst}
+use Rattle.std.proofs.Common.{◌≡◌, ◌≢◌, ℕ, List, [], Option, Some, None, Result, Ok, Err, IsErrAnd, refl, sym, ap, ◌∙◌, subst}
+use Rattle.std.specs.Prelude.{IfErr, OnOk}
 use Rattle.std.proofs.lemmas.List.{append-nil}
 use Rattle.std.proofs.lemmas.Result.{err_from_is_err_and}
 use Rattle.mo_cmd.specs.declared.command.CommandInput.{CommandInput}
 use Rattle.mo_outside.specs.Answers.{Answer}
 use Rattle.mo_outside.specs.Files.{FileMap}
 use Rattle.mo_outside.specs.Tells.{Tells}
-use Rattle.mo_types.specs.Gives.{◌>>=◌}
 use Rattle.link_engine.specs.declared.plan.Plan.{Plan}
-use Rattle.link_engine.specs.declared.read.InputObject.{InputObject}
 use Rattle.link_engine.specs.declared.stop.StepFault.{StepFault}
 use Rattle.link_engine.specs.declared.stop.StepFault.TheVariants as fault
 use Rattle.link_engine.specs.declared.stop.StepFault.TheVariants.{OutOfMemory}
-use Rattle.link_engine.specs.declared.words.Command.{Command}
+use Rattle.mo_cmd.specs.declared.command.Command.{Command}
 use Rattle.link_engine.specs.Asks.{Answered, Asks, FilesSeen, asked_for, inputs_of}
 use Rattle.link_engine.specs.Command.{command_of}
-use Rattle.link_engine.specs.Input.{contents_of, files_of}
-use Rattle.link_engine.specs.Object.{AreLinkable, IsLinkable, IsWithin, LiesInOne}
-use Rattle.link_engine.specs.Steps.{IsWordsStop}
+use Rattle.link_engine.specs.Input.{contents_of}
+use Rattle.link_engine.specs.Steps.{IsReadWell, IsWordsStop}
 use Rattle.link_engine.specs.declared.stop.Stop.TheVariants as stop
 use Rattle.link_engine.specs.declared.stop.Stop.{Stop}
-use Rattle.link_engine.specs.Stop.{Answers}
-use Rattle.link_engine.specs.Verdict.{plan_for, verdict}
-use Rattle.link_engine.proofs.StopLemmas.{first_ends, first_passed_on, next_answers, passed_on}
+use Rattle.link_engine.specs.Stop.{Answers, Meets, status_for}
+use Rattle.link_engine.specs.Verdict.{AsCommanded, AsFetched, IsVerdict}
+use Rattle.link_engine.proofs.StepLemmas.{first_meets, next_meets, passed_meets}
 
 -- what holds of the answers leads to something else that does
 pub answered_then : {S : Type 0} (fetches : S → List ℕ → Answer → S → Type 0) (held : Option FileMap) (inputs : List CommandInput) (ends more_ends : Type 0) (meets then : List Answer → Type 0) (old new : FilesSeen S)
@@ -40,8 +38,8 @@ answered_then fetches held inputs ends more_ends meets then old new given fewer 
 -- the words are at fault, or memory for them ran out: nothing is asked for
 pub words_decide : {S : Type 0} (fetches : S → List ℕ → Answer → S → Type 0) (held : Option FileMap) (words : List (List ℕ)) (ended : StepFault) (returned : Result Plan StepFault) (told : Option (List (List ℕ))) (self : S)
     → IsErrAnd returned (λ passed. passed ≡ ended) → Answers {A = Command} (Err ended) (command_of words) → IsWordsStop ended
-    → Answered fetches held (inputs_of (command_of words)) (returned ≢ Err OutOfMemory) (λ answers. Answers returned (verdict words answers)) (record { told = told; self = self }) (record { told = told; self = self })
-unfolding verdict
+    → Answered fetches held (inputs_of (command_of words)) (returned ≢ Err OutOfMemory) (λ answers. Meets (IsVerdict words answers) returned) (record { told = told; self = self }) (record { told = told; self = self })
+unfolding IsVerdict
 words_decide fetches held words ended returned told self is answers kind =
     let passed = err_from_is_err_and returned is in record {
       asked = [];
@@ -50,7 +48,7 @@ words_decide fetches held words ended returned told self is answers kind =
       logged = nothing told;
       all = λ ends. none ended answers kind (λ same. ends (passed.1 ∙ ap Err (passed.2 ∙ same)));
       some = (0, refl);
-      holds = passed_on ended returned (verdict words []) is (first_ends ended (command_of words) (λ command. contents_of command.inputs [] >>= λ contents. plan_for command (files_of command.inputs contents)) answers);
+      holds = passed_meets (IsVerdict words []) ended returned is (first_meets (command_of words) ended (λ command given. AsCommanded command [] given) answers);
     }
   where
     nothing : (x : Option (List (List ℕ))) → Tells (Asks []) x x
@@ -63,7 +61,7 @@ words_decide fetches held words ended returned told self is answers kind =
     none : (end : StepFault) → Answers {A = Command} (Err end) (command_of words) → IsWordsStop end → end ≢ OutOfMemory → [] ≡ asked_for (inputs_of (command_of words)) []
     none (fault.Stop (stop.Usage word rule)) told kind other = no_inputs (command_of words) (stop.Usage word rule) told
     none (fault.Stop (stop.ReadFault path)) told kind other = absurd kind
-    none (fault.Stop (stop.Refused refusal)) told kind other = absurd kind
+    none (fault.Stop (stop.Refused refusal)) told kind other = no_inputs (command_of words) (stop.Refused refusal) told
     none OutOfMemory told kind other = absurd (other refl)
 
 -- the inputs of words that are a command
@@ -85,46 +83,40 @@ same_fault e = cc
 pub files_decide : {S : Type 0} (fetches : S → List ℕ → Answer → S → Type 0) (held : Option FileMap) (words : List (List ℕ)) (command : Command) (sent : List CommandInput) (ended : StepFault) (fetched : Result (List (List ℕ)) StepFault) (returned : Result Plan StepFault) (old new : FilesSeen S)
     → IsErrAnd returned (λ passed. passed ≡ ended) → command_of words ≡ Ok command → fetched ≡ Err ended
     → sent ≡ command.inputs → Answered fetches held sent (fetched ≢ Err OutOfMemory) (λ answers. Answers fetched (contents_of sent answers)) old new
-    → Answered fetches held (inputs_of (command_of words)) (returned ≢ Err OutOfMemory) (λ answers. Answers returned (verdict words answers)) old new
-unfolding verdict
+    → Answered fetches held (inputs_of (command_of words)) (returned ≢ Err OutOfMemory) (λ answers. Meets (IsVerdict words answers) returned) old new
+unfolding IsVerdict
 files_decide fetches held words command sent ended fetched returned old new is reads failed same given =
     let passed = err_from_is_err_and returned is in
-    by_words fetches held words command (returned ≢ Err OutOfMemory) (λ answers. Answers returned (verdict words answers)) old new reads
+    by_words fetches held words command (returned ≢ Err OutOfMemory) (λ answers. Meets (IsVerdict words answers) returned) old new reads
     (answered_then fetches held command.inputs (fetched ≢ Err OutOfMemory) (returned ≢ Err OutOfMemory) (λ answers. Answers fetched (contents_of command.inputs answers)) _ old new (by_sent fetches held command sent fetched old new same given)
     (λ ends same. let last : ended ≡ OutOfMemory = same_fault (sym failed ∙ same) in ends (passed.1 ∙ ap Err (passed.2 ∙ last)))
-    (λ answers told. passed_on ended returned (verdict words answers) is
-    (next_answers command (Err ended) (command_of words) (λ command. contents_of command.inputs answers >>= λ contents. plan_for command (files_of command.inputs contents)) reads
-    (first_ends ended (contents_of command.inputs answers) (λ contents. plan_for command (files_of command.inputs contents)) (subst (λ (r : Result (List (List ℕ)) StepFault). Answers r (contents_of command.inputs answers)) failed told)))))
+    (λ answers told. passed_meets (IsVerdict words answers) ended returned is
+    (next_meets (command_of words) command (λ c given. AsCommanded c answers given) (Err ended) reads
+    (first_meets (contents_of command.inputs answers) ended (λ contents given. AsFetched command contents given) (subst (λ (r : Result (List (List ℕ)) StepFault). Answers r (contents_of command.inputs answers)) failed told)))))
 
 -- all files are there
 pub contents_decide : {S : Type 0} (fetches : S → List ℕ → Answer → S → Type 0) (held : Option FileMap) (words : List (List ℕ)) (command : Command) (sent : List CommandInput) (contents : List (List ℕ)) (fetched : Result (List (List ℕ)) StepFault) (returned : Result Plan StepFault) (old new : FilesSeen S)
-    → command_of words ≡ Ok command → fetched ≡ Ok contents → Answers returned (plan_for command (files_of command.inputs contents))
+    → command_of words ≡ Ok command → fetched ≡ Ok contents → Meets (AsFetched command contents) returned
     → sent ≡ command.inputs → Answered fetches held sent (fetched ≢ Err OutOfMemory) (λ answers. Answers fetched (contents_of sent answers)) old new
-    → Answered fetches held (inputs_of (command_of words)) (returned ≢ Err OutOfMemory) (λ answers. Answers returned (verdict words answers)) old new
-unfolding verdict
+    → Answered fetches held (inputs_of (command_of words)) (returned ≢ Err OutOfMemory) (λ answers. Meets (IsVerdict words answers) returned) old new
+unfolding IsVerdict
 contents_decide fetches held words command sent contents fetched returned old new reads is plans same given =
-    by_words fetches held words command (returned ≢ Err OutOfMemory) (λ answers. Answers returned (verdict words answers)) old new reads
+    by_words fetches held words command (returned ≢ Err OutOfMemory) (λ answers. Meets (IsVerdict words answers) returned) old new reads
     (answered_then fetches held command.inputs (fetched ≢ Err OutOfMemory) (returned ≢ Err OutOfMemory) (λ answers. Answers fetched (contents_of command.inputs answers)) _ old new (by_sent fetches held command sent fetched old new same given)
     (λ ends same. absurd (no_error (sym is ∙ same)))
-    (λ answers told. next_answers command returned (command_of words) (λ command. contents_of command.inputs answers >>= λ contents. plan_for command (files_of command.inputs contents)) reads
-    (next_answers contents returned (contents_of command.inputs answers) (λ contents. plan_for command (files_of command.inputs contents)) (subst (λ (r : Result (List (List ℕ)) StepFault). Answers r (contents_of command.inputs answers)) is told) plans)))
+    (λ answers told. next_meets (command_of words) command (λ c given. AsCommanded c answers given) returned reads
+    (next_meets (contents_of command.inputs answers) contents (λ contents given. AsFetched command contents given) returned (subst (λ (r : Result (List (List ℕ)) StepFault). Answers r (contents_of command.inputs answers)) is told) plans)))
   where
     no_error : {A E : Type 0} {x : A} {e : E} → ◌≡◌ {A = Result A E} (Ok x) (Err e) → ⊥
     no_error e = absurd cc
 
--- the one object of a list, with the address of its entry
-pub entry_lies : (input : InputObject) (objects : List InputObject) (address : ℕ) → objects ≡ input ∷ [] → LiesInOne objects address → IsWithin input.object.text.address input.object.text.size address
-entry_lies input objects address same lies = only (subst (λ (list : List InputObject). LiesInOne list address) same lies)
-  where
-    only : LiesInOne (input ∷ []) address → IsWithin input.object.text.address input.object.text.size address
-    only (inl here) = here
-    only (inr none) = absurd none
+-- what holds at any rate
+pub still_ok : {A E P : Type 0} (result : Result A E) → P → OnOk result P
+still_ok (Ok x) p = p
+still_ok (Err why) p = tt
 
-pub one_linkable : (input : InputObject) (objects : List InputObject) → objects ≡ input ∷ [] → AreLinkable objects → IsLinkable input.object
-one_linkable input objects same linkable =
-    let all : AreLinkable (input ∷ []) = subst AreLinkable same linkable in
-    all.0
+pub still_err : {A P : Type 0} (result : Result A StepFault) → P → IfErr result (λ why. IsReadWell (status_for why) → P)
+still_err (Ok x) p = tt
+still_err (Err why) p = λ well. p
 
 pub ruleset plans = (answered_then)
-
-pub ruleset inputs = (first_passed_on, next_answers, entry_lies, one_linkable)

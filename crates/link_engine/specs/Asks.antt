@@ -1,11 +1,11 @@
 -- Which files a link asks for.
 use Rattle.std.specs.Prelude.{ℕ, ◌≡◌, ◌++◌, List, [], ◌∷◌, map, take, Option, Result, Ok, Err}
+use Rattle.mo_cmd.specs.declared.command.Command.{Command}
 use Rattle.mo_cmd.specs.declared.command.CommandInput.{CommandInput}
 use Rattle.mo_outside.specs.Answers.{Agrees, Answer, Asked, Chain, There, Absent, Unread}
 use Rattle.mo_outside.specs.Answers as answer
 use Rattle.mo_outside.specs.Files.{FileMap}
 use Rattle.mo_outside.specs.Tells.{Tells}
-use Rattle.link_engine.specs.declared.words.Command.{Command}
 use Rattle.link_engine.specs.Command.{command_of}
 use Rattle.link_engine.specs.declared.stop.Stop.{Stop}
 

@@ -1,80 +1,65 @@
--- The cause of each refusal.
-use Rattle.std.specs.Prelude.{ℕ, ◌≡◌, ◌≤◌, ◌⊎◌, List, [], ◌∷◌, length, slice_get, Some, Ok, Err}
-use Rattle.mo_outside.specs.Answers.{Answer, Absent}
+-- The cause of each refusal: it stands, and none that is told before it does.
+use Rattle.std.specs.Prelude.{ℕ, ◌≡◌, ◌≤◌, ◌^◌, ◌⊎◌, List, [], ◌∷◌, length, Some, Ok}
+use Rattle.std.specs.Result.{result_err}
+use Rattle.input_read.specs.Reading.{loaded_of, object_of_input}
+use Rattle.link_files.specs.Causes.{LinkCause}
+use Rattle.member_rounds.specs.declared.fault.RoundFault.TheVariants as rounds
+use Rattle.mo_cmd.specs.Command.{command_by}
+use Rattle.mo_cmd.specs.declared.command.Command.{Command}
+use Rattle.mo_cmd.specs.declared.command.CommandInput.{CommandInput}
+use Rattle.mo_outside.specs.Answers.{Answer, There, Absent, Unread}
+use Rattle.mo_outside.specs.Answers as answer
+use Rattle.mo_types.specs.Scan.{first_some}
 use Rattle.mo_types.specs.declared.answer.Refusal.{Refusal}
-use Rattle.mo_types.specs.declared.answer.Refusal.TheVariants.{Missing, Malformed, Unsupported, Limit, Duplicate, Undefined, NeedsImage, Range}
-use Rattle.mo_types.specs.declared.cause.Feature.{Feature}
-use Rattle.mo_types.specs.declared.cause.Feature.TheVariants.{Later}
-use Rattle.mo_types.specs.declared.cause.Which.{Which}
-use Rattle.mo_types.specs.declared.object_fault.ObjFault.{ObjFault}
-use Rattle.mo_types.specs.declared.object_fault.ObjFault.TheVariants as fault
-use Rattle.link_engine.specs.declared.form.TextObject.{TextObject}
-use Rattle.link_engine.specs.declared.read.InputObject.{InputObject}
-use Rattle.link_engine.specs.declared.words.Command.{Command}
-use Rattle.link_engine.specs.Command.{command_of}
-use Rattle.link_engine.specs.Entry.{HasNoEntry, entry_name}
-use Rattle.link_engine.specs.Input.{IsFirst, contents_of, files_of}
-use Rattle.link_engine.specs.Reading.{read as objects_of, text_object}
+use Rattle.mo_types.specs.declared.answer.Refusal.TheVariants.{Limit, Missing}
+use Rattle.mo_types.specs.declared.cause.Which.TheVariants.{Inputs}
+use Rattle.mo_types.specs.declared.loaded.LoadedFile.{LoadedFile}
+use Rattle.link_engine.specs.Command.{command_of, linked_rows}
+use Rattle.link_engine.specs.Input.{contents_of, inputs_from}
+use Rattle.link_engine.specs.Verdict.{no_libraries}
 
--- an input of the command isn't there, and those before it are
-pub record IsMissing (words : List (List ℕ)) (answers : List Answer) (path : List ℕ) : Type 0 where
+-- the words are a command with 2^16 inputs or more
+pub record IsCrowded (words : List (List ℕ)) (why : Refusal) : Type 0 where
   pub command : Command
-  pub read : command_of words ≡ Ok command
-  pub absent : IsFirst (λ answer. answer ≡ Absent) command.inputs answers path
+  pub read : command_by linked_rows words ≡ Ok command
+  pub many : 2 ^ 16 ≤ length command.inputs
+  pub is : why ≡ Limit Inputs
 
--- a fault is the first one that keeps a file of a path from being linked, and nothing keeps those before it
-abbrev pub IsFirstFault : List (List ℕ × List ℕ) → List ℕ → ObjFault → Type 0
-IsFirstFault [] path fault = ⊥
-IsFirstFault (file ∷ files) path fault =
-    ((file.0 ≡ path) × (text_object file.1 ≡ Err fault)) ⊎ ((object : TextObject) × (text_object file.1 ≡ Ok object) × IsFirstFault files path fault)
+-- an input isn't there, and those before it are
+abbrev pub IsFirstAbsent : List CommandInput → List Answer → List ℕ → Type 0
+IsFirstAbsent [] answers path = ⊥
+IsFirstAbsent (input ∷ inputs) [] path = ⊥
+IsFirstAbsent (input ∷ inputs) (There bytes ∷ answers) path = IsFirstAbsent inputs answers path
+IsFirstAbsent (input ∷ inputs) (Absent ∷ answers) path = input.value ≡ path
+IsFirstAbsent (input ∷ inputs) (Unread ∷ answers) path = ⊥
+IsFirstAbsent (input ∷ inputs) (answer.Refused ∷ answers) path = ⊥
 
--- the command's inputs are there, and a fault is the first one of them
-pub record IsFaulty (words : List (List ℕ)) (answers : List Answer) (path : List ℕ) (fault : ObjFault) : Type 0 where
+-- the first input of the command that isn't there has this path
+pub record IsAbsent (words : List (List ℕ)) (answers : List Answer) (why : Refusal) : Type 0 where
   pub command : Command
-  pub contents : List (List ℕ)
-  pub read : command_of words ≡ Ok command
-  pub there : contents_of command.inputs answers ≡ Ok contents
-  pub first : IsFirstFault (files_of command.inputs contents) path fault
-
--- the command's inputs are there, and the first that is at fault reaches a limit
-pub record IsLimited (words : List (List ℕ)) (answers : List Answer) (which : Which) : Type 0 where
   pub path : List ℕ
-  pub faulty : IsFaulty words answers path (fault.Limit which)
+  pub read : command_of words ≡ Ok command
+  pub absent : IsFirstAbsent command.inputs answers path
+  pub is : why ≡ Missing path
 
--- the command's inputs are there, and are objects that can be linked
-pub record AreObjects (words : List (List ℕ)) (answers : List Answer) (objects : List InputObject) : Type 0 where
+-- the command's inputs are there, and the first of them that is no object that can be linked has this fault
+pub record IsFaulty (words : List (List ℕ)) (answers : List Answer) (why : Refusal) : Type 0 where
   pub command : Command
   pub contents : List (List ℕ)
   pub read : command_of words ≡ Ok command
   pub there : contents_of command.inputs answers ≡ Ok contents
-  pub forms : objects_of (files_of command.inputs contents) ≡ Ok objects
+  pub first : first_some (λ input. result_err (object_of_input input)) (inputs_from 0 command.inputs contents) ≡ Some (rounds.Refused why)
 
--- the inputs are objects, and there is a second one: several come with a later version
-pub record AreSeveral (words : List (List ℕ)) (answers : List Answer) (path : List ℕ) (feature : Feature) : Type 0 where
-  pub objects : List InputObject
-  pub second : InputObject
-  pub are : AreObjects words answers objects
-  pub at : slice_get objects 1 ≡ Some second
-  pub label : second.label ≡ path
-  pub later : feature ≡ Later
+-- the command's inputs are there and are objects, and what these are is refused
+pub record IsUnlinked (words : List (List ℕ)) (answers : List Answer) (why : Refusal) : Type 0 where
+  pub command : Command
+  pub contents : List (List ℕ)
+  pub files : List LoadedFile
+  pub read : command_of words ≡ Ok command
+  pub there : contents_of command.inputs answers ≡ Ok contents
+  pub objects : loaded_of (inputs_from 0 command.inputs contents) ≡ Ok (record { files = files })
+  pub cause : LinkCause command no_libraries files why
 
--- the inputs are at most one object, and no external definition has the entry's name
-pub record IsUndefined (words : List (List ℕ)) (answers : List Answer) (name file : List ℕ) : Type 0 where
-  pub objects : List InputObject
-  pub are : AreObjects words answers objects
-  pub few : length objects ≤ 1
-  pub none : HasNoEntry objects
-  pub entry : name ≡ entry_name
-  pub nobody : file ≡ []
-
--- the cause of each refusal; those without one aren't given
+-- the cause of a refusal: too many inputs, one that isn't there, one that is no object, or what the objects are
 abbrev pub Cause : List (List ℕ) → List Answer → Refusal → Type 0
-Cause words answers (Missing path) = IsMissing words answers path
-Cause words answers (Malformed path place rule) = IsFaulty words answers path (fault.Malformed place rule)
-Cause words answers (Unsupported path feature) =
-    IsFaulty words answers path (fault.Unsupported feature) ⊎ AreSeveral words answers path feature
-Cause words answers (Limit which) = IsLimited words answers which
-Cause words answers (Undefined name file) = IsUndefined words answers name file
-Cause words answers (Duplicate name first second) = ⊥
-Cause words answers (NeedsImage file place) = ⊥
-Cause words answers (Range file place kind value) = ⊥
+Cause words answers why = IsCrowded words why ⊎ (IsAbsent words answers why ⊎ (IsFaulty words answers why ⊎ IsUnlinked words answers why))

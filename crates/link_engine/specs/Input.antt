@@ -1,5 +1,6 @@
 -- The inputs' bytes, by the answers that the files gave.
-use Rattle.std.specs.Prelude.{ℕ, ◌≡◌, List, [], ◌∷◌, map, Option, Some, None, Result, Ok, Err}
+use Rattle.std.specs.Prelude.{ℕ, ◌+◌, List, [], ◌∷◌, map, Option, Some, None, Result, Ok, Err}
+use Rattle.member_rounds.specs.declared.input.Input.{Input}
 use Rattle.mo_cmd.specs.declared.command.CommandInput.{CommandInput}
 use Rattle.mo_outside.specs.Answers.{Answer, There, Absent, Unread}
 use Rattle.mo_outside.specs.Answers as answer
@@ -24,11 +25,12 @@ contents_of (input ∷ inputs) [] = Err (ReadFault input.value)
 contents_of (input ∷ inputs) (answer ∷ answers) =
     content_of input.value answer >>= λ bytes. contents_of inputs answers >>= λ more. Ok (bytes ∷ more)
 
--- the inputs that are there, each with its path and its bytes
-abbrev pub files_of : List CommandInput → List (List ℕ) → List (List ℕ × List ℕ)
-files_of [] contents = []
-files_of (input ∷ inputs) [] = []
-files_of (input ∷ inputs) (bytes ∷ contents) = (input.value, bytes) ∷ files_of inputs contents
+-- the inputs with their bytes, from a position on; messages call each by its path
+abbrev pub inputs_from : ℕ → List CommandInput → List (List ℕ) → List Input
+inputs_from at [] contents = []
+inputs_from at (input ∷ inputs) [] = []
+inputs_from at (input ∷ inputs) (bytes ∷ contents) =
+    record { position = at; label = input.value; bytes = bytes; forced = input.forced } ∷ inputs_from (at + 1) inputs contents
 
 -- what files that can be read answer of a path
 abbrev pub found : Option (List ℕ) → Answer
@@ -37,12 +39,3 @@ found None = Absent
 
 abbrev pub answers_from : FileMap → List CommandInput → List Answer
 answers_from files inputs = map (λ input. found (fetched files input.value)) inputs
-
--- an input was answered in such a way, and those before it are there
-abbrev pub IsFirst : (Answer → Type 0) → List CommandInput → List Answer → List ℕ → Type 0
-IsFirst is [] answers path = ⊥
-IsFirst is (input ∷ inputs) [] path = ⊥
-IsFirst is (input ∷ inputs) (There bytes ∷ answers) path = IsFirst is inputs answers path
-IsFirst is (input ∷ inputs) (Absent ∷ answers) path = is Absent × (input.value ≡ path)
-IsFirst is (input ∷ inputs) (Unread ∷ answers) path = is Unread × (input.value ≡ path)
-IsFirst is (input ∷ inputs) (answer.Refused ∷ answers) path = is answer.Refused × (input.value ≡ path)

@@ -1,16 +1,7 @@
 pub mod Asks
-pub mod Branches
 pub mod Causes
 pub mod Command
-pub mod Entry
-pub mod Form
-pub mod Image
 pub mod Input
-pub mod Names
-pub mod Object
-pub mod One
-pub mod Patching
-pub mod Reading
 pub mod Settles
 pub mod Steps
 pub mod Stop

@@ -48,11 +48,11 @@ pub record CarriesPart (plan : Plan) (quiet : Type 0) (old new : Seen) : Type 0 
   pub calls : Tells (Hands (AreCallsUpTo plan.files number)) old.calls new.calls
   pub says : Says (line_of file.0 WriteFault) quiet old.lines new.lines
 
--- An answer, and what was written, against a verdict: it is a stop exactly where the verdict is, but for want of memory;
+-- An answer, and what was written, against the verdict: it is a stop exactly where the verdict is, but for want of memory;
 -- and all of the plan was written exactly where there is one, but for want of memory and a fault of the output that was
 -- counted.
-pub record Settles (given : Result Plan Stop) (status : Status) (out_fault quiet : Type 0) (old new : Seen) : Type 0 where
-  pub stops : (stop : Stop) → ExactlyWhere (given ≡ Err stop) (status_of stop) status
-  pub plans : (plan : Plan) → given ≡ Ok plan → (status ≡ Done) ⊎ ((status ≡ OutOfMemory) ⊎ out_fault)
-  pub done : status ≡ Done → (plan : Plan) × (given ≡ Ok plan) × Carries plan quiet old new
-  pub part : status ≡ WriteFault → (plan : Plan) × (given ≡ Ok plan) × CarriesPart plan quiet old new
+pub record Settles (is : Result Plan Stop → Type 0) (status : Status) (out_fault quiet : Type 0) (old new : Seen) : Type 0 where
+  pub stops : (stop : Stop) → ExactlyWhere (is (Err stop)) (status_of stop) status
+  pub plans : (plan : Plan) → is (Ok plan) → (status ≡ Done) ⊎ ((status ≡ OutOfMemory) ⊎ out_fault)
+  pub done : status ≡ Done → (plan : Plan) × is (Ok plan) × Carries plan quiet old new
+  pub part : status ≡ WriteFault → (plan : Plan) × is (Ok plan) × CarriesPart plan quiet old new

@@ -5,10 +5,10 @@ use Rattle.link_engine.specs.declared.stop.StepFault.{StepFault}
 use Rattle.link_engine.specs.declared.stop.StepFault.TheVariants as fault
 use Rattle.link_engine.specs.declared.stop.Stop.TheVariants as stop
 
--- the words are at fault, or memory ran out
+-- the words are at fault or have too many inputs, or memory ran out
 abbrev pub IsWordsStop : StepFault → Type 0
-IsWordsStop (fault.Stop (stop.Usage _ _)) = Unit {0}
-IsWordsStop (fault.Stop _) = ⊥
+IsWordsStop (fault.Stop (stop.ReadFault _)) = ⊥
+IsWordsStop (fault.Stop _) = Unit {0}
 IsWordsStop fault.OutOfMemory = Unit {0}
 
 -- a file isn't read, or memory ran out

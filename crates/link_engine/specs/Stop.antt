@@ -1,5 +1,7 @@
 -- Why the words and the files have no image, and the answer that tells it.
 use Rattle.std.specs.Prelude.{◌≡◌, Result, Ok, Err}
+use Rattle.member_rounds.specs.declared.fault.RoundFault.{RoundFault}
+use Rattle.member_rounds.specs.declared.fault.RoundFault.TheVariants as rounds
 use Rattle.mo_types.specs.declared.answer.Refusal.{Refusal}
 use Rattle.mo_types.specs.declared.answer.Status.{Status}
 use Rattle.mo_types.specs.declared.answer.Status.TheVariants as answer
@@ -22,8 +24,19 @@ status_for fault.OutOfMemory = answer.OutOfMemory
 abbrev pub refused_for : Refusal → StepFault
 refused_for refusal = fault.Stop (Refused refusal)
 
+-- the fault of files that aren't loaded or linked
+abbrev pub fault_for : RoundFault → StepFault
+fault_for (rounds.Refused refusal) = refused_for refusal
+fault_for rounds.OutOfMemory = fault.OutOfMemory
+
 -- What a step returned is what its definition gives. Want of memory is left to the code.
 abbrev pub Answers : {A : Type 0} → Result A StepFault → Result A Stop → Type 0
 Answers (Ok x) given = given ≡ Ok x
 Answers (Err (fault.Stop why)) given = given ≡ Err why
 Answers (Err fault.OutOfMemory) given = Unit {0}
+
+-- What a step returned is one of what is given. Want of memory is left to the code.
+abbrev pub Meets : {A : Type 0} → (Result A Stop → Type 0) → Result A StepFault → Type 0
+Meets is (Ok x) = is (Ok x)
+Meets is (Err (fault.Stop why)) = is (Err why)
+Meets is (Err fault.OutOfMemory) = Unit {0}

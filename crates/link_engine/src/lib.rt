@@ -13,17 +13,11 @@ ghost use Rattle.link_engine.specs.Command.{command_of};
 ghost use Rattle.link_engine.specs.Settles.{ExactlyWhere, Settles, Stopped};
 ghost use Rattle.link_engine.specs.Steps.{IsReadWell, IsStop};
 ghost use Rattle.link_engine.specs.declared.stop.Stop.TheVariants as stop;
-ghost use Rattle.link_engine.specs.Verdict.{verdict, verdict_over};
+ghost use Rattle.link_engine.specs.Verdict.{IsVerdict, IsVerdictOver};
 
-mod branches;
-mod entry;
 mod fetch;
-mod form;
-mod image;
 mod laws;
-mod names;
-mod one;
-mod patching;
+mod libraries;
 mod plan;
 mod read;
 mod run;
@@ -31,39 +25,40 @@ mod stop;
 mod words;
 mod write;
 
-pub use crate::laws::{
-    branches_have_their_distances, every_refusal_has_its_cause, parts_stand_at_their_places,
-    what_is_linked_is_linkable,
-};
+pub use crate::laws::{a_verdict_is_one, every_refusal_has_its_cause};
 use crate::plan::make_plan;
 use crate::run::{carry_out, ended};
 use mo_outside::{Diag, Files, Gate, Out};
 use mo_types::{ArgList, Status};
 use std::alloc::Global;
+use std::thread::Threads;
 
-/// Links the object that the words name, and writes the image.
+/// Links the objects that the words name, and writes the image.
 ///
-/// The words are those of the command line after the program's name, as `mo_cmd` reads them (ld(1)): a path, and perhaps
-/// `-o` with the path of the image. Each file is asked for once. The whole image is in memory before the output is
-/// begun, and each write is handed all that is left of it. One line goes to `diag` for each answer but `Done`.
-pub fn link<F: Files, O: Out, D: Diag, G: Gate + Sync>(
+/// The words are those of the command line after the program's name, as `mo_cmd` reads them (ld(1)): paths, and perhaps
+/// `-o` with the path of the image and `-threads` with the number of workers. Each file is asked for once. The whole image
+/// is in memory before the output is begun, and each write is handed all that is left of it. One line goes to `diag` for
+/// each answer but `Done`. Each worker passes the gate before each of its jobs; what is written is the same for every number
+/// of workers.
+pub fn link<R: Threads + Sync, F: Files, O: Out, D: Diag, G: Gate + Sync>(
+    rt: &R,
     alloc: Global,
     words: &ArgList,
     files: &mut F,
     out: &mut O,
     diag: &mut D,
-    _gate: &G,
+    gate: &G,
 ) -> Status
     // The files were asked for the inputs, each once, and gave answers; the answer, and what was written and told, is the
     // verdict's on these.
     ensures settles { Answered F.answers (F.holds files.old) (inputs_of (command_of words.now)) (result ≢ OutOfMemory)
-        (λ answers. Settles (verdict words.now answers) result (Rises (O.faults out.old) (O.faults out.new)) (¬ Rises (D.faults diag.old) (D.faults diag.new))
+        (λ answers. Settles (IsVerdict words.now answers) result (Rises (O.faults out.old) (O.faults out.new)) (¬ Rises (D.faults diag.old) (D.faults diag.new))
         (record { files = O.files out.old; calls = O.calls out.old; lines = D.lines diag.old })
         (record { files = O.files out.new; calls = O.calls out.new; lines = D.lines diag.new }))
         (record { told = F.asked files.old; self = files.old }) (record { told = F.asked files.new; self = files.new }) }
     // Where the files tell what they hold, and each was read, it is the verdict on that.
     ensures told { IfSome (F.holds files.old) (λ held. IsReadWell result
-        → Settles (verdict_over words.now held) result (Rises (O.faults out.old) (O.faults out.new)) (¬ Rises (D.faults diag.old) (D.faults diag.new))
+        → Settles (IsVerdictOver words.now held) result (Rises (O.faults out.old) (O.faults out.new)) (¬ Rises (D.faults diag.old) (D.faults diag.new))
         (record { files = O.files out.old; calls = O.calls out.old; lines = D.lines diag.old })
         (record { files = O.files out.new; calls = O.calls out.new; lines = D.lines diag.new })) }
     ensures usage { (word : ℕ) (rule : UsageRule)
@@ -84,7 +79,7 @@ pub fn link<F: Files, O: Out, D: Diag, G: Gate + Sync>(
     ensures out_faults { O.faults out.old ≤ O.faults out.new }
     ensures diag_faults { D.faults diag.old ≤ D.faults diag.new }
 {
-    match make_plan(alloc, words, files) {
+    match make_plan(rt, alloc, gate, words, files) {
         Ok(plan) => carry_out(out, diag, &plan),
         Err(fault) => ended(diag, b"", fault.into_status()),
     }

@@ -2,8 +2,9 @@
 
 ghost use Rattle.std.specs.Prelude.{◌≡◌, Err, Ok, Result};
 ghost use Rattle.mo_types.specs.declared.answer.Refusal.{Refusal};
-ghost use Rattle.link_engine.specs.Stop.{refused_for, status_for};
+ghost use Rattle.link_engine.specs.Stop.{fault_for, refused_for, status_for};
 
+use member_rounds::RoundFault;
 use mo_types::{Bytes, OutOfMemory, Refusal, Status, UsageRule};
 use std::alloc::{AllocError, AllocFailed};
 
@@ -46,6 +47,16 @@ pub fn refused(refusal: Refusal) -> StepFault
     ensures { result ≡ refused_for refusal }
 {
     StepFault::Stop(Stop::Refused(refusal))
+}
+
+/// The fault of files that aren't loaded or linked.
+pub fn fault_of(fault: RoundFault) -> StepFault
+    ensures { result ≡ fault_for fault }
+{
+    match fault {
+        RoundFault::Refused(refusal) => refused(refusal),
+        RoundFault::OutOfMemory => StepFault::OutOfMemory,
+    }
 }
 
 impl From<OutOfMemory> for StepFault {

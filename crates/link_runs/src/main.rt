@@ -25,6 +25,7 @@ use link_engine::link;
 use mo_outside::{FreeGate, SureDiag, SureOut};
 use std::fs;
 use std::rt::Files;
+use std::thread::Threads;
 
 const LIST: &str = "cases.tsv";
 
@@ -33,17 +34,17 @@ const OUTPUT_ROOM: u64 = 1 << 26;
 
 const MESSAGE_ROOM: u64 = 1 << 16;
 
-fn run_case<R: Files + Print + AllocGlobal>(rt: &R, case: &Case) -> Result<()> {
+fn run_case<R: Files + Print + AllocGlobal + Threads + Sync>(rt: &R, case: &Case) -> Result<()> {
     let alloc = rt.alloc();
     let words = case.words(alloc)?;
     let mut files = CaseFiles::new(rt, case.name());
     let mut out = SureOut::new(alloc, OUTPUT_ROOM)?;
     let mut diag = SureDiag::new(alloc, MESSAGE_ROOM)?;
-    let status = link(alloc, &words, &mut files, &mut out, &mut diag, &FreeGate);
+    let status = link(rt, alloc, &words, &mut files, &mut out, &mut diag, &FreeGate);
     print_row(rt, case.name(), &status, &out, &diag)
 }
 
-fn run_cases<R: Files + Print + AllocGlobal>(rt: &R) -> Result<()> {
+fn run_cases<R: Files + Print + AllocGlobal + Threads + Sync>(rt: &R) -> Result<()> {
     let list = fs::read_to_string(rt, LIST).context(LIST)?;
     for row in list.as_str().lines().skip(1) {
         let case = Case::parse(row).context("a row of the list has too few columns")?;

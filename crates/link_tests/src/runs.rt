@@ -1,11 +1,12 @@
 ghost use Rattle.std.specs.Prelude.{◌≢◌, AllPairs, IfOk};
 
 use link_engine::link;
-use mo_outside::{CallList, FileList, FreeGate, MemDiag, MemFiles, MemOut};
+use mo_outside::{CallList, FileList, FreeGate, Gate, MeetGate, MemDiag, MemFiles, MemOut};
 use mo_types::{Arg, ArgList, Bytes, Items, OutOfMemory};
 use std::alloc::Global;
 use std::process::Abort;
 use std::test::Fail;
+use std::thread::Threads;
 
 // An object with `_main`, which is `mov w0,#0` and `ret`.
 fn returning_zero() -> &'static [u8] {
@@ -27,14 +28,24 @@ fn returning_zero() -> &'static [u8] {
     \x00\x00\x00\x00\x00\x00\x00\x00\x00_main\x00"
 }
 
+// The same object with `_help` in place of `_main`.
+fn helping(alloc: Global) -> Result<Bytes, OutOfMemory> {
+    let object = returning_zero();
+    let mut bytes = Vec::from_slice(alloc, &object[..object.len() - 6])?;
+    bytes.extend_from_slice(b"_help\x00")?;
+    Bytes::from_vec(bytes)
+}
+
 const IMAGE_SIZE: usize = 16384;
 
 // Room for the path `a.out` and an image.
 const ROOM: u64 = 16389;
 
-fn one_word(alloc: Global) -> Result<ArgList, OutOfMemory> {
+fn words_of(alloc: Global, text: &str) -> Result<ArgList, OutOfMemory> {
     let mut words = Items::new(alloc);
-    words.push(Arg::new(String::from_str(alloc, "main.o")?))?;
+    for word in text.split(' ') {
+        words.push(Arg::new(String::from_str(alloc, word)?))?;
+    }
     Ok(words)
 }
 
@@ -44,7 +55,7 @@ fn one_call(alloc: Global, number: u64) -> Result<CallList, OutOfMemory> {
     Ok(calls)
 }
 
-fn one_file(alloc: Global) -> Result<FileList, OutOfMemory>
+fn both_files(alloc: Global) -> Result<FileList, OutOfMemory>
     ensures { IfOk result (λ pairs. AllPairs (λ one other. one.0 ≢ other.0) pairs) }
 {
     let mut pairs = Items::new(alloc);
@@ -52,12 +63,14 @@ fn one_file(alloc: Global) -> Result<FileList, OutOfMemory>
         Bytes::from_static(b"main.o"),
         Bytes::from_static(returning_zero()),
     ))?;
+    pairs.push((Bytes::from_static(b"b.o"), helping(alloc)?))?;
     Ok(pairs)
 }
 
 // A run in which calls on the files, the output and the messages fail, by their numbers from 1, or 0 for none.
 #[derive(Clone, Copy)]
 struct Run {
+    words: &'static str,
     failing: (u64, u64, u64),
     room: u64,
     code: u8,
@@ -73,14 +86,14 @@ fn written(out: &MemOut) -> Option<(usize, bool)> {
     }
 }
 
-fn assert_run(rt: &(impl Abort + AllocGlobal), run: Run) -> Result<(), OutOfMemory> {
+fn assert_run<R: Abort + AllocGlobal + Threads + Sync>(rt: &R, run: Run) -> Result<(), OutOfMemory> {
     let alloc = rt.alloc();
     let (files, out, diag) = run.failing;
-    let mut files = MemFiles::new(one_file(alloc)?, one_call(alloc, files)?);
+    let mut files = MemFiles::new(both_files(alloc)?, one_call(alloc, files)?);
     let mut out = MemOut::new(alloc, run.room, one_call(alloc, out)?)?;
     let mut diag = MemDiag::new(alloc, 64, one_call(alloc, diag)?)?;
-    let words = one_word(alloc)?;
-    let status = link(alloc, &words, &mut files, &mut out, &mut diag, &FreeGate);
+    let words = words_of(alloc, run.words)?;
+    let status = link(rt, alloc, &words, &mut files, &mut out, &mut diag, &FreeGate);
     assert!(rt; status.code() == run.code);
     assert!(rt; diag.lines() == run.line);
     assert!(rt; written(&out) == run.written);
@@ -88,6 +101,7 @@ fn assert_run(rt: &(impl Abort + AllocGlobal), run: Run) -> Result<(), OutOfMemo
 }
 
 const DONE: Run = Run {
+    words: "main.o",
     failing: (0, 0, 0),
     room: ROOM,
     code: 0,
@@ -136,8 +150,46 @@ fn failing_calls(rt: HostRuntime) -> Result<(), Fail> {
             line: b"",
             ..NOT_BEGUN
         },
+        // The second of two files isn't read.
+        Run {
+            words: "main.o b.o",
+            failing: (2, 0, 0),
+            line: b"atomld: cannot read b.o\n",
+            ..NOT_BEGUN
+        },
     ] {
         assert_run(&rt, run)?;
     }
+    Ok(())
+}
+
+// The image of both objects, by so many workers that pass a gate.
+fn linked<R: AllocGlobal + Threads + Sync, G: Gate + Sync>(
+    rt: &R,
+    words: &str,
+    gate: &G,
+) -> Result<Vec<u8>, OutOfMemory> {
+    let alloc = rt.alloc();
+    let mut files = MemFiles::new(both_files(alloc)?, Items::new(alloc));
+    let mut out = MemOut::new(alloc, ROOM, Items::new(alloc))?;
+    let mut diag = MemDiag::new(alloc, 64, Items::new(alloc))?;
+    let words = words_of(alloc, words)?;
+    let status = link(rt, alloc, &words, &mut files, &mut out, &mut diag, gate);
+    let mut image = Vec::new(alloc);
+    if status.code() == 0 {
+        image.extend_from_slice(out.bytes(0).unwrap_or(b"".as_slice()))?;
+    }
+    Ok(image)
+}
+
+// Two workers come to the gate, and the image is that of one worker alone.
+#[test]
+fn workers_meet(rt: HostRuntime) -> Result<(), Fail> {
+    let gate = MeetGate::new(1_000_000_000);
+    let by_two = linked(&rt, "main.o b.o -threads 2", &gate)?;
+    let by_one = linked(&rt, "main.o b.o -threads 1", &FreeGate)?;
+    assert!(rt; gate.met());
+    assert!(rt; by_two.len() == IMAGE_SIZE);
+    assert!(rt; by_two.as_slice() == by_one.as_slice());
     Ok(())
 }

@@ -1,5 +1,5 @@
-use Rattle.link_engine.proofs.CauseLemmas.{cause_refuses, refusal_cause}
+use Rattle.link_engine.proofs.CauseLemmas.{cause_verdict, verdict_cause}
 use Rattle.link_engine.proofs.laws.every_refusal_has_its_cause.Goals as goal
 
 pub returns : goal.returns
-returns c words files refusal = (refusal_cause words files refusal, cause_refuses words files refusal)
+returns c words answers refusal = (verdict_cause words answers refusal, cause_verdict words answers refusal)
