@@ -96,46 +96,41 @@ fn gives_triples<R: Threads + Sync>(
 }
 
 // A body that runs both workers in one thread meets every contract. It fails here, since the first worker waits at
-// the gate until its looks run out, and at the next test, where job 0 waits for job 1.
-#[test]
-fn shares_and_the_gate(rt: HostRuntime) -> Result<(), Fail> {
-    for (i, from, to) in [(0, 0, 2), (1, 2, 4), (2, 4, 7)] {
-        assert!(rt; share(7, 3, i) == (from, to));
-    }
+// the gate until its looks run out, and at the next call, where job 0 waits for job 1.
+fn two_workers_meet<R: Threads + Sync>(rt: &R, alloc: Global) -> Result<bool, OutOfMemory> {
     let gate = MeetGate::new(1_000_000_000);
-    let seats = vec![in rt.alloc(); 0u32; 2]?;
-    let (_, pieces) = fan(&rt, rt.alloc(), &gate, seats, &Triples, 2)?;
-    assert!(rt; gate.met());
-    assert!(rt; pieces.as_slice() == [0, 3].as_slice());
-    Ok(())
+    let seats = vec![in alloc; 0u32; 2]?;
+    let (_, pieces) = fan(rt, alloc, &gate, seats, &Triples, 2)?;
+    Ok(gate.met() && pieces.as_slice() == [0, 3].as_slice())
 }
 
-#[test]
-fn claim_passes_a_held_job(rt: HostRuntime) -> Result<(), Fail> {
+fn claim_passes_a_held_job<R: Threads + Sync>(rt: &R, alloc: Global) -> Result<bool, OutOfMemory> {
     let task = Waits {
         has_run: AtomicBool::new(false),
     };
-    let seats = vec![in rt.alloc(); 0u32; 2]?;
-    let (_, pieces) = fan(&rt, rt.alloc(), &FreeGate, seats, &task, 4)?;
-    assert!(rt; pieces.as_slice() == [true; 4].as_slice());
-    Ok(())
+    let seats = vec![in alloc; 0u32; 2]?;
+    let (_, pieces) = fan(rt, alloc, &FreeGate, seats, &task, 4)?;
+    Ok(pieces.as_slice() == [true; 4].as_slice())
 }
 
-#[test]
-fn three_draws_of_two_drawers(rt: HostRuntime) -> Result<(), Fail> {
-    let (claims, mut drawer) = Claims::begin(rt.alloc(), 5)?;
+fn three_draws_of_two_drawers(alloc: Global) -> Result<bool, OutOfMemory> {
+    let (claims, mut drawer) = Claims::begin(alloc, 5)?;
     let first = claims.draw(&mut drawer);
     let mut other = claims.split(&mut drawer, 2);
     let second = claims.draw(&mut other);
     let third = claims.draw(&mut other);
     claims.join(&mut drawer, other);
-    assert!(rt; claims.close(drawer) == 3);
-    assert!(rt; [first, second, third] == [0, 1, 2]);
-    Ok(())
+    Ok(claims.close(drawer) == 3 && [first, second, third] == [0, 1, 2])
 }
 
 #[test]
-fn seats_count_their_jobs(rt: HostRuntime) -> Result<(), Fail> {
+fn shares_and_the_gate(rt: HostRuntime) -> Result<(), Fail> {
+    for (i, from, to) in [(0, 0, 2), (1, 2, 4), (2, 4, 7)] {
+        assert!(rt; share(7, 3, i) == (from, to));
+    }
+    assert!(rt; two_workers_meet(&rt, rt.alloc())?);
+    assert!(rt; claim_passes_a_held_job(&rt, rt.alloc())?);
+    assert!(rt; three_draws_of_two_drawers(rt.alloc())?);
     for (workers, jobs) in [(1, 0), (3, 1), (1, 5000), (2, 100_000), (7, 300_001)] {
         assert!(rt; gives_triples(&rt, rt.alloc(), workers, jobs)?);
     }

@@ -8,7 +8,7 @@ use mo_outside::{
 use mo_types::{Bytes, Items, OutOfMemory};
 use std::alloc::Global;
 use std::test::Fail;
-use std::thread::join;
+use std::thread::{Threads, join};
 
 const FILE_SIZE: usize = 5000;
 
@@ -52,87 +52,146 @@ fn put_twice(diag: &mut impl Diag) -> Result<(), Failed> {
     diag.put(b"mld: x")
 }
 
-#[test]
-fn files_are_fetched(rt: HostRuntime) -> Result<(), Fail> {
-    let alloc = rt.alloc();
+fn sure_files_are_fetched(alloc: Global) -> Result<bool, OutOfMemory> {
     let mut sure = SureFiles::new(one_file(alloc)?);
-    assert!(rt; size_of(&mut sure, alloc, b"main.o")? == Some(FILE_SIZE));
-    assert!(rt; size_of(&mut sure, alloc, b"main")?.is_none());
-    let mut files = MemFiles::new(one_file(alloc)?, one_call(alloc, 1)?);
-    assert!(rt; size_of(&mut files, alloc, b"main.o") == Err(FetchFault::Failed));
-    assert!(rt; size_of(&mut files, alloc, b"main.o")? == Some(FILE_SIZE));
-    assert!(rt; files.fault_count() == 1);
-    FreeGate.pass(0);
-    Ok(())
+    Ok(
+        size_of(&mut sure, alloc, b"main.o") == Ok(Some(FILE_SIZE))
+            && size_of(&mut sure, alloc, b"main") == Ok(None),
+    )
 }
 
-#[test]
-fn output_is_read_back(rt: HostRuntime) -> Result<(), Fail> {
-    let alloc = rt.alloc();
-    let mut out = MemOut::new(alloc, 64, one_call(alloc, 11)?)?;
-    let mut sure = SureOut::new(alloc, 64)?;
+fn a_fetch_fails(alloc: Global) -> Result<bool, OutOfMemory> {
+    let calls = one_call(alloc, 1)?;
+    let mut files = MemFiles::new(one_file(alloc)?, calls);
+    let first = size_of(&mut files, alloc, b"main.o");
+    let second = size_of(&mut files, alloc, b"main.o");
+    Ok(
+        first == Err(FetchFault::Failed)
+            && second == Ok(Some(FILE_SIZE))
+            && files.fault_count() == 1,
+    )
+}
+
+// Whether the third of three files can't be written.
+fn third_fails(out: &mut impl Out) -> bool {
     for is_third in [false, false, true] {
-        assert!(rt; write_file(&mut out).is_err() == is_third);
-        write_file(&mut sure)?;
-        assert!(rt; sure.path(0).is_none() == is_third);
+        if write_file(out).is_err() != is_third {
+            return false;
+        }
     }
-    for file in 0..2 {
-        assert!(rt; out.path(file) == Some(b"out".as_slice()));
-        assert!(rt; out.bytes(file) == Some(b"image".as_slice()));
-        assert!(rt; out.is_done(file) == Some(true));
-    }
-    assert!(rt; out.fault_count() == 1);
-    Ok(())
+    true
 }
 
-#[test]
-fn room_is_short_by_one_byte(rt: HostRuntime) -> Result<(), Fail> {
-    let alloc = rt.alloc();
-    for (room, failing, is_short) in [(8, 5, false), (7, 5, true), (8, 3, true)] {
-        let mut out = MemOut::new(alloc, room, one_call(alloc, failing)?)?;
-        assert!(rt; write_file(&mut out).is_err() == is_short);
-        assert!(rt; out.is_done(0) == Some(!is_short));
-        let image: &[u8] = if is_short { b"ima" } else { b"image" };
-        assert!(rt; out.bytes(0) == Some(image));
-        let mut sure = SureOut::new(alloc, room)?;
-        write_file(&mut sure)?;
-        let written = if room == 8 {
-            Some(b"image".as_slice())
-        } else {
-            None
-        };
-        assert!(rt; sure.bytes(0) == written);
-        assert!(rt; sure.is_done(0) == written.map(|_| true));
-    }
-    Ok(())
+fn is_read_back(out: &MemOut, file: usize) -> bool {
+    out.path(file) == Some(b"out".as_slice())
+        && out.bytes(file) == Some(b"image".as_slice())
+        && out.is_done(file) == Some(true)
 }
 
-#[test]
-fn messages_are_read_back(rt: HostRuntime) -> Result<(), Fail> {
-    let alloc = rt.alloc();
-    for (room, number, fails) in [(9, 3, false), (8, 3, true), (9, 2, true)] {
-        let mut diag = MemDiag::new(alloc, room, one_call(alloc, number)?)?;
-        assert!(rt; put_twice(&mut diag).is_err() == fails);
-        let lines: &[u8] = if fails { b"ato" } else { b"atomld: x" };
-        assert!(rt; diag.lines() == lines);
-        assert!(rt; diag.fault_count() == u64::from(fails));
-        let mut sure = SureDiag::new(alloc, room)?;
-        put_twice(&mut sure)?;
-        assert!(rt; sure.lines().is_none() == (room == 8));
-    }
-    Ok(())
+fn output_is_read_back(alloc: Global) -> Result<bool, OutOfMemory> {
+    let calls = one_call(alloc, 11)?;
+    let mut out = MemOut::new(alloc, 64, calls)?;
+    Ok(
+        third_fails(&mut out)
+            && is_read_back(&out, 0)
+            && is_read_back(&out, 1)
+            && out.fault_count() == 1,
+    )
 }
 
-#[test]
-fn two_workers_meet(rt: HostRuntime) {
+fn third_is_lost(sure: &mut SureOut) -> bool {
+    for is_third in [false, false, true] {
+        if write_file(sure).is_err() || sure.path(0).is_none() != is_third {
+            return false;
+        }
+    }
+    true
+}
+
+fn sure_output_is_read_back(alloc: Global) -> Result<bool, OutOfMemory> {
+    let mut sure = SureOut::new(alloc, 64)?;
+    Ok(third_is_lost(&mut sure))
+}
+
+// Whether so much room is too short for a file, or the call of that number fails.
+fn is_short(alloc: Global, room: u64, failing: u64, is_short: bool) -> Result<bool, OutOfMemory> {
+    let calls = one_call(alloc, failing)?;
+    let mut out = MemOut::new(alloc, room, calls)?;
+    let image: &[u8] = if is_short { b"ima" } else { b"image" };
+    Ok(
+        write_file(&mut out).is_err() == is_short
+            && out.is_done(0) == Some(!is_short)
+            && out.bytes(0) == Some(image),
+    )
+}
+
+fn sure_is_short(alloc: Global, room: u64) -> Result<bool, OutOfMemory> {
+    let mut sure = SureOut::new(alloc, room)?;
+    let written = if room == 8 {
+        Some(b"image".as_slice())
+    } else {
+        None
+    };
+    Ok(
+        write_file(&mut sure).is_ok()
+            && sure.bytes(0) == written
+            && sure.is_done(0) == written.map(|_| true),
+    )
+}
+
+// Whether so much room is too short for a message, or the call of that number fails.
+fn message_fails(alloc: Global, room: u64, number: u64, fails: bool) -> Result<bool, OutOfMemory> {
+    let calls = one_call(alloc, number)?;
+    let mut diag = MemDiag::new(alloc, room, calls)?;
+    let lines: &[u8] = if fails { b"ato" } else { b"atomld: x" };
+    Ok(
+        put_twice(&mut diag).is_err() == fails
+            && diag.lines() == lines
+            && diag.fault_count() == u64::from(fails),
+    )
+}
+
+fn sure_message_is_short(alloc: Global, room: u64) -> Result<bool, OutOfMemory> {
+    let mut sure = SureDiag::new(alloc, room)?;
+    Ok(put_twice(&mut sure).is_ok() && sure.lines().is_none() == (room == 8))
+}
+
+fn no_worker_meets_alone() -> bool {
     let short = MeetGate::new(10);
     for worker in [0, 1, 0] {
         short.pass(worker);
-        assert!(rt; !short.met());
+        if short.met() {
+            return false;
+        }
     }
+    true
+}
+
+fn two_workers_meet<R: Threads + Sync>(rt: &R) -> bool {
     let gate = MeetGate::new(1_000_000_000);
     gate.pass(2);
-    join(&rt, || gate.pass(0), || gate.pass(1));
+    join(rt, || gate.pass(0), || gate.pass(1));
     gate.pass(0);
-    assert!(rt; gate.met());
+    gate.met()
+}
+
+#[test]
+fn what_was_put_in_is_found(rt: HostRuntime) -> Result<(), Fail> {
+    let alloc = rt.alloc();
+    assert!(rt; sure_files_are_fetched(alloc)?);
+    assert!(rt; a_fetch_fails(alloc)?);
+    FreeGate.pass(0);
+    assert!(rt; output_is_read_back(alloc)?);
+    assert!(rt; sure_output_is_read_back(alloc)?);
+    for (room, failing, short) in [(8, 5, false), (7, 5, true), (8, 3, true)] {
+        assert!(rt; is_short(alloc, room, failing, short)? && sure_is_short(alloc, room)?);
+    }
+    for (room, number, fails) in [(9, 3, false), (8, 3, true), (9, 2, true)] {
+        assert!(rt;
+            message_fails(alloc, room, number, fails)? && sure_message_is_short(alloc, room)?
+        );
+    }
+    assert!(rt; no_worker_meets_alone());
+    assert!(rt; two_workers_meet(&rt));
+    Ok(())
 }

@@ -2,6 +2,7 @@
 ghost use Rattle.std.specs.Prelude.{◌≡◌, ◌<◌, ◌≤◌, length, All, IfOk};
 ghost use Rattle.std.specs.Thread.{IsSync};
 
+use mo_types::OutOfMemory;
 use name_race::{NameRace, Racer};
 use race_core::{Offer, replay};
 use std::alloc::{AllocError, Global};
@@ -100,63 +101,90 @@ fn many_offers(alloc: Global, count: u32) -> Result<Vec<Offer>, AllocError>
     Ok(events)
 }
 
-#[test]
-fn race_of_three_names(rt: HostRuntime) -> Result<(), Fail> {
-    let (race, racer) = NameRace::begin(rt.alloc(), vec![in rt.alloc(); NONE; 3]?, 2)?;
-    let events = [
-        Offer {
-            worker: 0,
-            name: 0,
-            word: 7,
-        },
-        Offer {
-            worker: 0,
-            name: 0,
-            word: 5,
-        },
-        Offer {
-            worker: 1,
-            name: 0,
-            word: 5,
-        },
-        Offer {
-            worker: 1,
-            name: 2,
-            word: 9,
-        },
-    ];
-    let racer = offer_by_two(&rt, &race, racer, &events);
+// The offers of two workers for three names.
+const OFFERS: [Offer; 4] = [
+    Offer {
+        worker: 0,
+        name: 0,
+        word: 7,
+    },
+    Offer {
+        worker: 0,
+        name: 0,
+        word: 5,
+    },
+    Offer {
+        worker: 1,
+        name: 0,
+        word: 5,
+    },
+    Offer {
+        worker: 1,
+        name: 2,
+        word: 9,
+    },
+];
+
+fn three_names<R: Threads + Sync>(rt: &R, alloc: Global) -> Result<bool, OutOfMemory> {
+    let (race, racer) = NameRace::begin(alloc, vec![in alloc; NONE; 3]?, 2)?;
+    let racer = offer_by_two(rt, &race, racer, &OFFERS);
     let mut words = [0; 3];
     race.settle(racer, &mut words);
-    assert_eq!(rt; words, [5, NONE, 9]);
-    Ok(())
+    Ok(words == [5, NONE, 9])
 }
 
-#[test]
-fn a_racer_sees_the_word_of_another(rt: HostRuntime) -> Result<(), Fail> {
-    let (race, mut first) = NameRace::begin(rt.alloc(), vec![in rt.alloc(); NONE]?, 2)?;
+fn a_racer_sees_the_word_of_another(alloc: Global) -> Result<bool, OutOfMemory> {
+    let (race, mut first) = NameRace::begin(alloc, vec![in alloc; NONE]?, 2)?;
     let mut second = race.split(&mut first, 1);
-    assert_eq!(rt; race.least(&mut second, 0), NONE);
-    assert_eq!(rt; race.offer(&mut first, 0, 7), NONE);
-    assert_eq!(rt; race.least(&mut second, 0), 7);
-    assert_eq!(rt; race.offer(&mut second, 0, 9), 7);
-    assert_eq!(rt; race.least(&mut first, 0), 7);
+    let seen = [
+        race.least(&mut second, 0),
+        race.offer(&mut first, 0, 7),
+        race.least(&mut second, 0),
+        race.offer(&mut second, 0, 9),
+        race.least(&mut first, 0),
+    ];
     race.join(&mut first, second);
     let mut words = [0; 1];
     race.settle(first, &mut words);
-    assert_eq!(rt; words, [7]);
-    Ok(())
+    Ok(seen == [NONE, NONE, 7, 7, 7] && words == [7])
+}
+
+fn replayed(alloc: Global, events: &[Offer]) -> Result<Vec<u64>, OutOfMemory>
+    requires { All (λ e. e.name < 100000) events.now }
+{
+    let mut words = vec![in alloc; NONE; 100_000]?;
+    replay(words.as_mut_slice(), events);
+    Ok(words)
+}
+
+fn settled_by_four<R: Threads + Sync>(
+    rt: &R,
+    alloc: Global,
+    events: &[Offer],
+) -> Result<Vec<u64>, OutOfMemory>
+    requires { All (λ e. e.name < 100000) events.now }
+{
+    let mut words = vec![in alloc; 0; 100_000]?;
+    let (race, racer) = NameRace::begin(alloc, vec![in alloc; NONE; 100_000]?, 4)?;
+    let racer = offer_by_four(rt, &race, racer, events);
+    race.settle(racer, words.as_mut_slice());
+    Ok(words)
+}
+
+fn four_threads_settle_what_one_replays<R: Threads + Sync>(
+    rt: &R,
+    alloc: Global,
+) -> Result<bool, OutOfMemory> {
+    let events = many_offers(alloc, 1_000_000)?;
+    let settled = settled_by_four(rt, alloc, events.as_slice())?;
+    let replayed = replayed(alloc, events.as_slice())?;
+    Ok(settled == replayed)
 }
 
 #[test]
-fn four_threads_settle_what_one_replays(rt: HostRuntime) -> Result<(), Fail> {
-    let events = many_offers(rt.alloc(), 1_000_000)?;
-    let mut replayed = vec![in rt.alloc(); NONE; 100_000]?;
-    replay(replayed.as_mut_slice(), events.as_slice());
-    let (race, racer) = NameRace::begin(rt.alloc(), vec![in rt.alloc(); NONE; 100_000]?, 4)?;
-    let racer = offer_by_four(&rt, &race, racer, events.as_slice());
-    let mut settled = vec![in rt.alloc(); 0; 100_000]?;
-    race.settle(racer, settled.as_mut_slice());
-    assert!(rt; settled == replayed);
+fn race_of_three_names(rt: HostRuntime) -> Result<(), Fail> {
+    assert!(rt; three_names(&rt, rt.alloc())?);
+    assert!(rt; a_racer_sees_the_word_of_another(rt.alloc())?);
+    assert!(rt; four_threads_settle_what_one_replays(&rt, rt.alloc())?);
     Ok(())
 }

@@ -1,9 +1,10 @@
 //! The structures against what LLVM 14 writes and prints.
+use crate::load_commands::{load_commands_are_read, load_commands_are_written};
 use mo_format::{
     BuildVersionCommand, DylinkerCommand, EntryPointCommand, MachHeader, Nlist, RelocationInfo,
     SectionHeader, SegmentCommand, SymtabCommand,
 };
-use std::alloc::AllocError;
+use std::alloc::{AllocError, Global};
 use std::test::Fail;
 
 // What `clang -target arm64-apple-macos11 -c` makes of
@@ -100,93 +101,100 @@ static STRUCTURES: [u8; 320] = [
 
 // The expected values are those that `llvm-readobj --file-headers --sections --symbols --relocations`
 // and `llvm-objdump --macho --private-headers` print of the object.
-#[test]
-fn an_object_of_clang_is_read(rt: HostRuntime) {
-    let header = MachHeader {
-        magic: 0xfeedfacf,
-        cputype: 0x0100000c,
-        cpusubtype: 0,
-        filetype: 1,
-        ncmds: 4,
-        sizeofcmds: 360,
-        flags: 0x2000,
-        reserved: 0,
-    };
-    assert_eq!(rt; MachHeader::read(&OBJECT, 0), header);
-    let segment = SegmentCommand {
-        cmd: 0x19,
-        cmdsize: 232,
-        segname: [0; 16],
-        vmaddr: 0,
-        vmsize: 0x25,
-        fileoff: 392,
-        filesize: 37,
-        maxprot: 7,
-        initprot: 7,
-        nsects: 2,
-        flags: 0,
-    };
-    assert_eq!(rt; SegmentCommand::read(&OBJECT, 32), segment);
-    let text = SectionHeader {
-        sectname: *b"__text\0\0\0\0\0\0\0\0\0\0",
-        segname: *b"__TEXT\0\0\0\0\0\0\0\0\0\0",
-        addr: 0,
-        size: 0x10,
-        offset: 392,
-        align: 2,
-        reloff: 432,
-        nreloc: 3,
-        flags: 0x80000400,
-        reserved1: 0,
-        reserved2: 0,
-        reserved3: 0,
-    };
-    let data = SectionHeader {
-        sectname: *b"__data\0\0\0\0\0\0\0\0\0\0",
-        segname: *b"__DATA\0\0\0\0\0\0\0\0\0\0",
-        addr: 0x10,
-        size: 0x15,
-        offset: 408,
-        align: 3,
-        reloff: 456,
-        nreloc: 3,
-        flags: 0,
-        reserved1: 0,
-        reserved2: 0,
-        reserved3: 0,
-    };
-    assert_eq!(rt; SectionHeader::read(&OBJECT, 104), text);
-    assert_eq!(rt; SectionHeader::read(&OBJECT, 184), data);
-    let version = BuildVersionCommand {
-        cmd: 0x32,
-        cmdsize: 24,
-        platform: 1,
-        minos: 0xb0000,
-        sdk: 0,
-        ntools: 0,
-    };
-    assert_eq!(rt; BuildVersionCommand::read(&OBJECT, 264), version);
-    let symtab = SymtabCommand {
-        cmd: 2,
-        cmdsize: 24,
-        symoff: 480,
-        nsyms: 7,
-        stroff: 592,
-        strsize: 48,
-    };
-    assert_eq!(rt; SymtabCommand::read(&OBJECT, 288), symtab);
+const CLANG_HEADER: MachHeader = MachHeader {
+    magic: 0xfeedfacf,
+    cputype: 0x0100000c,
+    cpusubtype: 0,
+    filetype: 1,
+    ncmds: 4,
+    sizeofcmds: 360,
+    flags: 0x2000,
+    reserved: 0,
+};
+
+const CLANG_SEGMENT: SegmentCommand = SegmentCommand {
+    cmd: 0x19,
+    cmdsize: 232,
+    segname: [0; 16],
+    vmaddr: 0,
+    vmsize: 0x25,
+    fileoff: 392,
+    filesize: 37,
+    maxprot: 7,
+    initprot: 7,
+    nsects: 2,
+    flags: 0,
+};
+
+const CLANG_TEXT: SectionHeader = SectionHeader {
+    sectname: *b"__text\0\0\0\0\0\0\0\0\0\0",
+    segname: *b"__TEXT\0\0\0\0\0\0\0\0\0\0",
+    addr: 0,
+    size: 0x10,
+    offset: 392,
+    align: 2,
+    reloff: 432,
+    nreloc: 3,
+    flags: 0x80000400,
+    reserved1: 0,
+    reserved2: 0,
+    reserved3: 0,
+};
+
+const CLANG_DATA: SectionHeader = SectionHeader {
+    sectname: *b"__data\0\0\0\0\0\0\0\0\0\0",
+    segname: *b"__DATA\0\0\0\0\0\0\0\0\0\0",
+    addr: 0x10,
+    size: 0x15,
+    offset: 408,
+    align: 3,
+    reloff: 456,
+    nreloc: 3,
+    flags: 0,
+    reserved1: 0,
+    reserved2: 0,
+    reserved3: 0,
+};
+
+const CLANG_VERSION: BuildVersionCommand = BuildVersionCommand {
+    cmd: 0x32,
+    cmdsize: 24,
+    platform: 1,
+    minos: 0xb0000,
+    sdk: 0,
+    ntools: 0,
+};
+
+const CLANG_SYMTAB: SymtabCommand = SymtabCommand {
+    cmd: 2,
+    cmdsize: 24,
+    symoff: 480,
+    nsyms: 7,
+    stroff: 592,
+    strsize: 48,
+};
+
+fn an_object_of_clang_is_read() -> bool {
+    MachHeader::read(&OBJECT, 0) == CLANG_HEADER
+        && SegmentCommand::read(&OBJECT, 32) == CLANG_SEGMENT
+        && SectionHeader::read(&OBJECT, 104) == CLANG_TEXT
+        && SectionHeader::read(&OBJECT, 184) == CLANG_DATA
+        && BuildVersionCommand::read(&OBJECT, 264) == CLANG_VERSION
+        && SymtabCommand::read(&OBJECT, 288) == CLANG_SYMTAB
 }
 
-#[test]
-fn relocations_and_symbols_of_clang_are_read(rt: HostRuntime) {
-    for (at, r_address, r_symbolnum, r_pcrel, r_length, r_type) in [
-        (432, 8, 6, true, 2, 2),
-        (440, 4, 5, false, 2, 4),
-        (448, 0, 5, true, 2, 3),
-        (456, 8, 5, false, 2, 1),
-        (464, 8, 6, false, 2, 0),
-        (472, 0, 3, false, 3, 0),
-    ] {
+// A relocation's place, r_address, r_symbolnum, r_pcrel, r_length and r_type; r_extern is 1.
+const RELOCATIONS: [(usize, u32, u32, bool, u8, u8); 6] = [
+    (432, 8, 6, true, 2, 2),
+    (440, 4, 5, false, 2, 4),
+    (448, 0, 5, true, 2, 3),
+    (456, 8, 5, false, 2, 1),
+    (464, 8, 6, false, 2, 0),
+    (472, 0, 3, false, 3, 0),
+];
+
+fn relocations_of_clang_are_read() -> bool {
+    for (at, r_address, r_symbolnum, r_pcrel, r_length, r_type) in RELOCATIONS {
         let info = RelocationInfo {
             r_address,
             r_symbolnum,
@@ -195,18 +203,26 @@ fn relocations_and_symbols_of_clang_are_read(rt: HostRuntime) {
             r_extern: true,
             r_type,
         };
-        assert!(rt; at < 480);
-        assert_eq!(rt; RelocationInfo::read(&OBJECT, at), info, "at {at}");
+        if at >= 480 || RelocationInfo::read(&OBJECT, at) != info {
+            return false;
+        }
     }
-    for (at, n_strx, n_type, n_sect, n_desc, n_value) in [
-        (480, 41, 0x0e, 1, 0, 0),
-        (496, 35, 0x0e, 2, 0, 0x10),
-        (512, 15, 0x1f, 2, 0, 0x1c),
-        (528, 9, 0x0f, 1, 0, 0),
-        (544, 23, 0x0f, 2, 0x80, 0x24),
-        (560, 29, 0x0f, 2, 0, 0x10),
-        (576, 1, 0x01, 0, 0, 0),
-    ] {
+    true
+}
+
+// A symbol's place, n_strx, n_type, n_sect, n_desc and n_value.
+const SYMBOLS: [(usize, u32, u8, u8, u16, u64); 7] = [
+    (480, 41, 0x0e, 1, 0, 0),
+    (496, 35, 0x0e, 2, 0, 0x10),
+    (512, 15, 0x1f, 2, 0, 0x1c),
+    (528, 9, 0x0f, 1, 0, 0),
+    (544, 23, 0x0f, 2, 0x80, 0x24),
+    (560, 29, 0x0f, 2, 0, 0x10),
+    (576, 1, 0x01, 0, 0, 0),
+];
+
+fn symbols_of_clang_are_read() -> bool {
+    for (at, n_strx, n_type, n_sect, n_desc, n_value) in SYMBOLS {
         let symbol = Nlist {
             n_strx,
             n_type,
@@ -214,9 +230,11 @@ fn relocations_and_symbols_of_clang_are_read(rt: HostRuntime) {
             n_desc,
             n_value,
         };
-        assert!(rt; at < 592);
-        assert_eq!(rt; Nlist::read(&OBJECT, at), symbol, "at {at}");
+        if at >= 592 || Nlist::read(&OBJECT, at) != symbol {
+            return false;
+        }
     }
+    true
 }
 
 // The fields that the bytes were made of.
@@ -317,35 +335,60 @@ const SYMBOL: Nlist = Nlist {
     n_value: 0x9192939495969798,
 };
 
-fn write_structures(out: &mut Vec<u8>) -> Result<(), AllocError> {
+fn write_headers(out: &mut Vec<u8>) -> Result<(), AllocError> {
     HEADER.write(out)?;
     SEGMENT.write(out)?;
-    SECTION.write(out)?;
+    SECTION.write(out)
+}
+
+fn write_commands(out: &mut Vec<u8>) -> Result<(), AllocError> {
     SYMTAB.write(out)?;
     DYLINKER.write(out)?;
     out.extend_from_slice(b"/usr/lib/dyld\0\0\0\0\0\0\0")?;
     VERSION.write(out)?;
-    ENTRY.write(out)?;
-    PAGE.write(out)?;
-    POINTER.write(out)?;
-    SYMBOL.write(out)?;
-    Ok(())
+    ENTRY.write(out)
 }
 
+fn write_entries(out: &mut Vec<u8>) -> Result<(), AllocError> {
+    PAGE.write(out)?;
+    POINTER.write(out)?;
+    SYMBOL.write(out)
+}
+
+fn structures_are_written(alloc: Global) -> Result<bool, AllocError> {
+    let mut out = Vec::new(alloc);
+    write_headers(&mut out)?;
+    write_commands(&mut out)?;
+    write_entries(&mut out)?;
+    Ok(out.as_slice() == STRUCTURES.as_slice())
+}
+
+fn headers_are_read() -> bool {
+    MachHeader::read(&STRUCTURES, 0) == HEADER
+        && SegmentCommand::read(&STRUCTURES, 32) == SEGMENT
+        && SectionHeader::read(&STRUCTURES, 104) == SECTION
+        && SymtabCommand::read(&STRUCTURES, 184) == SYMTAB
+        && DylinkerCommand::read(&STRUCTURES, 208) == DYLINKER
+}
+
+fn commands_and_entries_are_read() -> bool {
+    BuildVersionCommand::read(&STRUCTURES, 240) == VERSION
+        && EntryPointCommand::read(&STRUCTURES, 264) == ENTRY
+        && RelocationInfo::read(&STRUCTURES, 288) == PAGE
+        && RelocationInfo::read(&STRUCTURES, 296) == POINTER
+        && Nlist::read(&STRUCTURES, 304) == SYMBOL
+}
+
+// An object of clang, and structures and load commands that yaml2obj writes.
 #[test]
-fn structures_are_those_of_yaml2obj(rt: HostRuntime) -> Result<(), Fail> {
-    assert_eq!(rt; MachHeader::read(&STRUCTURES, 0), HEADER);
-    assert_eq!(rt; SegmentCommand::read(&STRUCTURES, 32), SEGMENT);
-    assert_eq!(rt; SectionHeader::read(&STRUCTURES, 104), SECTION);
-    assert_eq!(rt; SymtabCommand::read(&STRUCTURES, 184), SYMTAB);
-    assert_eq!(rt; DylinkerCommand::read(&STRUCTURES, 208), DYLINKER);
-    assert_eq!(rt; BuildVersionCommand::read(&STRUCTURES, 240), VERSION);
-    assert_eq!(rt; EntryPointCommand::read(&STRUCTURES, 264), ENTRY);
-    assert_eq!(rt; RelocationInfo::read(&STRUCTURES, 288), PAGE);
-    assert_eq!(rt; RelocationInfo::read(&STRUCTURES, 296), POINTER);
-    assert_eq!(rt; Nlist::read(&STRUCTURES, 304), SYMBOL);
-    let mut out = Vec::new(rt.alloc());
-    write_structures(&mut out)?;
-    assert_eq!(rt; out.as_slice(), STRUCTURES.as_slice());
+fn structures_are_those_of_llvm(rt: HostRuntime) -> Result<(), Fail> {
+    assert!(rt; an_object_of_clang_is_read());
+    assert!(rt; relocations_of_clang_are_read());
+    assert!(rt; symbols_of_clang_are_read());
+    assert!(rt; headers_are_read());
+    assert!(rt; commands_and_entries_are_read());
+    assert!(rt; structures_are_written(rt.alloc())?);
+    assert!(rt; load_commands_are_read());
+    assert!(rt; load_commands_are_written(rt.alloc())?);
     Ok(())
 }

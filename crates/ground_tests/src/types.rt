@@ -174,16 +174,18 @@ fn codes_are_the_programs() -> bool {
 }
 
 // A message shows each cause by its variant's name in lower case, which `Debug` prints.
-#[test]
-fn causes_and_answers_are_as_messages_show_them(rt: HostRuntime) -> Result<(), Fail> {
-    assert!(rt; rules_are_named(rt.alloc())?);
-    assert!(rt; features_are_named(rt.alloc())?);
-    assert!(rt; limits_are_named(rt.alloc())?);
-    assert!(rt; ranges_are_named(rt.alloc())?);
-    assert!(rt; usage_rules_are_named(rt.alloc())?);
-    assert!(rt; codes_are_the_programs());
-    assert!(rt; OutOfMemory.to_string(rt.alloc())?.as_str() == "out of memory");
-    Ok(())
+fn causes_are_named(alloc: Global) -> Result<bool, AllocError> {
+    Ok(
+        rules_are_named(alloc)?
+            && features_are_named(alloc)?
+            && limits_are_named(alloc)?
+            && ranges_are_named(alloc)?
+            && usage_rules_are_named(alloc)?,
+    )
+}
+
+fn want_of_memory_is_told(alloc: Global) -> Result<bool, AllocError> {
+    Ok(OutOfMemory.to_string(alloc)?.as_str() == "out of memory")
 }
 
 // Parts of a shared string are its bytes, and outlive it.
@@ -290,20 +292,6 @@ fn files_are_loaded(alloc: Global) -> Result<bool, OutOfMemory> {
     Ok(is_shared(&loaded) && last == Some(1000))
 }
 
-#[test]
-fn strings_and_lists_keep_their_order(rt: HostRuntime) -> Result<(), Fail> {
-    assert!(rt; parts_are_shared(rt.alloc())?);
-    assert!(rt; copies_are_alike(rt.alloc())?);
-    assert!(rt; parts_end_with_their_string(rt.alloc())?);
-    assert!(rt; strings_are_ordered_byte_by_byte());
-    assert!(rt; words_are_their_bytes(rt.alloc())?);
-    assert!(rt; lists_keep_their_elements(rt.alloc())?);
-    assert!(rt; keys_rise());
-    assert!(rt; files_are_loaded(rt.alloc())?);
-    Ok(())
-}
-
-// Each file's first bytes with what it is.
 // References of every sort: to a symbol, to a difference of two, and those that are kept whole.
 fn reference(sort: u32, number: u32) -> Ref {
     let far = u64::from(number) << 32;
@@ -337,60 +325,66 @@ fn reference(sort: u32, number: u32) -> Ref {
     }
 }
 
-#[test]
-fn lists_of_references_lose_nothing(rt: HostRuntime) -> Result<(), Fail> {
+fn many_references(alloc: Global) -> Result<RefList, OutOfMemory> {
     let file = FileId {
         position: 3,
         member: 0,
     };
-    let mut refs = RefList::new(rt.alloc(), file);
-    assert!(rt; refs.is_empty());
+    let mut refs = RefList::new(alloc, file);
     refs.reserve(9000)?;
     for number in 0..9000 {
         refs.push(reference(number % 9, number))?;
     }
-    assert!(rt; refs.len() == 9000 && refs.get(9000).is_none());
-    for number in 0..9000 {
-        assert!(rt; refs.get(number as usize) == Some(reference(number % 9, number)));
-    }
-    Ok(())
+    Ok(refs)
 }
 
-#[test]
-fn first_bytes_tell_what_a_file_is(rt: HostRuntime) -> Result<(), Fail> {
-    let files: [(&[u8], Kind); 26] = [
-        (b"\xcf\xfa\xed\xfe", Kind::MachO),
-        (b"\xcf\xfa\xed\xfe\x07\x00\x00\x01", Kind::MachO),
-        (b"\xcf\xfa\xed", Kind::NotAnInput),
-        (b"\xce\xfa\xed\xfe", Kind::NotAnInput),
-        (b"\xfe\xed\xfa\xcf", Kind::NotAnInput),
-        (b"!<arch>\n#1/12", Kind::Archive),
-        (b"!<arch>\r\n", Kind::NotAnInput),
-        (b"\xca\xfe\xba\xbe", Kind::Universal),
-        (b"\xca\xfe\xba\xbf", Kind::Refused(Feature::Fat64)),
-        (b"!<thin>\n", Kind::Refused(Feature::ThinArchive)),
-        (b"BC\xc0\xde5\x14", Kind::Refused(Feature::Bitcode)),
-        (b"\xde\xc0\x17\x0b", Kind::Refused(Feature::Bitcode)),
-        (b"{\"tapi_tbd_version\": 5}", Kind::Refused(Feature::Tbd)),
-        (b"--- !tapi-tbd\ntbd-version: 4\n", Kind::Stub),
-        (b"---x", Kind::Stub),
-        (b"\n \t\n# a comment\n\t # another\n---", Kind::Stub),
-        (b"#---\n--- !tapi-tbd", Kind::Stub),
-        (b" ---\n---\n", Kind::NotAnInput),
-        (b"--\n---\n", Kind::NotAnInput),
-        (b"\r\n---\n", Kind::Stub),
-        (b" \t\r\n# a comment\r\n---\r\n", Kind::Stub),
-        (b"x\r\n---\n", Kind::NotAnInput),
-        (b"# only a comment", Kind::NotAnInput),
-        (b"\n\n\n", Kind::NotAnInput),
-        (b"int main(void) {}", Kind::NotAnInput),
-        (b"", Kind::NotAnInput),
-    ];
-    for (bytes, kind) in files {
-        assert!(rt; kind_of(bytes) == kind, "{bytes:?}");
+fn are_references(refs: &RefList) -> bool {
+    for number in 0..9000 {
+        if refs.get(number as usize) != Some(reference(number % 9, number)) {
+            return false;
+        }
     }
-    Ok(())
+    refs.len() == 9000 && refs.get(9000).is_none()
 }
+
+fn lists_of_references_lose_nothing(alloc: Global) -> Result<bool, OutOfMemory> {
+    let file = FileId {
+        position: 3,
+        member: 0,
+    };
+    let refs = many_references(alloc)?;
+    Ok(RefList::new(alloc, file).is_empty() && are_references(&refs))
+}
+
+// Each file's first bytes with what it is.
+const KINDS: [(&[u8], Kind); 26] = [
+    (b"\xcf\xfa\xed\xfe", Kind::MachO),
+    (b"\xcf\xfa\xed\xfe\x07\x00\x00\x01", Kind::MachO),
+    (b"\xcf\xfa\xed", Kind::NotAnInput),
+    (b"\xce\xfa\xed\xfe", Kind::NotAnInput),
+    (b"\xfe\xed\xfa\xcf", Kind::NotAnInput),
+    (b"!<arch>\n#1/12", Kind::Archive),
+    (b"!<arch>\r\n", Kind::NotAnInput),
+    (b"\xca\xfe\xba\xbe", Kind::Universal),
+    (b"\xca\xfe\xba\xbf", Kind::Refused(Feature::Fat64)),
+    (b"!<thin>\n", Kind::Refused(Feature::ThinArchive)),
+    (b"BC\xc0\xde5\x14", Kind::Refused(Feature::Bitcode)),
+    (b"\xde\xc0\x17\x0b", Kind::Refused(Feature::Bitcode)),
+    (b"{\"tapi_tbd_version\": 5}", Kind::Refused(Feature::Tbd)),
+    (b"--- !tapi-tbd\ntbd-version: 4\n", Kind::Stub),
+    (b"---x", Kind::Stub),
+    (b"\n \t\n# a comment\n\t # another\n---", Kind::Stub),
+    (b"#---\n--- !tapi-tbd", Kind::Stub),
+    (b" ---\n---\n", Kind::NotAnInput),
+    (b"--\n---\n", Kind::NotAnInput),
+    (b"\r\n---\n", Kind::Stub),
+    (b" \t\r\n# a comment\r\n---\r\n", Kind::Stub),
+    (b"x\r\n---\n", Kind::NotAnInput),
+    (b"# only a comment", Kind::NotAnInput),
+    (b"\n\n\n", Kind::NotAnInput),
+    (b"int main(void) {}", Kind::NotAnInput),
+    (b"", Kind::NotAnInput),
+];
 
 fn section_of(alloc: Global, kind: u8, bytes: &'static [u8]) -> Section {
     Section {
@@ -447,22 +441,41 @@ fn is_whole(
 }
 
 // Strings end in NUL, literals are whole, and a definition lies in its section or at its end.
+const OBJECTS: [(u8, &'static [u8], u8, u64, bool); 9] = [
+    (2, b"a\0bc\0", 1, 0x100, true),
+    (2, b"a\0bc\0", 1, 0x105, true),
+    (2, b"a\0bc\0", 1, 0x106, false),
+    (2, b"a\0bc\0", 1, 0xff, false),
+    (2, b"a\0bc\0", 0, 0x100, false),
+    (2, b"a\0bc\0", 2, 0x100, false),
+    (2, b"a\0bc", 1, 0x100, false),
+    (2, b"", 1, 0x100, true),
+    (4, b"a\0bc", 1, 0x100, false),
+];
+
 #[test]
-fn whole_objects_are_told_from_others(rt: HostRuntime) -> Result<(), Fail> {
-    let objects: [(u8, &'static [u8], u8, u64, bool); 9] = [
-        (2, b"a\0bc\0", 1, 0x100, true),
-        (2, b"a\0bc\0", 1, 0x105, true),
-        (2, b"a\0bc\0", 1, 0x106, false),
-        (2, b"a\0bc\0", 1, 0xff, false),
-        (2, b"a\0bc\0", 0, 0x100, false),
-        (2, b"a\0bc\0", 2, 0x100, false),
-        (2, b"a\0bc", 1, 0x100, false),
-        (2, b"", 1, 0x100, true),
-        (4, b"a\0bc", 1, 0x100, false),
-    ];
-    for (kind, bytes, section, value, whole) in objects {
-        let answer = is_whole(rt.alloc(), kind, bytes, section, value)?;
-        assert!(rt; answer == whole, "{bytes:?} {section} {value}");
+fn causes_and_answers_are_as_messages_show_them(rt: HostRuntime) -> Result<(), Fail> {
+    let alloc = rt.alloc();
+    assert!(rt; causes_are_named(alloc)?);
+    assert!(rt; codes_are_the_programs());
+    assert!(rt; want_of_memory_is_told(alloc)?);
+    assert!(rt; parts_are_shared(alloc)?);
+    assert!(rt; copies_are_alike(alloc)?);
+    assert!(rt; parts_end_with_their_string(alloc)?);
+    assert!(rt; strings_are_ordered_byte_by_byte());
+    assert!(rt; words_are_their_bytes(alloc)?);
+    assert!(rt; lists_keep_their_elements(alloc)?);
+    assert!(rt; keys_rise());
+    assert!(rt; files_are_loaded(alloc)?);
+    assert!(rt; lists_of_references_lose_nothing(alloc)?);
+    for (row, (bytes, kind)) in KINDS.iter().enumerate() {
+        assert!(rt; kind_of(bytes) == *kind, "in row {row}");
+    }
+    for (row, (kind, bytes, section, value, whole)) in OBJECTS.iter().enumerate() {
+        assert!(rt;
+            is_whole(alloc, *kind, bytes, *section, *value)? == *whole,
+            "in row {row}"
+        );
     }
     Ok(())
 }

@@ -1,7 +1,8 @@
-use mo_cmd::{Command, InputForm, Rows, UsageFault, paths_for, read_all_words, read_list, read_words};
+use mo_cmd::{
+    Command, InputForm, Rows, UsageFault, paths_for, read_all_words, read_list, read_words,
+};
 use mo_types::{Arg, ArgList, Bytes, Feature, Items, NameList, ObjFault, OutOfMemory, UsageRule};
 use std::alloc::Global;
-use std::process::Abort;
 use std::test::Fail;
 
 // Each row ends in the words of a command line, with a space between any two.
@@ -404,61 +405,60 @@ fn has_names(alloc: Global, bytes: &[u8], expected: &[u8]) -> Result<bool, OutOf
     Ok(list_text(alloc, bytes)?.as_slice() == expected)
 }
 
-fn check_rows(rt: &(impl Abort + AllocGlobal), told: Told, rows: &str) -> Result<(), Fail> {
+fn row_holds(alloc: Global, told: Told, row: &str) -> Result<bool, OutOfMemory> {
+    let (expected, text) = row.split_once('\t').unwrap_or((row, ""));
+    let words = arg_list(alloc, text)?;
+    Ok(all_tell(alloc, told, &words, expected))
+}
+
+// The first row of which something else is told.
+fn wrong_row(
+    alloc: Global,
+    told: Told,
+    rows: &'static str,
+) -> Result<Option<&'static str>, OutOfMemory> {
     for row in rows.lines() {
-        let (expected, text) = row.split_once('\t').unwrap_or((row, ""));
-        let words = arg_list(rt.alloc(), text)?;
-        assert!(rt; all_tell(rt.alloc(), told, &words, expected), "{text}");
+        if !row_holds(alloc, told, row)? {
+            return Ok(Some(row));
+        }
     }
-    Ok(())
+    Ok(None)
 }
 
-#[test]
-fn usage_words(rt: HostRuntime) -> Result<(), Fail> {
+fn link_holds(alloc: Global, row: &str) -> Result<bool, OutOfMemory> {
+    let (expected, text) = row.split_once('\t').unwrap_or((row, ""));
+    let words = arg_list(alloc, text)?;
+    Ok(link_tells(alloc, Told::Texts, &words, expected))
+}
+
+// The first row of which something else is told where a link has some of the options alone.
+fn wrong_link(alloc: Global) -> Result<Option<&'static str>, OutOfMemory> {
     for row in LINKED.lines() {
-        let (expected, text) = row.split_once('\t').unwrap_or((row, ""));
-        let words = arg_list(rt.alloc(), text)?;
-        assert!(rt;
-            link_tells(rt.alloc(), Told::Texts, &words, expected),
-            "{text}"
-        );
+        if !link_holds(alloc, row)? {
+            return Ok(Some(row));
+        }
     }
-    check_rows(&rt, Told::Texts, FAULTS)
+    Ok(None)
 }
 
-#[test]
-fn options(rt: HostRuntime) -> Result<(), Fail> {
-    check_rows(&rt, Told::Texts, COMMANDS)?;
-    check_rows(&rt, Told::Numbers, NUMBERS)
+// The first row of which other paths are told.
+fn sdk_hello(alloc: Global) -> Result<Option<&'static str>, OutOfMemory> {
+    wrong_row(alloc, Told::Paths, PATHS)
 }
 
-#[test]
-fn sdk_hello(rt: HostRuntime) -> Result<(), Fail> {
-    check_rows(&rt, Told::Paths, PATHS)
-}
-
-// Lists, and thousands of words and of lines.
-#[test]
-fn lists(rt: HostRuntime) -> Result<(), Fail> {
-    for (bytes, expected) in [
-        (b"".as_slice(), b"".as_slice()),
-        (b"_a\n_b", b"_a,_b"),
-        (
-            b"\r\n _a \t\r\n\x0b_b c\x0c\n\n# no\n \t#neither\n#\n_d#",
-            b"_a,_b c,_d#",
-        ),
-        (b"_a\n_b*\n", b"wildcard"),
-        (b"?\n", b"wildcard"),
-        (b"_a\n_[b\n", b"wildcard"),
-        (b"#*?[\n_a", b"_a"),
-    ] {
-        assert!(rt; has_names(rt.alloc(), bytes, expected)?);
-    }
-    let words = many_words(rt.alloc(), 5000)?;
-    assert!(rt; all_tell(rt.alloc(), Told::Counts, &words, "5000 5000"));
-    assert!(rt; many_lines(rt.alloc(), 5000)?);
-    Ok(())
-}
+// A list, and its names with a comma between any two.
+const LISTS: [(&[u8], &[u8]); 7] = [
+    (b"", b""),
+    (b"_a\n_b", b"_a,_b"),
+    (
+        b"\r\n _a \t\r\n\x0b_b c\x0c\n\n# no\n \t#neither\n#\n_d#",
+        b"_a,_b c,_d#",
+    ),
+    (b"_a\n_b*\n", b"wildcard"),
+    (b"?\n", b"wildcard"),
+    (b"_a\n_[b\n", b"wildcard"),
+    (b"#*?[\n_a", b"_a"),
+];
 
 fn many_words(alloc: Global, count: usize) -> Result<ArgList, OutOfMemory> {
     let mut words = Items::new(alloc);
@@ -478,4 +478,31 @@ fn many_lines(alloc: Global, count: usize) -> Result<bool, OutOfMemory> {
         Ok(names) => Ok(names.len() == count),
         Err(_) => Ok(false),
     }
+}
+
+fn many_are_counted(alloc: Global) -> Result<bool, OutOfMemory> {
+    let words = many_words(alloc, 5000)?;
+    Ok(all_tell(alloc, Told::Counts, &words, "5000 5000"))
+}
+
+// Command lines by some options and by all, the paths of inputs, lists, and thousands of words and of lines.
+#[test]
+fn usage_words(rt: HostRuntime) -> Result<(), Fail> {
+    let alloc = rt.alloc();
+    for wrong in [
+        wrong_link(alloc)?,
+        wrong_row(alloc, Told::Texts, FAULTS)?,
+        wrong_row(alloc, Told::Texts, COMMANDS)?,
+        wrong_row(alloc, Told::Numbers, NUMBERS)?,
+        sdk_hello(alloc)?,
+    ] {
+        let row = wrong.unwrap_or("");
+        assert!(rt; wrong.is_none(), "{row}");
+    }
+    for (row, (bytes, expected)) in LISTS.iter().enumerate() {
+        assert!(rt; has_names(alloc, bytes, expected)?, "in row {row}");
+    }
+    assert!(rt; many_are_counted(alloc)?);
+    assert!(rt; many_lines(alloc, 5000)?);
+    Ok(())
 }
