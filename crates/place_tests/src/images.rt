@@ -2,8 +2,8 @@
 use crate::layouts::{
     Name, Row, SectionRow, SegmentRow, has_sections, has_segments, key, plain, section,
 };
-use mo_types::{Bytes, OutOfMemory, OutSections};
-use sect_place::{PlaceFault, address};
+use mo_types::{Bytes, OutOfMemory, OutSection, OutSections};
+use sect_place::{Layout, PlaceFault, PlacedSection, address};
 use std::alloc::Global;
 use std::test::Fail;
 
@@ -115,18 +115,24 @@ fn filled(alloc: Global, image: &Image, rows: &[Row]) -> Result<OutSections, Out
     Ok(sections)
 }
 
+fn stand(layout: &Layout, rows: &[Row], sections: &[SectionRow]) -> bool {
+    for (row, section) in rows.iter().zip(sections) {
+        if address(layout, key(row)) != Some(section.1) {
+            return false;
+        }
+    }
+    true
+}
+
 fn is_image(alloc: Global, image: &Image) -> Result<bool, PlaceFault> {
     let rows = rows_of(alloc, image)?;
-    let layout = plain(
-        alloc,
-        rows.as_slice(),
-        &filled(alloc, image, rows.as_slice())?,
-    )?;
+    let rows = rows.as_slice();
+    let sections = filled(alloc, image, rows)?;
+    let layout = plain(alloc, rows, &sections)?;
     Ok(
         has_segments(&layout, image.1)
             && has_sections(&layout, image.2)
-            && rows.iter().zip(image.2).all(|(row, section)| address(&layout, key(row))
-                == Some(section.1)),
+            && stand(&layout, rows, image.2),
     )
 }
 
@@ -161,12 +167,30 @@ fn many_atoms(alloc: Global, count: u16) -> Result<Vec<Row>, OutOfMemory> {
     Ok(rows)
 }
 
-// Whether so many sections of `__DATA` stand at the bytes of a page in turn, under their names, behind a `__text` that
-// begins at a place in the file.
-fn has_many(alloc: Global, count: u16, text: u16) -> Result<bool, PlaceFault> {
-    let sections = many_sections(alloc, count)?;
-    let rows = many_atoms(alloc, count)?;
-    let layout = plain(alloc, rows.as_slice(), &sections)?;
+fn is_in_turn(placed: &PlacedSection, section: &OutSection, at: u64, size: u64) -> bool {
+    placed.section.name == section.name
+        && placed.address.checked_sub(0x1_0000_0000) == Some(at)
+        && placed.file_offset == at
+        && placed.size == size
+}
+
+// Whether the first section begins at a place in the file, and the others stand at the bytes of a page in turn, under
+// their names.
+fn are_in_turn(placed: &[PlacedSection], sections: &[OutSection], text: u16) -> bool {
+    for ((number, placed), section) in (0..1000u16).zip(placed).zip(sections) {
+        let (at, size) = if number == 0 {
+            (u64::from(text), 8)
+        } else {
+            (0x7fff + u64::from(number), 1)
+        };
+        if !is_in_turn(placed, section, at, size) {
+            return false;
+        }
+    }
+    placed.len() == sections.len()
+}
+
+fn has_data(layout: &Layout, count: u16) -> bool {
     let segments = [
         (Name::Pagezero, 0, 0x1_0000_0000, 0, 0, 0),
         (Name::Text, 0x1_0000_0000, 0x8000, 0, 0x8000, 1),
@@ -180,24 +204,18 @@ fn has_many(alloc: Global, count: u16, text: u16) -> Result<bool, PlaceFault> {
         ),
         (Name::Linkedit, 0x1_0000_c000, 0, 0xc000, 0, 0),
     ];
-    let mut right = has_segments(&layout, &segments)
-        && layout.sections.len() == usize::from(count) + 1;
-    for ((number, placed), section) in (0..1000u16)
-        .zip(layout.sections.as_slice())
-        .zip(sections.as_slice())
-    {
-        let (at, size) = if number == 0 {
-            (u64::from(text), 8)
-        } else {
-            (0x7fff + u64::from(number), 1)
-        };
-        right = right
-            && placed.section.name == section.name
-            && placed.address.checked_sub(0x1_0000_0000) == Some(at)
-            && placed.file_offset == at
-            && placed.size == size;
-    }
-    Ok(right)
+    has_segments(layout, &segments) && layout.sections.len() == usize::from(count) + 1
+}
+
+// Whether so many sections of `__DATA` stand behind a `__text` that begins at a place in the file.
+fn has_many(alloc: Global, count: u16, text: u16) -> Result<bool, PlaceFault> {
+    let sections = many_sections(alloc, count)?;
+    let rows = many_atoms(alloc, count)?;
+    let layout = plain(alloc, rows.as_slice(), &sections)?;
+    Ok(
+        has_data(&layout, count)
+            && are_in_turn(layout.sections.as_slice(), sections.as_slice(), text),
+    )
 }
 
 // The headers of three images; the places of 256 sections, which an image's header can't count any more, and of 255.

@@ -101,6 +101,15 @@ fn is_wanted(section: &OutSection, wanted: &Wanted) -> bool {
             && atom.offset == row.1)
 }
 
+fn are_wanted(sections: &[OutSection], wanted: &[Wanted]) -> bool {
+    for (section, row) in sections.iter().zip(wanted) {
+        if !is_wanted(section, row) {
+            return false;
+        }
+    }
+    sections.len() == wanted.len()
+}
+
 // Whether the kept atoms of a file go to these sections, in this order.
 fn go_to(
     alloc: Global,
@@ -108,16 +117,10 @@ fn go_to(
     kept: &[Kept],
     wanted: &[Wanted],
 ) -> Result<bool, OutOfMemory> {
+    let kept = atoms(alloc, kept)?;
     let loaded = only(alloc, file(alloc, given)?)?;
-    let sections = out_sections(alloc, &loaded, &atoms(alloc, kept)?)?;
-    Ok(
-        sections.len() == wanted.len()
-            && sections
-                .as_slice()
-                .iter()
-                .zip(wanted)
-                .all(|(section, row)| is_wanted(section, row)),
-    )
+    let sections = out_sections(alloc, &loaded, &kept)?;
+    Ok(are_wanted(sections.as_slice(), wanted))
 }
 
 // A section of each kind that goes elsewhere, or doesn't: the section of the object, and that of the image with its flags.

@@ -327,16 +327,16 @@ fn has_places(layout: &Layout, rows: &[(Row, u64)]) -> bool {
 }
 
 fn is_laid(
-    answer: Result<Layout, PlaceFault>,
+    answer: &Result<Layout, PlaceFault>,
     segments: &[SegmentRow],
     sections: &[SectionRow],
     places: &[(Row, u64)],
 ) -> bool {
     match answer {
         Ok(layout) => {
-            has_segments(&layout, segments)
-                && has_sections(&layout, sections)
-                && has_places(&layout, places)
+            has_segments(layout, segments)
+                && has_sections(layout, sections)
+                && has_places(layout, places)
         }
         Err(_) => false,
     }
@@ -349,8 +349,9 @@ fn one_function(alloc: Global) -> bool {
     let rows = [main, other];
     let parts: [Part; 1] = [(Name::Code, 0, 2, &rows)];
     let case = NOTHING;
+    let answer = placed(alloc, &rows, &parts, &case);
     is_laid(
-        placed(alloc, &rows, &parts, &case),
+        &answer,
         &[
             (Name::Pagezero, 0, 0x1_0000_0000, 0, 0, 0),
             (Name::Text, 0x1_0000_0000, 0x4000, 0, 0x4000, 1),
@@ -374,8 +375,9 @@ fn hello(alloc: Global) -> bool {
         unwind: 68,
         ..NOTHING
     };
+    let answer = placed(alloc, &rows, &parts, &case);
     is_laid(
-        placed(alloc, &rows, &parts, &case),
+        &answer,
         &[
             (Name::Pagezero, 0, 0x1_0000_0000, 0, 0, 0),
             (Name::Text, 0x1_0000_0000, 0x4000, 0, 0x4000, 4),
@@ -405,8 +407,9 @@ fn two_islands(alloc: Global) -> bool {
         islands: Some((main, 2)),
         ..NOTHING
     };
+    let answer = placed(alloc, &rows, &parts, &case);
     is_laid(
-        placed(alloc, &rows, &parts, &case),
+        &answer,
         &[
             (Name::Pagezero, 0, 0x1_0000_0000, 0, 0, 0),
             (Name::Text, 0x1_0000_0000, 0x4000, 0, 0x4000, 2),
@@ -451,8 +454,9 @@ fn kinds_of_data(alloc: Global) -> bool {
         commands: 240,
         ..NOTHING
     };
+    let answer = placed(alloc, &rows, &parts, &case);
     is_laid(
-        placed(alloc, &rows, &parts, &case),
+        &answer,
         &[
             (Name::Text, 0, 0x4000, 0, 0x4000, 0),
             (Name::Data, 0x4000, 0x8000, 0x4000, 0x4000, 5),
@@ -487,8 +491,9 @@ fn empty_dylib(alloc: Global, words: Words, size: u64) -> bool {
         commands: 240,
         ..NOTHING
     };
+    let answer = placed(alloc, &[], &[], &case);
     is_laid(
-        placed(alloc, &[], &[], &case),
+        &answer,
         &[
             (Name::Text, 0, size, 0, size, 0),
             (Name::Linkedit, size, 0, size, 0, 0),
@@ -511,37 +516,19 @@ pub(crate) fn plain(
     place_all(alloc, &atoms(alloc, rows)?, parts, &case, &command)
 }
 
-#[test]
-fn worked_layouts(rt: HostRuntime) -> Result<(), Fail> {
-    let alloc = rt.alloc();
-    assert!(rt; one_function(alloc));
-    assert!(rt; hello(alloc));
-    assert!(rt; two_islands(alloc));
-    assert!(rt; kinds_of_data(alloc));
-    assert!(rt; empty_dylib(alloc, Words::Dylib, 0x4000));
-    assert!(rt; empty_dylib(alloc, Words::Padded, 0x8000));
-    Ok(())
+fn size_of_fault(answer: &Result<Layout, PlaceFault>) -> Option<i128> {
+    match answer {
+        Err(PlaceFault::ImageSize { value }) => Some(*value),
+        _ => None,
+    }
 }
 
 // The bytes that are too many, or none.
 fn refused(alloc: Global, size: u64) -> Option<i128> {
     let zeros = (1, 0, size, 0);
     let parts: [Part; 1] = [(Name::Bss, 1, 0, &[zeros])];
-    let case = NOTHING;
-    match placed(alloc, &[zeros], &parts, &case) {
-        Err(PlaceFault::ImageSize { value }) => Some(value),
-        _ => None,
-    }
-}
-
-// Zeros of 2^32 bytes behind a page; the largest image, and one byte more.
-#[test]
-fn image_size(rt: HostRuntime) -> Result<(), Fail> {
-    let alloc = rt.alloc();
-    assert!(rt; refused(alloc, 0x1_0000_0000) == Some(0x1_0000_4000));
-    assert!(rt; refused(alloc, 0xffff_8000).is_none());
-    assert!(rt; refused(alloc, 0xffff_8001) == Some(0x1_0000_0000));
-    Ok(())
+    let answer = placed(alloc, &[zeros], &parts, &NOTHING);
+    size_of_fault(&answer)
 }
 
 // Atoms of 3 bytes at multiples of 4.
@@ -558,44 +545,64 @@ fn are_in_place(layout: &Layout, rows: &[Row]) -> bool {
         == Some(0x1_0000_01b8 + 4 * number))
 }
 
+fn has_thousands(answer: &Result<Layout, PlaceFault>, rows: &[Row]) -> bool {
+    match answer {
+        Ok(layout) => are_in_place(layout, rows) && address(layout, key(&(2, 0, 0, 0))).is_none(),
+        Err(_) => false,
+    }
+}
+
 fn are_placed(alloc: Global, count: u64) -> Result<bool, OutOfMemory> {
     let rows = many_rows(alloc, count)?;
-    let parts: [Part; 1] = [(Name::Code, 0, 2, rows.as_slice())];
-    let case = NOTHING;
-    match placed(alloc, rows.as_slice(), &parts, &case) {
-        Ok(layout) => Ok(
-            are_in_place(&layout, rows.as_slice())
-                && address(&layout, key(&(2, 0, 0, 0))).is_none(),
-        ),
-        Err(_) => Ok(false),
+    let rows = rows.as_slice();
+    let answer = placed(alloc, rows, &[(Name::Code, 0, 2, rows)], &NOTHING);
+    Ok(has_thousands(&answer, rows))
+}
+
+fn move_behind(layout: &Layout, shifts: &IslandShifts, rows: &[Row]) -> bool {
+    let mut at = 0x1_0000_01b8u64;
+    for row in rows {
+        let behind = if row.1 > 10 { 40 } else { 0 };
+        if address_with(layout, shifts, key(row)) != Some(at.wrapping_add(behind)) {
+            return false;
+        }
+        at = at.wrapping_add(4);
     }
+    address_with(layout, shifts, key(&(2, 0, 0, 0))).is_none()
+}
+
+fn are_moved_in(alloc: Global, layout: &Layout, rows: &[Row]) -> Result<bool, PlaceFault> {
+    let case = Case {
+        islands: Some(((1, 10, 3, 2), 3)),
+        ..NOTHING
+    };
+    let plan = plan(alloc, &case)?;
+    let shifts = IslandShifts::new(alloc, layout, &plan)?;
+    Ok(move_behind(layout, &shifts, rows))
 }
 
 // Three islands behind the eleventh atom, of 40 bytes: what is behind them moves by so much, and nothing else.
 fn are_moved(alloc: Global, count: u64) -> Result<bool, PlaceFault> {
     let rows = many_rows(alloc, count)?;
-    let case = Case {
-        islands: Some(((1, 10, 3, 2), 3)),
-        ..NOTHING
-    };
-    let layout = placed(
-        alloc,
-        rows.as_slice(),
-        &[(Name::Code, 0, 2, rows.as_slice())],
-        &NOTHING,
-    )?;
-    let shifts = IslandShifts::new(alloc, &layout, &plan(alloc, &case)?)?;
-    Ok(
-        rows.iter().zip(0..100_000u64).all(|(row, number)| {
-            let behind = if number > 10 { 40 } else { 0 };
-            address_with(&layout, &shifts, key(row)) == Some(0x1_0000_01b8 + 4 * number + behind)
-        }) && address_with(&layout, &shifts, key(&(2, 0, 0, 0))).is_none(),
-    )
+    let rows = rows.as_slice();
+    let layout = placed(alloc, rows, &[(Name::Code, 0, 2, rows)], &NOTHING)?;
+    are_moved_in(alloc, &layout, rows)
 }
 
+// Images that were laid out by hand; zeros of 2^32 bytes behind a page, the largest image, and one byte more; and
+// thousands of atoms.
 #[test]
-fn thousands_of_atoms(rt: HostRuntime) -> Result<(), Fail> {
+fn worked_layouts(rt: HostRuntime) -> Result<(), Fail> {
     let alloc = rt.alloc();
+    assert!(rt; one_function(alloc));
+    assert!(rt; hello(alloc));
+    assert!(rt; two_islands(alloc));
+    assert!(rt; kinds_of_data(alloc));
+    assert!(rt; empty_dylib(alloc, Words::Dylib, 0x4000));
+    assert!(rt; empty_dylib(alloc, Words::Padded, 0x8000));
+    assert!(rt; refused(alloc, 0x1_0000_0000) == Some(0x1_0000_4000));
+    assert!(rt; refused(alloc, 0xffff_8000).is_none());
+    assert!(rt; refused(alloc, 0xffff_8001) == Some(0x1_0000_0000));
     assert!(rt; are_placed(alloc, 20_000)?);
     assert!(rt; are_moved(alloc, 20_000) == Ok(true));
     Ok(())

@@ -67,56 +67,56 @@ fn slots_for(alloc: Global, numbers: &[(u32, Way)]) -> Result<Slots, OutOfMemory
     slots(alloc, &needs)
 }
 
-#[test]
-fn goals_of_every_kind_in_every_order(rt: HostRuntime) -> Result<(), Fail> {
-    // Five at a time, three of which have names.
-    for (low, want) in [(0u32, [0, 1, 2, 3, 4]), (4, [4, 5, 6, 7, 8])] {
-        for a in 0..5u32 {
-            for b in 0..5u32 {
-                for c in 0..5u32 {
-                    for d in 0..5u32 {
-                        if a == b || a == c || a == d || b == c || b == d || c == d {
-                            continue;
-                        }
-                        let e = 10 - (a + b + c + d);
-                        let needs = [a, e, b, d, c].map(|n| (n.wrapping_add(low), Way::Got));
-                        let slots = slots_for(rt.alloc(), &needs)?;
-                        assert!(rt;
-                            holds(rt.alloc(), &slots.got, &want)?,
-                            "{a}, {e}, {b}, {d}, {c} from {low}"
-                        );
+fn is_in_order(alloc: Global, needs: &[(u32, Way)], want: &[u32]) -> Result<bool, OutOfMemory> {
+    let slots = slots_for(alloc, needs)?;
+    holds(alloc, &slots.got, want)
+}
+
+// Whether five goals from a number on are in their order, in whatever order they are needed.
+fn every_order(alloc: Global, low: u32, want: &[u32; 5]) -> Result<bool, OutOfMemory> {
+    for a in 0..5u32 {
+        for b in 0..5u32 {
+            for c in 0..5u32 {
+                for d in 0..5u32 {
+                    if a == b || a == c || a == d || b == c || b == d || c == d {
+                        continue;
+                    }
+                    let e = 10 - (a + b + c + d);
+                    let needs = [a, e, b, d, c].map(|n| (n.wrapping_add(low), Way::Got));
+                    if !is_in_order(alloc, &needs, want)? {
+                        return Ok(false);
                     }
                 }
             }
         }
     }
-    Ok(())
+    Ok(true)
 }
 
-#[test]
-fn one_goal_in_two_ways(rt: HostRuntime) -> Result<(), Fail> {
-    use Way::{Got, Stub, Tlv};
-    // The needs, and whether there is a slot, a stub, and a slot for thread-local variables.
-    let rows = [
-        ([(1, Got), (1, Got)], true, false, false),
-        ([(1, Stub), (1, Stub)], true, true, false),
-        ([(1, Tlv), (1, Tlv)], false, false, true),
-        ([(1, Got), (1, Stub)], true, true, false),
-        ([(1, Stub), (1, Got)], true, true, false),
-        ([(1, Got), (1, Tlv)], true, false, true),
-        ([(1, Stub), (1, Tlv)], true, true, true),
-    ];
-    for (needs, got, stub, tlv) in rows {
-        let slots = slots_for(rt.alloc(), &needs)?;
-        assert!(rt; slots.got.len() == usize::from(got), "{needs:?}");
-        assert!(rt; slots.stubs.len() == usize::from(stub), "{needs:?}");
-        assert!(rt; slots.tlv.len() == usize::from(tlv), "{needs:?}");
-        assert!(rt;
-            slots.tlv.place_of(&goal(rt.alloc(), 2)?).is_none(),
-            "{needs:?}"
-        );
-    }
-    Ok(())
+// The needs, and whether there is a slot, a stub, and a slot for thread-local variables.
+const WAYS: [([(u32, Way); 2], bool, bool, bool); 7] = [
+    ([(1, Way::Got), (1, Way::Got)], true, false, false),
+    ([(1, Way::Stub), (1, Way::Stub)], true, true, false),
+    ([(1, Way::Tlv), (1, Way::Tlv)], false, false, true),
+    ([(1, Way::Got), (1, Way::Stub)], true, true, false),
+    ([(1, Way::Stub), (1, Way::Got)], true, true, false),
+    ([(1, Way::Got), (1, Way::Tlv)], true, false, true),
+    ([(1, Way::Stub), (1, Way::Tlv)], true, true, true),
+];
+
+fn one_goal_in_two_ways(
+    alloc: Global,
+    needs: &[(u32, Way)],
+    wanted: (bool, bool, bool),
+) -> Result<bool, OutOfMemory> {
+    let other = goal(alloc, 2)?;
+    let slots = slots_for(alloc, needs)?;
+    Ok(
+        slots.got.len() == usize::from(wanted.0)
+            && slots.stubs.len() == usize::from(wanted.1)
+            && slots.tlv.len() == usize::from(wanted.2)
+            && slots.tlv.place_of(&other).is_none(),
+    )
 }
 
 // The goal with a number for its name.
@@ -143,24 +143,50 @@ fn thousands(alloc: Global) -> Result<NeedList, OutOfMemory> {
     Ok(needs)
 }
 
-#[test]
-fn thousands_of_needs(rt: HostRuntime) -> Result<(), Fail> {
-    let slots = slots(rt.alloc(), &thousands(rt.alloc())?)?;
+fn is_in_place(alloc: Global, slots: &Slots, number: u32) -> Result<bool, OutOfMemory> {
+    let goal = numbered(alloc, number)?;
+    let third = number as usize / 3;
+    // Of three names in a row two are in the first list, and one in each of the others.
+    let want = match number % 3 {
+        0 => (Some(2 * third), None, None),
+        1 => (Some(2 * third + 1), Some(third), None),
+        _ => (None, None, Some(third)),
+    };
+    let found = (
+        slots.got.place_of(&goal),
+        slots.stubs.place_of(&goal),
+        slots.tlv.place_of(&goal),
+    );
+    Ok(found == want)
+}
+
+fn are_in_place(alloc: Global, slots: &Slots) -> Result<bool, OutOfMemory> {
     for number in 0..3000u32 {
-        let goal = numbered(rt.alloc(), number)?;
-        let third = number as usize / 3;
-        // Of three names in a row two are in the first list, and one in each of the others.
-        let want = match number % 3 {
-            0 => (Some(2 * third), None, None),
-            1 => (Some(2 * third + 1), Some(third), None),
-            _ => (None, None, Some(third)),
-        };
-        let found = (
-            slots.got.place_of(&goal),
-            slots.stubs.place_of(&goal),
-            slots.tlv.place_of(&goal),
-        );
-        assert!(rt; found == want, "{number}");
+        if !is_in_place(alloc, slots, number)? {
+            return Ok(false);
+        }
     }
+    Ok(true)
+}
+
+fn thousands_of_needs(alloc: Global) -> Result<bool, OutOfMemory> {
+    let needs = thousands(alloc)?;
+    let slots = slots(alloc, &needs)?;
+    are_in_place(alloc, &slots)
+}
+
+// Five goals at a time, three of which have names; goals that are needed in two ways; and thousands.
+#[test]
+fn goals_of_every_kind_in_every_order(rt: HostRuntime) -> Result<(), Fail> {
+    let alloc = rt.alloc();
+    assert!(rt; every_order(alloc, 0, &[0, 1, 2, 3, 4])?);
+    assert!(rt; every_order(alloc, 4, &[4, 5, 6, 7, 8])?);
+    for (at, (needs, got, stub, tlv)) in WAYS.iter().enumerate() {
+        assert!(rt;
+            one_goal_in_two_ways(alloc, needs, (*got, *stub, *tlv))?,
+            "in row {at}"
+        );
+    }
+    assert!(rt; thousands_of_needs(alloc)?);
     Ok(())
 }

@@ -123,12 +123,12 @@ fn is_planned(
 }
 
 fn is_too_large(alloc: Global, rows: &[Row], parts: &[Part]) -> Result<bool, OutOfMemory> {
-    Ok(planned(alloc, rows, parts)?.is_none())
+    let template = planned(alloc, rows, parts)?;
+    Ok(template.is_none())
 }
 
 // A variable of 4 bytes with a value, one of 8 bytes without, and their code. The base is a multiple of 8.
-#[test]
-fn thread_local_offsets(rt: HostRuntime) -> Result<(), Fail> {
+fn two_variables(alloc: Global) -> Result<bool, OutOfMemory> {
     let text = (0, 1, 0, 4, 2);
     let value = (0, 2, 0, 4, 2);
     let zeros = (0, 3, 0, 8, 3);
@@ -139,13 +139,10 @@ fn thread_local_offsets(rt: HostRuntime) -> Result<(), Fail> {
         (ZEROFILL, 3, &[zeros]),
     ];
     let offsets = [(value, 0), (zeros, 8)];
-    assert!(rt; is_planned(rt.alloc(), &rows, &parts, &offsets, 3, 16)?);
-    Ok(())
+    is_planned(alloc, &rows, &parts, &offsets, 3, 16)
 }
 
-#[test]
-fn sections_of_two_files(rt: HostRuntime) -> Result<(), Fail> {
-    let alloc = rt.alloc();
+fn sections_of_two_files(alloc: Global) -> Result<bool, OutOfMemory> {
     let first = (0, 2, 0, 5, 0);
     let empty = (0, 2, 5, 0, 0);
     let aligned = (0, 3, 0, 1, 4);
@@ -164,23 +161,24 @@ fn sections_of_two_files(rt: HostRuntime) -> Result<(), Fail> {
         (aligned, 32),
         (last, 40),
     ];
-    assert!(rt; is_planned(alloc, &rows, &parts, &offsets, 5, 47)?);
-    assert!(rt; is_planned(alloc, &[first], &[(TEXT, 4, &[first])], &[], 0, 0)?);
-    // The last byte that 64 bits can count, and one more.
+    is_planned(alloc, &rows, &parts, &offsets, 5, 47)
+}
+
+fn code_alone(alloc: Global) -> Result<bool, OutOfMemory> {
+    let first = (0, 2, 0, 5, 0);
+    is_planned(alloc, &[first], &[(TEXT, 4, &[first])], &[], 0, 0)
+}
+
+// The last byte that 64 bits can count, and one more.
+fn most_bytes(alloc: Global) -> Result<bool, OutOfMemory> {
     let most = (0, 1, 0, u64::MAX, 0);
-    let more = [most, (0, 2, 0, 1, 0)];
-    assert!(rt;
-        is_planned(
-            alloc,
-            &[most],
-            &[(DATA, 0, &[most])],
-            &[(most, 0)],
-            0,
-            u64::MAX
-        )?
-    );
-    assert!(rt; is_too_large(alloc, &more, &[(DATA, 0, &more)])?);
-    Ok(())
+    let parts: [Part; 1] = [(DATA, 0, &[most])];
+    is_planned(alloc, &[most], &parts, &[(most, 0)], 0, u64::MAX)
+}
+
+fn a_byte_more(alloc: Global) -> Result<bool, OutOfMemory> {
+    let more = [(0, 1, 0, u64::MAX, 0), (0, 2, 0, 1, 0)];
+    is_too_large(alloc, &more, &[(DATA, 0, &more)])
 }
 
 // Two sections that take turns in the order of atoms: 3 bytes at multiples of 4, and 8 bytes each.
@@ -245,9 +243,19 @@ fn are_in_place(template: &Option<Template>, count: u16) -> bool {
     template.size == 120_000 && template.align == 3
 }
 
+fn thousands_of_variables(alloc: Global) -> Result<bool, OutOfMemory> {
+    let template = thousands(alloc, 10_000)?;
+    Ok(are_in_place(&template, 10_000))
+}
+
 #[test]
-fn thousands_of_variables(rt: HostRuntime) -> Result<(), Fail> {
-    let template = thousands(rt.alloc(), 10_000)?;
-    assert!(rt; are_in_place(&template, 10_000));
+fn thread_local_offsets(rt: HostRuntime) -> Result<(), Fail> {
+    let alloc = rt.alloc();
+    assert!(rt; two_variables(alloc)?);
+    assert!(rt; sections_of_two_files(alloc)?);
+    assert!(rt; code_alone(alloc)?);
+    assert!(rt; most_bytes(alloc)?);
+    assert!(rt; a_byte_more(alloc)?);
+    assert!(rt; thousands_of_variables(alloc)?);
     Ok(())
 }
