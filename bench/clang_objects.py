@@ -225,6 +225,12 @@ def truth(value):
     return "true" if value else "false"
 
 
+def spelled(data):
+    """Bytes as a literal, 24 a line."""
+    rows = ["".join(f"\\x{byte:02x}" for byte in data[at : at + 24]) for at in range(0, len(data), 24)]
+    return 'b"' + "".join("\\\n" + row for row in rows) + '"'
+
+
 def object_text(name, found):
     """The object and what it is to be read as."""
     lines = [f"// Of bench/clang/{name}.", "ClangObject {"]
@@ -235,7 +241,7 @@ def object_text(name, found):
         lines += [f"place: ({section['address']:#x}, {section['size']:#x}, {section['align']}),"]
         lines += [f"flags: ({section['kind']:#x}, {section['attributes']:#x}),"]
         lines += [f"offsets: ({section['offset']:#x}, {section['reloc_offset']:#x}),"]
-        lines += ["bytes: &[" + ", ".join(str(byte) for byte in section["data"]) + "],", "relocs: &["]
+        lines += [f"bytes: {spelled(section['data'])},", "relocs: &["]
         for r in section["relocs"]:
             row = f"{r['kind']}, {r['address']:#x}, {r['number']}, {truth(r['pcrel'])}, {r['length']}, {truth(r['external'])}"
             lines += [f"({row}),"]

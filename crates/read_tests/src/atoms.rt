@@ -1,11 +1,10 @@
 //! The atoms of a section, against cuts that were counted by hand.
 use atom_cut::{bytes_of, cut};
 use mo_types::{
-    AtomKey, Bytes, FileId, Object, OutOfMemory, RelocList, Section, SectionList, Symbol,
+    Atom, AtomKey, Bytes, FileId, Object, OutOfMemory, RelocList, Section, SectionList, Symbol,
     SymbolKind, SymbolList,
 };
 use std::alloc::Global;
-use std::process::Abort;
 use std::test::Fail;
 
 const FILE: FileId = FileId {
@@ -120,67 +119,105 @@ static CUT_AT_SYMBOLS: [(u8, u64, &'static [u8], &[Row]); 6] = [
     ),
 ];
 
-fn check(
-    rt: &(impl Abort + AllocGlobal),
+fn object_of(
+    alloc: Global,
+    subsections: bool,
+    section: Section,
+    symbols: SymbolList,
+) -> Result<Object, OutOfMemory> {
+    let mut sections = SectionList::new(alloc);
+    sections.push(section)?;
+    Ok(Object {
+        subsections,
+        sections,
+        symbols,
+    })
+}
+
+fn is_atom(object: &Object, atom: &Atom, row: &Row) -> bool {
+    let key = AtomKey {
+        file: FILE,
+        section: 1,
+        offset: row.0,
+    };
+    let byte = bytes_of(object, atom).first().copied().unwrap_or(255);
+    atom.key == key && atom.size == row.1 && atom.align == row.2 && byte == row.3
+}
+
+fn are_atoms(object: &Object, atoms: &[Atom], rows: &[Row]) -> bool {
+    for (atom, row) in atoms.iter().zip(rows) {
+        if !is_atom(object, atom, row) {
+            return false;
+        }
+    }
+    atoms.len() == rows.len()
+}
+
+// Whether an object is cut into the atoms of these rows.
+fn is_cut(alloc: Global, object: &Object, rows: &[Row]) -> Result<bool, OutOfMemory> {
+    if !object.is_whole() {
+        return Ok(false);
+    }
+    let atoms = cut(alloc, object, FILE)?;
+    Ok(are_atoms(object, atoms.as_slice(), rows))
+}
+
+// Whether a section with the symbols of the table is cut so.
+fn section_is_cut(
+    alloc: Global,
     subsections: bool,
     section: Section,
     rows: &[Row],
-) -> Result<(), Fail> {
-    let alloc = rt.alloc();
-    let mut sections = SectionList::new(alloc);
-    sections.push(section)?;
-    let object = Object {
-        subsections,
-        sections,
-        symbols: symbols(alloc)?,
-    };
-    assert!(rt; object.is_whole());
-    let atoms = cut(alloc, &object, FILE)?;
-    assert!(rt; atoms.len() == rows.len());
-    for (atom, row) in atoms.as_slice().iter().zip(rows) {
-        let key = AtomKey {
-            file: FILE,
-            section: 1,
-            offset: row.0,
-        };
-        assert!(rt; atom.key == key && atom.size == row.1 && atom.align == row.2);
-        let byte = bytes_of(&object, atom).first().copied().unwrap_or(255);
-        assert!(rt; byte == row.3);
+) -> Result<bool, OutOfMemory> {
+    let object = object_of(alloc, subsections, section, symbols(alloc)?)?;
+    is_cut(alloc, &object, rows)
+}
+
+// Whether each section that is cut at symbols has its atoms.
+fn sections_are_cut(alloc: Global) -> Result<bool, OutOfMemory> {
+    for (kind, size, bytes, rows) in &CUT_AT_SYMBOLS {
+        let section = section(alloc, b"__TEXT", *kind, *size, *bytes);
+        if !section_is_cut(alloc, true, section, rows)? {
+            return Ok(false);
+        }
     }
-    Ok(())
+    Ok(true)
+}
+
+fn are_words(atoms: &[Atom]) -> bool {
+    let mut end = 0u64;
+    for atom in atoms {
+        if atom.key.offset != end || atom.size != 4 {
+            return false;
+        }
+        end = end.wrapping_add(4);
+    }
+    atoms.len() as u64 == MANY
+}
+
+fn is_cut_into_words(alloc: Global, object: &Object) -> Result<bool, OutOfMemory> {
+    if !object.is_whole() {
+        return Ok(false);
+    }
+    let atoms = cut(alloc, object, FILE)?;
+    Ok(are_words(atoms.as_slice()))
 }
 
 // A section is cut at each of many symbols.
-fn check_many(rt: &(impl Abort + AllocGlobal), section: Section) -> Result<(), Fail> {
-    let alloc = rt.alloc();
-    let mut sections = SectionList::new(alloc);
-    sections.push(section)?;
-    let object = Object {
-        subsections: true,
-        sections,
-        symbols: many_symbols(alloc)?,
-    };
-    assert!(rt; object.is_whole());
-    let atoms = cut(alloc, &object, FILE)?;
-    assert!(rt; atoms.len() as u64 == MANY);
-    let mut end = 0u64;
-    for atom in atoms.as_slice() {
-        assert!(rt; atom.key.offset == end && atom.size == 4);
-        end = end.wrapping_add(4);
-    }
-    Ok(())
+fn many_are_cut(alloc: Global) -> Result<bool, OutOfMemory> {
+    let zeros = section(alloc, b"__DATA", 1, 4 * MANY, &[]);
+    let object = object_of(alloc, true, zeros, many_symbols(alloc)?)?;
+    is_cut_into_words(alloc, &object)
 }
 
 #[test]
 fn sections_are_cut_by_their_type(rt: HostRuntime) -> Result<(), Fail> {
-    for (kind, size, bytes, rows) in &CUT_AT_SYMBOLS {
-        let section = section(rt.alloc(), b"__TEXT", *kind, *size, *bytes);
-        check(&rt, true, section, rows)?;
-    }
-    let text = section(rt.alloc(), b"__TEXT", 0, 16, CODE);
-    check(&rt, false, text, &[(0, 16, 4, 0)])?;
-    let zeros = section(rt.alloc(), b"__DATA", 1, 4 * MANY, &[]);
-    check_many(&rt, zeros)?;
-    let dropped = section(rt.alloc(), b"__DWARF", 0, 16, CODE);
-    check(&rt, true, dropped, &[])
+    let alloc = rt.alloc();
+    assert!(rt; sections_are_cut(alloc)?);
+    let text = section(alloc, b"__TEXT", 0, 16, CODE);
+    assert!(rt; section_is_cut(alloc, false, text, &[(0, 16, 4, 0)])?);
+    assert!(rt; many_are_cut(alloc)?);
+    let dropped = section(alloc, b"__DWARF", 0, 16, CODE);
+    assert!(rt; section_is_cut(alloc, true, dropped, &[])?);
+    Ok(())
 }

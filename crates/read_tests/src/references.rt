@@ -5,13 +5,13 @@ mod clang_objects;
 ghost use Rattle.std.specs.Prelude.{◌<◌};
 
 use atom_cut::cut;
+use clang::objects_of_clang;
 use mo_types::{
     AtomKey, Bytes, Feature, FileId, Object, OutOfMemory, RawReloc, Ref, RefFault, RefKind,
-    RelocList, Section, SectionList, Symbol, SymbolKind, SymbolList, Target,
+    RefList, RelocList, Section, SectionList, Symbol, SymbolKind, SymbolList, Target,
 };
 use reloc_read::refs_of;
 use std::alloc::Global;
-use std::process::Abort;
 use std::test::Fail;
 
 const FILE: FileId = FileId {
@@ -115,32 +115,54 @@ fn object(alloc: Global, relocs: &[Raw]) -> Result<Object, OutOfMemory> {
     })
 }
 
-fn check(
-    rt: &(impl Abort + AllocGlobal),
-    relocs: &[Raw],
-    wanted: Result<&[Ref], RefFault>,
-) -> Result<(), Fail> {
-    let alloc = rt.alloc();
-    let object = object(alloc, relocs)?;
-    assert!(rt; object.is_whole());
-    let atoms = cut(alloc, &object, FILE)?;
-    let unread = match wanted {
-        Ok(_) => Ok(None),
-        Err(RefFault::Unsupported(feature)) => Ok(Some(feature)),
-        Err(fault) => Err(fault),
-    };
-    assert_eq!(rt; reloc_read::check(alloc, &object, &atoms, FILE), unread);
-    match (refs_of(alloc, &object, &atoms, FILE), wanted) {
-        (Ok(found), Ok(wanted)) => {
-            assert!(rt; found.len() == wanted.len());
-            for (at, wanted) in wanted.iter().enumerate() {
-                assert!(rt; found.get(at) == Some(*wanted));
-            }
+fn are_read(found: &RefList, wanted: &[Ref]) -> bool {
+    for (at, wanted) in wanted.iter().enumerate() {
+        if found.get(at) != Some(*wanted) {
+            return false;
         }
-        (Err(found), Err(wanted)) => assert_eq!(rt; found, wanted),
-        _ => assert!(rt; false),
     }
-    Ok(())
+    found.len() == wanted.len()
+}
+
+fn is_answer(found: &Result<RefList, RefFault>, wanted: &Result<&[Ref], RefFault>) -> bool {
+    match (found, wanted) {
+        (Ok(found), Ok(wanted)) => are_read(found, wanted),
+        (Err(found), Err(wanted)) => found == wanted,
+        _ => false,
+    }
+}
+
+// What the check of relocations answers where their references are to be read so.
+fn check_of(wanted: &Result<&[Ref], RefFault>) -> Result<Option<Feature>, RefFault> {
+    match wanted {
+        Ok(_) => Ok(None),
+        Err(RefFault::Unsupported(feature)) => Ok(Some(*feature)),
+        Err(fault) => Err(*fault),
+    }
+}
+
+fn object_is_read(
+    alloc: Global,
+    object: &Object,
+    wanted: &Result<&[Ref], RefFault>,
+) -> Result<bool, OutOfMemory> {
+    if !object.is_whole() {
+        return Ok(false);
+    }
+    let atoms = cut(alloc, object, FILE)?;
+    let is_checked = reloc_read::check(alloc, object, &atoms, FILE) == check_of(wanted);
+    let found = refs_of(alloc, object, &atoms, FILE);
+    Ok(is_checked && is_answer(&found, wanted))
+}
+
+// Whether these relocations are checked and read so.
+fn is_read(
+    alloc: Global,
+    relocs: &[Raw],
+    wanted: &Result<&[Ref], RefFault>,
+) -> Result<bool, OutOfMemory> {
+    let object = object(alloc, relocs)?;
+    object_is_read(alloc, &object, wanted)
 }
 
 // A reference from an atom of the first section.
@@ -166,8 +188,7 @@ fn reference(
     }
 }
 
-#[test]
-fn differences_and_section_pointers(rt: HostRuntime) -> Result<(), Fail> {
+fn differences(alloc: Global) -> Result<bool, OutOfMemory> {
     let relocs = [
         (0, 64, 2, false, 3, false),
         (1, 56, 0, false, 3, true),
@@ -188,11 +209,10 @@ fn differences_and_section_pointers(rt: HostRuntime) -> Result<(), Fail> {
             8,
         ),
     ];
-    check(&rt, &relocs, Ok(&wanted))
+    is_read(alloc, &relocs, &Ok(&wanted))
 }
 
-#[test]
-fn addend_before_page_offset(rt: HostRuntime) -> Result<(), Fail> {
+fn addend_before_page_offset(alloc: Global) -> Result<bool, OutOfMemory> {
     let relocs = [
         (10, 16, 16, false, 2, false),
         (4, 16, 2, false, 2, true),
@@ -203,7 +223,7 @@ fn addend_before_page_offset(rt: HostRuntime) -> Result<(), Fail> {
         reference(16, RefKind::PageOff, Target::Name(2), None, 16),
         reference(0, RefKind::Page, Target::Name(2), None, -1),
     ];
-    check(&rt, &relocs, Ok(&wanted))
+    is_read(alloc, &relocs, &Ok(&wanted))
 }
 
 // Relocations of which one breaks a rule, and the first fault.
@@ -242,12 +262,13 @@ static FAULTS: [(&[Raw], RefFault); 8] = [
     ),
 ];
 
-#[test]
-fn first_faults(rt: HostRuntime) -> Result<(), Fail> {
+fn first_faults(alloc: Global) -> Result<bool, OutOfMemory> {
     for (relocs, fault) in &FAULTS {
-        check(&rt, relocs, Err(*fault))?;
+        if !is_read(alloc, relocs, &Err(*fault))? {
+            return Ok(false);
+        }
     }
-    Ok(())
+    Ok(true)
 }
 
 const MANY: u32 = 5000;
@@ -317,26 +338,55 @@ fn many(alloc: Global, step: u32) -> Result<Object, OutOfMemory> {
     })
 }
 
-// Relocations in rising, falling and scattered order.
-#[test]
-fn many_references(rt: HostRuntime) -> Result<(), Fail> {
-    let alloc = rt.alloc();
-    for step in [1, MANY - 1, 3001] {
-        let object = many(alloc, step)?;
-        assert!(rt; object.is_whole());
-        let atoms = cut(alloc, &object, FILE)?;
-        let Ok(found) = refs_of(alloc, &object, &atoms, FILE) else {
-            return Err(Fail::from("the references weren't read"));
-        };
-        assert!(rt; found.len() == MANY as usize);
-        for index in 0..MANY {
-            let number = number_at(index, step);
-            let Some(found) = found.get(index as usize) else {
-                return Err(Fail::from("a reference is missing"));
-            };
-            assert!(rt; found.atom.offset == 8 * u64::from(number) && found.place == 0);
-            assert!(rt; found.target == Target::Name(number));
+fn is_in_place(found: &RefList, index: u32, number: u32) -> bool {
+    match found.get(index as usize) {
+        Some(found) => {
+            found.atom.offset == 8 * u64::from(number)
+                && found.place == 0
+                && found.target == Target::Name(number)
+        }
+        None => false,
+    }
+}
+
+fn are_in_place(found: &RefList, step: u32) -> bool {
+    for index in 0..MANY {
+        if !is_in_place(found, index, number_at(index, step)) {
+            return false;
         }
     }
+    found.len() == MANY as usize
+}
+
+fn all_are_read(alloc: Global, object: &Object, step: u32) -> Result<bool, OutOfMemory> {
+    if !object.is_whole() {
+        return Ok(false);
+    }
+    let atoms = cut(alloc, object, FILE)?;
+    match &refs_of(alloc, object, &atoms, FILE) {
+        Ok(found) => Ok(are_in_place(found, step)),
+        Err(_) => Ok(false),
+    }
+}
+
+// Relocations in rising, falling and scattered order.
+fn many_references(alloc: Global) -> Result<bool, OutOfMemory> {
+    for step in [1, MANY - 1, 3001] {
+        let object = many(alloc, step)?;
+        if !all_are_read(alloc, &object, step)? {
+            return Ok(false);
+        }
+    }
+    Ok(true)
+}
+
+#[test]
+fn differences_and_section_pointers(rt: HostRuntime) -> Result<(), Fail> {
+    let alloc = rt.alloc();
+    assert!(rt; differences(alloc)?);
+    assert!(rt; addend_before_page_offset(alloc)?);
+    assert!(rt; first_faults(alloc)?);
+    assert!(rt; many_references(alloc)?);
+    assert!(rt; objects_of_clang(alloc)?);
     Ok(())
 }

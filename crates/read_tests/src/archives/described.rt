@@ -48,9 +48,9 @@ fn described(alloc: Global, archive: &Archive) -> Result<Vec<u8>, OutOfMemory> {
     Ok(out)
 }
 
-/// What some bytes are read as: each member's name, place and size, and behind a bar each offer's name, its member
-/// and the first member that offers the name; or the message of the fault.
-pub fn outcome(alloc: Global, bytes: &[u8]) -> Result<Vec<u8>, OutOfMemory> {
+// What some bytes are read as: each member's name, place and size, and behind a bar each offer's name, its member
+// and the first member that offers the name; or the message of the fault.
+fn outcome(alloc: Global, bytes: &[u8]) -> Result<Vec<u8>, OutOfMemory> {
     match read(alloc, Vec::from_slice(alloc, bytes)?) {
         Ok(archive) => described(alloc, &archive),
         Err(fault) => told(alloc, fault),
@@ -60,4 +60,10 @@ pub fn outcome(alloc: Global, bytes: &[u8]) -> Result<Vec<u8>, OutOfMemory> {
 fn told(alloc: Global, fault: ObjFault) -> Result<Vec<u8>, OutOfMemory> {
     let text = format!(in alloc; "{fault}")?;
     Ok(Vec::from_slice(alloc, text.as_bytes())?)
+}
+
+/// Whether some bytes are read as that line.
+pub fn is_read_as(alloc: Global, bytes: &[u8], text: &str) -> Result<bool, OutOfMemory> {
+    let found = outcome(alloc, bytes)?;
+    Ok(found.as_slice() == text.as_bytes())
 }

@@ -1,8 +1,8 @@
 //! Archives with some bytes changed, and archives that end too early.
-use super::described::outcome;
+use super::described::is_read_as;
 use crate::edits::edit;
-use std::process::Abort;
-use std::test::Fail;
+use mo_types::OutOfMemory;
+use std::alloc::Global;
 
 // An archive of three members and a table of contents:
 //
@@ -110,12 +110,6 @@ fn cut(size: usize) -> &'static str {
     }
 }
 
-fn check(rt: &(impl Abort + AllocGlobal), bytes: &[u8], text: &str) -> Result<(), Fail> {
-    let found = outcome(rt.alloc(), bytes)?;
-    assert!(rt; found.as_slice() == text.as_bytes(), "not {text}");
-    Ok(())
-}
-
 // The line's bytes and what is told; a line that begins with `#` has neither.
 fn case(line: &str) -> Option<(&str, &str)> {
     if line.starts_with('#') {
@@ -124,16 +118,32 @@ fn case(line: &str) -> Option<(&str, &str)> {
     line.split_once(": ")
 }
 
-#[test]
-fn changed_and_cut_short(rt: HostRuntime) -> Result<(), Fail> {
-    assert!(rt; sample().len() == SIZE);
+fn is_changed(alloc: Global, edits: &str, text: &str) -> Result<bool, OutOfMemory> {
+    let mut bytes = Vec::from_slice(alloc, sample())?;
+    edit(&mut bytes, edits);
+    is_read_as(alloc, &bytes, text)
+}
+
+/// The first changes to the sample after which something else is told.
+pub fn changed(alloc: Global) -> Result<Option<&'static str>, OutOfMemory> {
     for (edits, text) in cases().lines().filter_map(case) {
-        let mut bytes = Vec::from_slice(rt.alloc(), sample())?;
-        edit(&mut bytes, edits);
-        check(&rt, &bytes, text)?;
+        if !is_changed(alloc, edits, text)? {
+            return Ok(Some(edits));
+        }
+    }
+    Ok(None)
+}
+
+/// What is to be told of the first part of the sample of which something else is told.
+pub fn cut_short(alloc: Global) -> Result<Option<&'static str>, OutOfMemory> {
+    if sample().len() != SIZE {
+        return Ok(Some("all bytes"));
     }
     for size in 0..=SIZE {
-        check(&rt, sample().get(..size).unwrap_or(b""), cut(size))?;
+        let part = sample().get(..size).unwrap_or(b"");
+        if !is_read_as(alloc, part, cut(size))? {
+            return Ok(Some(cut(size)));
+        }
     }
-    Ok(())
+    Ok(None)
 }

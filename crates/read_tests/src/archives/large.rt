@@ -1,10 +1,8 @@
 //! Archives of many members and many offers.
 use super::read;
-use mo_ar::OfferList;
+use mo_ar::{Archive, OfferList};
 use mo_types::{ObjFault, OutOfMemory, Which};
 use std::alloc::Global;
-use std::process::Abort;
-use std::test::Fail;
 
 const MEMBERS: u32 = 50_000;
 
@@ -85,17 +83,24 @@ fn finds_each(offers: &OfferList) -> bool {
     true
 }
 
-fn many_members(rt: &(impl Abort + AllocGlobal)) -> Result<(), Fail> {
-    let archive = read(rt.alloc(), large(rt.alloc())?)?;
-    assert!(rt; archive.members.len() == MEMBERS as usize);
-    assert!(rt; archive.offers.len() == OFFERS as usize);
-    assert!(rt; finds_each(&archive.offers));
-    assert!(rt; archive.offers.first_offer(b"_0000500000").is_none());
-    let most = read(rt.alloc(), of_members(rt.alloc(), 0xf_ffff)?)?;
-    assert!(rt; most.members.len() == 0xf_ffff);
-    let fault = read(rt.alloc(), of_members(rt.alloc(), 0x10_0000)?).err();
-    assert!(rt; fault == Some(ObjFault::Limit(Which::Members)));
-    Ok(())
+fn is_large(archive: &Archive) -> bool {
+    archive.members.len() == MEMBERS as usize
+        && archive.offers.len() == OFFERS as usize
+        && finds_each(&archive.offers)
+        && archive.offers.first_offer(b"_0000500000").is_none()
+}
+
+/// Whether an archive of many members and offers is read.
+pub fn many_members(alloc: Global) -> Result<bool, ObjFault> {
+    let archive = read(alloc, large(alloc)?)?;
+    Ok(is_large(&archive))
+}
+
+/// Whether as many members are read as there may be, and not one more.
+pub fn members_are_limited(alloc: Global) -> Result<bool, ObjFault> {
+    let most = read(alloc, of_members(alloc, 0xf_ffff)?)?.members.len();
+    let fault = read(alloc, of_members(alloc, 0x10_0000)?).err();
+    Ok(most == 0xf_ffff && fault == Some(ObjFault::Limit(Which::Members)))
 }
 
 // A table whose pairs name these strings, each of one member.
@@ -174,27 +179,38 @@ fn finds_all(offers: &OfferList, names: &[u8]) -> bool {
     true
 }
 
-// One long name for all pairs, all ends of it, and equally long names that begin with the same 1,032 bytes.
-fn long_names_are_told_apart(rt: &(impl Abort + AllocGlobal)) -> Result<(), Fail> {
-    let alloc = rt.alloc();
-    let name = vec![in alloc; b'a'; ENDS as usize]?;
-    let mut long = name.clone()?;
-    long.push(0)?;
-    let same = offers_of(alloc, ENDS, 0, long.as_slice())?;
-    assert!(rt; same.len() == ENDS as usize);
-    assert!(rt; same.first_offer(name.as_slice()) == Some(1));
-    assert!(rt; same.first_offer(b"aa").is_none());
-    let ends = offers_of(alloc, ENDS, 1, long.as_slice())?;
-    assert!(rt; finds_ends(&ends, name.as_slice()));
-    assert!(rt; ends.first_offer(b"").is_none() && ends.first_offer(b"b").is_none());
-    let names = long_names(alloc, 20_000)?;
-    let offers = offers_of(alloc, 20_000, 1_043, names.as_slice())?;
-    assert!(rt; finds_all(&offers, names.as_slice()));
-    Ok(())
+// One long name for all pairs.
+fn one_name_is_offered(alloc: Global, name: &[u8], strings: &[u8]) -> Result<bool, ObjFault> {
+    let same = offers_of(alloc, ENDS, 0, strings)?;
+    Ok(
+        same.len() == ENDS as usize
+            && same.first_offer(name) == Some(1)
+            && same.first_offer(b"aa").is_none(),
+    )
 }
 
-#[test]
-fn many_members_offers_and_long_names(rt: HostRuntime) -> Result<(), Fail> {
-    many_members(&rt)?;
-    long_names_are_told_apart(&rt)
+// All ends of it.
+fn ends_are_offered(alloc: Global, name: &[u8], strings: &[u8]) -> Result<bool, ObjFault> {
+    let ends = offers_of(alloc, ENDS, 1, strings)?;
+    Ok(
+        finds_ends(&ends, name)
+            && ends.first_offer(b"").is_none()
+            && ends.first_offer(b"b").is_none(),
+    )
+}
+
+/// Whether one long name for all pairs, and all ends of it, are found.
+pub fn one_long_name(alloc: Global) -> Result<bool, ObjFault> {
+    let mut long = vec![in alloc; b'a'; ENDS as usize]?;
+    long.push(0)?;
+    let strings = long.as_slice();
+    let name = strings.get(..ENDS as usize).unwrap_or(b"");
+    Ok(one_name_is_offered(alloc, name, strings)? && ends_are_offered(alloc, name, strings)?)
+}
+
+/// Whether equally long names that begin with the same 1,032 bytes are told apart.
+pub fn long_names_are_told_apart(alloc: Global) -> Result<bool, ObjFault> {
+    let names = long_names(alloc, 20_000)?;
+    let offers = offers_of(alloc, 20_000, 1_043, names.as_slice())?;
+    Ok(finds_all(&offers, names.as_slice()))
 }

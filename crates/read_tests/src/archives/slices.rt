@@ -2,9 +2,8 @@
 use super::llvm_files::{BOTH, both};
 use crate::edits::edit;
 use mo_ar::{SliceFault, slice_of};
-use mo_types::{Kind, Rule, kind_of};
-use std::process::Abort;
-use std::test::Fail;
+use mo_types::{Kind, OutOfMemory, Rule, kind_of};
+use std::alloc::Global;
 
 // Two entries, for x86_64 at 48 and arm64 at 56, of 8 bytes each.
 fn sample() -> &'static [u8] {
@@ -69,24 +68,37 @@ fn cut(size: usize) -> Result<(usize, usize), SliceFault> {
     }
 }
 
-fn changed(rt: &(impl Abort + AllocGlobal)) -> Result<(), Fail> {
-    for (edits, wanted) in cases() {
-        let mut bytes = Vec::from_slice(rt.alloc(), sample())?;
-        edit(&mut bytes, edits);
-        assert!(rt; slice(&bytes) == wanted, "in {edits}");
-    }
-    Ok(())
+fn is_changed(
+    alloc: Global,
+    edits: &str,
+    wanted: Result<(usize, usize), SliceFault>,
+) -> Result<bool, OutOfMemory> {
+    let mut bytes = Vec::from_slice(alloc, sample())?;
+    edit(&mut bytes, edits);
+    Ok(slice(&bytes) == wanted)
 }
 
-#[test]
-fn slice_of_another_machine(rt: HostRuntime) -> Result<(), Fail> {
-    changed(&rt)?;
-    for size in 0..=SIZE {
-        assert!(rt;
-            slice(sample().get(..size).unwrap_or(b"")) == cut(size),
-            "{size} bytes"
-        );
+/// The first changes to the sample after which something else is told.
+pub fn changed(alloc: Global) -> Result<Option<&'static str>, OutOfMemory> {
+    for (edits, wanted) in cases() {
+        if !is_changed(alloc, edits, wanted)? {
+            return Ok(Some(edits));
+        }
     }
-    assert!(rt; slice(both()) == Ok(BOTH));
-    Ok(())
+    Ok(None)
+}
+
+/// Whether each first part of the sample tells its fault.
+pub fn cut_short() -> bool {
+    for size in 0..=SIZE {
+        if slice(sample().get(..size).unwrap_or(b"")) != cut(size) {
+            return false;
+        }
+    }
+    true
+}
+
+/// Whether the slice of a file of two machines is that of arm64.
+pub fn slice_of_both() -> bool {
+    slice(both()) == Ok(BOTH)
 }

@@ -1,8 +1,8 @@
 //! Objects of clang and of LLVM's assembler.
-use super::described::{SectionRow, SymbolRow, check_object};
-use super::sample::{expect_fault, fault_of};
-use super::symbols::check_sample;
-use std::test::Fail;
+use super::described::{SectionRow, SymbolRow, is_object};
+use super::sample::tells;
+use mo_types::OutOfMemory;
+use std::alloc::Global;
 
 // What `llvm-mc -triple=arm64-apple-macos11 -filetype=obj` (LLVM 14) makes of
 //
@@ -347,12 +347,14 @@ fn debugged_symbols() -> &'static [SymbolRow] {
     ]
 }
 
-#[test]
-fn objects_of_tools(rt: HostRuntime) -> Result<(), Fail> {
-    check_sample(&rt)?;
-    check_object(&rt, assembled(), assembled_sections(), assembled_symbols())?;
-    check_object(&rt, debugged(), debugged_sections(), debugged_symbols())?;
+/// Whether the objects of tools are read with what stands in them.
+pub fn objects_of_tools(alloc: Global) -> Result<bool, OutOfMemory> {
+    let read = is_object(
+        alloc,
+        assembled(),
+        assembled_sections(),
+        assembled_symbols(),
+    ) && is_object(alloc, debugged(), debugged_sections(), debugged_symbols());
     // the frames of the third come later
-    let fault = fault_of(rt.alloc(), framed(), framed().len());
-    expect_fault(&rt, fault, "unsupported: later", "framed")
+    Ok(read && tells(alloc, framed(), "unsupported: later")?)
 }

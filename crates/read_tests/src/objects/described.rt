@@ -2,8 +2,6 @@
 use super::read;
 use mo_types::{ObjFault, Object, Section, Symbol, SymbolKind};
 use std::alloc::Global;
-use std::process::Abort;
-use std::test::Fail;
 
 /// Segment, name, and: address, size, alignment, flags, the offsets of contents and of relocations, and how many
 /// relocations there are.
@@ -37,13 +35,13 @@ fn is_section(section: &Section, (segment, name, wanted): &SectionRow) -> bool {
         && section.bytes.len() as u64 == size
 }
 
-// Asserts that the sections are those of a table.
-fn check_sections(rt: &impl Abort, object: &Object, rows: &[SectionRow]) {
-    let sections = object.sections.as_slice();
-    assert_eq!(rt; sections.len(), rows.len());
-    for (section, row) in sections.iter().zip(rows.iter()) {
-        assert!(rt; is_section(section, row), "in {}", row.1);
+fn are_sections(sections: &[Section], rows: &[SectionRow]) -> bool {
+    for (section, row) in sections.iter().zip(rows) {
+        if !is_section(section, row) {
+            return false;
+        }
     }
+    sections.len() == rows.len()
 }
 
 fn kind(kind: &SymbolKind) -> (&'static str, [u64; 2]) {
@@ -56,9 +54,9 @@ fn kind(kind: &SymbolKind) -> (&'static str, [u64; 2]) {
     }
 }
 
-// The marks' names, with blanks between them.
-fn marks(alloc: Global, symbol: &Symbol) -> Result<String, Fail> {
-    let mut text = String::new(alloc);
+// Whether a symbol has just the marks whose names a text has, with blanks between them.
+fn has_marks(symbol: &Symbol, names: &str) -> bool {
+    let mut count = 0usize;
     for (mark, name) in [
         (symbol.external, "external"),
         (symbol.hidden, "hidden"),
@@ -67,63 +65,52 @@ fn marks(alloc: Global, symbol: &Symbol) -> Result<String, Fail> {
         (symbol.no_strip, "kept"),
         (symbol.alt, "alt"),
     ] {
-        if mark {
-            if !text.is_empty() {
-                text.push(' ')?;
-            }
-            text.push_str(name)?;
+        if mark != names.split_whitespace().any(|word| word == name) {
+            return false;
+        }
+        count = count.wrapping_add(usize::from(mark));
+    }
+    names.split_whitespace().count() == count
+}
+
+fn is_symbol(symbol: &Symbol, (name, wanted, numbers, marks): &SymbolRow) -> bool {
+    symbol.name.as_slice() == name.as_bytes()
+        && kind(&symbol.kind) == (*wanted, *numbers)
+        && has_marks(symbol, marks)
+}
+
+fn are_symbols(symbols: &[Symbol], rows: &[SymbolRow]) -> bool {
+    for (symbol, row) in symbols.iter().zip(rows) {
+        if !is_symbol(symbol, row) {
+            return false;
         }
     }
-    Ok(text)
+    symbols.len() == rows.len()
 }
 
-fn is_symbol(symbol: &Symbol, (name, wanted, numbers, _): &SymbolRow) -> bool {
-    symbol.name.as_slice() == name.as_bytes() && kind(&symbol.kind) == (*wanted, *numbers)
-}
-
-fn has_marks(alloc: Global, symbol: &Symbol, wanted: &str) -> Result<bool, Fail> {
-    Ok(marks(alloc, symbol)?.as_str() == wanted)
-}
-
-// Asserts that the symbols are those of a table.
-fn check_symbols(
-    rt: &(impl Abort + AllocGlobal),
-    object: &Object,
-    rows: &[SymbolRow],
-) -> Result<(), Fail> {
-    let symbols = object.symbols.as_slice();
-    assert_eq!(rt; symbols.len(), rows.len());
-    for (symbol, row) in symbols.iter().zip(rows.iter()) {
-        assert!(rt; is_symbol(symbol, row), "in {}", row.0);
-        assert!(rt; has_marks(rt.alloc(), symbol, row.3)?, "in {}", row.0);
-    }
-    Ok(())
-}
-
-// Asserts that an object was read, in subsections, and that its sections and symbols are those of tables.
-fn check_read(
-    rt: &(impl Abort + AllocGlobal),
+// Whether an object was read, in subsections, and its sections and symbols are those of tables.
+fn is_read(
     read: &Result<Object, ObjFault>,
     sections: &[SectionRow],
     symbols: &[SymbolRow],
-) -> Result<(), Fail> {
+) -> bool {
     match read {
         Ok(object) => {
-            assert!(rt; object.subsections);
-            check_sections(rt, object, sections);
-            check_symbols(rt, object, symbols)
+            object.subsections
+                && are_sections(object.sections.as_slice(), sections)
+                && are_symbols(object.symbols.as_slice(), symbols)
         }
-        Err(_) => Err(Fail::from("the object wasn't read")),
+        Err(_) => false,
     }
 }
 
-/// Asserts that the object of some bytes has the sections and symbols of tables.
-pub fn check_object(
-    rt: &(impl Abort + AllocGlobal),
+/// Whether the object of some bytes has the sections and symbols of tables.
+pub fn is_object(
+    alloc: Global,
     bytes: &[u8],
     sections: &[SectionRow],
     symbols: &[SymbolRow],
-) -> Result<(), Fail> {
-    let object = read(rt.alloc(), bytes);
-    check_read(rt, &object, sections, symbols)
+) -> bool {
+    let object = read(alloc, bytes);
+    is_read(&object, sections, symbols)
 }

@@ -1,8 +1,8 @@
 //! One object at fault for each rule and each feature, and any two faults in one object.
-use super::sample::{WHOLE, expect_fault, fault_of, sample};
+use super::sample::{fault_of, sample, tells};
 use crate::edits::edit;
-use std::process::Abort;
-use std::test::Fail;
+use mo_types::OutOfMemory;
+use std::alloc::Global;
 
 // Bytes of the sample, and what is told: a place and the bytes that stand there. The lines are in the order in which
 // faults are told: of two that stand together, the upper one.
@@ -156,56 +156,70 @@ fn case(line: &str) -> Option<(&str, &str)> {
     line.split_once(": ")
 }
 
-fn check(
-    rt: &(impl Abort + AllocGlobal),
-    edits: &str,
-    others: &str,
-    text: &str,
-) -> Result<(), Fail> {
-    let mut bytes = sample(rt.alloc())?;
-    edit(&mut bytes, others);
+fn changed(alloc: Global, edits: &str, more: &str) -> Result<Vec<u8>, OutOfMemory> {
+    let mut bytes = sample(alloc)?;
     edit(&mut bytes, edits);
-    let fault = fault_of(rt.alloc(), &bytes, WHOLE);
-    expect_fault(rt, fault, text, edits)?;
-    // where the file is too short for a header, nothing else is asked
-    let fault = fault_of(rt.alloc(), &bytes, 31);
-    expect_fault(rt, fault, "malformed at 0: header", edits)
+    edit(&mut bytes, more);
+    Ok(bytes)
 }
 
-// Of two faults the first one here is told, whatever the places: a rule before a feature, an earlier rule at a
-// later place, the lesser place of one rule. Each fault stands beside itself too, and so alone.
-#[test]
-fn first_of_two_faults(rt: HostRuntime) -> Result<(), Fail> {
-    for (i, (edits, text)) in cases().lines().filter_map(case).enumerate() {
-        for (others, _) in cases().lines().filter_map(case).skip(i) {
-            check(&rt, edits, others, text)?;
+// Whether the sample with changes tells a fault; where the file is too short for a header, nothing else is asked.
+fn is_told(alloc: Global, others: &str, edits: &str, text: &str) -> Result<bool, OutOfMemory> {
+    let bytes = changed(alloc, others, edits)?;
+    let first = bytes.get(..31).unwrap_or(b"");
+    Ok(tells(alloc, &bytes, text)? && tells(alloc, first, "malformed at 0: header")?)
+}
+
+fn is_accepted(alloc: Global, edits: &str, more: &str) -> Result<bool, OutOfMemory> {
+    let bytes = changed(alloc, edits, more)?;
+    Ok(fault_of(alloc, &bytes).is_none())
+}
+
+// Whether a line of the cases is told where the changes of itself or of a later line come first.
+fn is_told_with_later(
+    alloc: Global,
+    number: usize,
+    edits: &str,
+    text: &str,
+) -> Result<bool, OutOfMemory> {
+    for (others, _) in cases().lines().filter_map(case).skip(number) {
+        if !is_told(alloc, others, edits, text)? {
+            return Ok(false);
         }
     }
-    Ok(())
+    Ok(true)
 }
 
-fn check_accepted(rt: &(impl Abort + AllocGlobal), edits: &str) -> Result<(), Fail> {
-    let mut bytes = sample(rt.alloc())?;
-    edit(&mut bytes, edits);
-    let fault = fault_of(rt.alloc(), &bytes, WHOLE);
-    assert!(rt; fault.is_none(), "in {edits}: {fault:?}");
-    Ok(())
+/// Of two faults the first one here is told, whatever the places: a rule before a feature, an earlier rule at a
+/// later place, the lesser place of one rule. Each fault stands beside itself too, and so alone. Gives the first
+/// changes for which that isn't so.
+pub fn first_of_two_faults(alloc: Global) -> Result<Option<&'static str>, OutOfMemory> {
+    for (i, (edits, text)) in cases().lines().filter_map(case).enumerate() {
+        if !is_told_with_later(alloc, i, edits, text)? {
+            return Ok(Some(edits));
+        }
+    }
+    Ok(None)
 }
 
 // The third command is a symbol table of 32 bytes, and the second one is passed over.
 const LATER_TABLE: &str =
     "504=32 528=02 532=20 20=1002 536=98020000 540=08000000 544=18030000 548=38000000";
 
-#[test]
-fn no_fault(rt: HostRuntime) -> Result<(), Fail> {
-    for line in accepted().lines().filter(|line| !line.starts_with('#')) {
-        check_accepted(&rt, line)?;
+/// Whether symbol tables have one size.
+pub fn symbol_tables_have_one_size(alloc: Global) -> Result<bool, OutOfMemory> {
+    Ok(
+        is_told(alloc, "", LATER_TABLE, "malformed at 528: symbols")?
+            && is_accepted(alloc, LATER_TABLE, "532=18 20=08")?,
+    )
+}
+
+/// The first changes that are to be accepted and aren't.
+pub fn no_fault(alloc: Global) -> Result<Option<&'static str>, OutOfMemory> {
+    for line in accepted().lines() {
+        if !line.starts_with('#') && !is_accepted(alloc, line, "")? {
+            return Ok(Some(line));
+        }
     }
-    // symbol tables have one size
-    check(&rt, LATER_TABLE, "", "malformed at 528: symbols")?;
-    let mut bytes = sample(rt.alloc())?;
-    edit(&mut bytes, LATER_TABLE);
-    edit(&mut bytes, "532=18 20=08");
-    assert!(rt; fault_of(rt.alloc(), &bytes, WHOLE).is_none());
-    Ok(())
+    Ok(None)
 }

@@ -1,11 +1,9 @@
 //! Relocations that pass the file's end, as many sections as there may be, and sections that share too much.
 use super::read;
-use super::sample::{expect_fault, fault_of};
+use super::sample::tells;
 use crate::edits::edit;
 use mo_types::{ObjFault, Object, OutOfMemory};
 use std::alloc::Global;
-use std::process::Abort;
-use std::test::Fail;
 
 // One function without relocations: the header of its section at 104, the function at 208, one symbol at 216,
 // its name at 232.
@@ -33,14 +31,21 @@ fn with_relocations(alloc: Global, size: usize) -> Result<Vec<u8>, OutOfMemory> 
     Ok(bytes)
 }
 
-fn expect_relocations(
-    rt: &(impl Abort + AllocGlobal),
-    size: usize,
-    text: &str,
-) -> Result<(), Fail> {
-    let bytes = with_relocations(rt.alloc(), size)?;
-    let fault = fault_of(rt.alloc(), &bytes, size);
-    expect_fault(rt, fault, text, "relocations")
+// Relocations that pass the file's end; and a byte more: they lie inside, and no row of the table has r_type 0 and
+// r_length 0.
+const RELOCATIONS: [(usize, &str); 2] = [
+    (0x1ef, "malformed at 104: relocations"),
+    (0x1f0, "malformed at 480: shape"),
+];
+
+fn relocations_are_told(alloc: Global) -> Result<bool, OutOfMemory> {
+    for (size, text) in &RELOCATIONS {
+        let bytes = with_relocations(alloc, *size)?;
+        if !tells(alloc, &bytes, text)? {
+            return Ok(false);
+        }
+    }
+    Ok(true)
 }
 
 // An object with sections that have no names and no contents, and no symbols: its size in bytes, and the numbers of
@@ -81,20 +86,30 @@ fn section_count(alloc: Global, bytes: &[u8]) -> Option<usize> {
     count_of(&object)
 }
 
-#[test]
-fn relocations_and_sections_within_limits(rt: HostRuntime) -> Result<(), Fail> {
-    expect_relocations(&rt, 0x1ef, "malformed at 104: relocations")?;
-    // a byte more: they lie inside, and no row of the table has r_type 0 and r_length 0
-    expect_relocations(&rt, 0x1f0, "malformed at 480: shape")?;
-    let bytes = with_sections(rt.alloc(), 20_504, "96=ff00 20=f84f 36=f84f")?;
-    assert!(rt; section_count(rt.alloc(), &bytes) == Some(255));
-    let bytes = with_sections(rt.alloc(), 20_584, "96=0001 20=4850 36=4850")?;
-    let fault = fault_of(rt.alloc(), &bytes, bytes.len());
-    expect_fault(&rt, fault, "malformed at 32: segment", "256 sections")?;
-    let mut bytes = with_sections(rt.alloc(), 28_504, "96=ff00 20=f84f 36=f84f")?;
+fn most_sections_are_read(alloc: Global) -> Result<bool, OutOfMemory> {
+    let bytes = with_sections(alloc, 20_504, "96=ff00 20=f84f 36=f84f")?;
+    Ok(section_count(alloc, &bytes) == Some(255))
+}
+
+fn a_section_more_is_told(alloc: Global) -> Result<bool, OutOfMemory> {
+    let bytes = with_sections(alloc, 20_584, "96=0001 20=4850 36=4850")?;
+    tells(alloc, &bytes, "malformed at 32: segment")
+}
+
+fn shared_tables_are_counted(alloc: Global) -> Result<bool, OutOfMemory> {
+    let mut bytes = with_sections(alloc, 28_504, "96=ff00 20=f84f 36=f84f")?;
     share_a_table(&mut bytes, 500);
-    assert!(rt; section_count(rt.alloc(), &bytes) == Some(255));
+    let is_read = section_count(alloc, &bytes) == Some(255);
     share_a_table(&mut bytes, 1000);
-    let fault = fault_of(rt.alloc(), &bytes, bytes.len());
-    expect_fault(&rt, fault, "out of memory", "sections that share a table")
+    Ok(is_read && tells(alloc, &bytes, "out of memory")?)
+}
+
+/// Whether relocations lie in the file, and no more sections and relocations are read than may be.
+pub fn relocations_and_sections_within_limits(alloc: Global) -> Result<bool, OutOfMemory> {
+    Ok(
+        relocations_are_told(alloc)?
+            && most_sections_are_read(alloc)?
+            && a_section_more_is_told(alloc)?
+            && shared_tables_are_counted(alloc)?,
+    )
 }

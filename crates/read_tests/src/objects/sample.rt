@@ -2,8 +2,6 @@
 use super::read;
 use mo_types::{ObjFault, OutOfMemory};
 use std::alloc::Global;
-use std::process::Abort;
-use std::test::Fail;
 
 // An object with three load commands, of which the third is passed over; `llvm-readobj` and `llvm-objdump` read it.
 //
@@ -78,25 +76,20 @@ pub fn sample(alloc: Global) -> Result<Vec<u8>, OutOfMemory> {
     Ok(Vec::from_slice(alloc, original())?)
 }
 
-/// Why the first bytes of a file aren't read, or nothing where they are.
-pub fn fault_of(alloc: Global, bytes: &[u8], keep: usize) -> Option<ObjFault> {
-    let kept = bytes.get(..keep).unwrap_or(bytes);
-    read(alloc, kept).err()
+/// Why a file isn't read, or nothing where it is.
+pub fn fault_of(alloc: Global, bytes: &[u8]) -> Option<ObjFault> {
+    read(alloc, bytes).err()
 }
 
-/// Asserts the message of a fault.
-pub fn expect_fault(
-    rt: &(impl Abort + AllocGlobal),
-    fault: Option<ObjFault>,
-    text: &str,
-    what: &str,
-) -> Result<(), Fail> {
-    match fault {
-        Some(fault) => {
-            let found = format!(in rt.alloc(); "{fault}")?;
-            assert_eq!(rt; found.as_str(), text, "in {what}");
-        }
-        None => assert!(rt; false, "no fault in {what}"),
+/// Whether a file isn't read, for the fault of a message.
+pub fn tells(alloc: Global, bytes: &[u8], text: &str) -> Result<bool, OutOfMemory> {
+    match fault_of(alloc, bytes) {
+        Some(fault) => is_told(alloc, fault, text),
+        None => Ok(false),
     }
-    Ok(())
+}
+
+fn is_told(alloc: Global, fault: ObjFault, text: &str) -> Result<bool, OutOfMemory> {
+    let found = format!(in alloc; "{fault}")?;
+    Ok(found.as_str() == text)
 }

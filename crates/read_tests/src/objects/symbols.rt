@@ -1,8 +1,8 @@
 //! What stands in the sample.
-use super::described::{SectionRow, SymbolRow, check_object};
+use super::described::{SectionRow, SymbolRow, is_object};
 use super::sample::sample;
-use std::process::Abort;
-use std::test::Fail;
+use mo_types::OutOfMemory;
+use std::alloc::Global;
 
 fn sections() -> &'static [SectionRow] {
     &[
@@ -33,8 +33,8 @@ fn symbols() -> &'static [SymbolRow] {
     ]
 }
 
-/// Asserts that the sample is read with what stands in it.
-pub fn check_sample(rt: &(impl Abort + AllocGlobal)) -> Result<(), Fail> {
-    let bytes = sample(rt.alloc())?;
-    check_object(rt, &bytes, sections(), symbols())
+/// Whether the sample is read with what stands in it.
+pub fn sample_is_read(alloc: Global) -> Result<bool, OutOfMemory> {
+    let bytes = sample(alloc)?;
+    Ok(is_object(alloc, &bytes, sections(), symbols()))
 }

@@ -3,13 +3,11 @@
 use super::clang_objects::{ClangObject, ClangSection, OBJECTS};
 use atom_cut::cut;
 use mo_types::{
-    AtomKey, AtomList, Bytes, FileId, Object, OutOfMemory, RawReloc, Ref, RefList, RelocList,
-    Section, SectionList, Symbol, SymbolKind, SymbolList, Target,
+    Atom, AtomKey, Bytes, FileId, Object, OutOfMemory, RawReloc, Ref, RefList, RelocList, Section,
+    SectionList, Symbol, SymbolKind, SymbolList, Target,
 };
 use reloc_read::refs_of;
 use std::alloc::Global;
-use std::process::Abort;
-use std::test::Fail;
 
 const FILE: FileId = FileId {
     position: 3,
@@ -79,21 +77,28 @@ fn object(alloc: Global, object: &ClangObject) -> Result<Object, OutOfMemory> {
     })
 }
 
-fn check_atoms(rt: &impl Abort, found: &AtomList, wanted: &[(u16, u64, u64, u8)]) {
-    assert_eq!(rt; found.len(), wanted.len());
-    for (atom, (section, offset, size, align)) in found.as_slice().iter().zip(wanted) {
-        let key = AtomKey {
-            file: FILE,
-            section: *section,
-            offset: *offset,
-        };
-        assert_eq!(rt; atom.key, key);
-        assert_eq!(rt; (atom.size, atom.align), (*size, *align), "at {key:?}");
-    }
+// Section, offset, size and alignment's exponent.
+type AtomRow = (u16, u64, u64, u8);
+
+fn is_atom(atom: &Atom, row: &AtomRow) -> bool {
+    let key = AtomKey {
+        file: FILE,
+        section: row.0,
+        offset: row.1,
+    };
+    atom.key == key && atom.size == row.2 && atom.align == row.3
 }
 
-fn check_refs(rt: &impl Abort, found: &RefList, object: &ClangObject) {
-    assert_eq!(rt; found.len(), object.refs.len());
+fn are_atoms(found: &[Atom], rows: &[AtomRow]) -> bool {
+    for (atom, row) in found.iter().zip(rows) {
+        if !is_atom(atom, row) {
+            return false;
+        }
+    }
+    found.len() == rows.len()
+}
+
+fn are_refs(found: &RefList, object: &ClangObject) -> bool {
     for (at, wanted) in object.refs.iter().enumerate() {
         let (section, offset, place, file_place, kind, target, minus, addend) = *wanted;
         let wanted = Ref {
@@ -109,22 +114,31 @@ fn check_refs(rt: &impl Abort, found: &RefList, object: &ClangObject) {
             minus: minus.map(Target::Name),
             addend,
         };
-        assert_eq!(rt; found.get(at), Some(wanted));
+        if found.get(at) != Some(wanted) {
+            return false;
+        }
+    }
+    found.len() == object.refs.len()
+}
+
+fn is_read(alloc: Global, object: &Object, wanted: &ClangObject) -> Result<bool, OutOfMemory> {
+    if !object.is_whole() {
+        return Ok(false);
+    }
+    let atoms = cut(alloc, object, FILE)?;
+    match &refs_of(alloc, object, &atoms, FILE) {
+        Ok(refs) => Ok(are_atoms(atoms.as_slice(), wanted.atoms) && are_refs(refs, wanted)),
+        Err(_) => Ok(false),
     }
 }
 
-#[test]
-fn objects_of_clang(rt: HostRuntime) -> Result<(), Fail> {
-    let alloc = rt.alloc();
+/// Whether the objects of clang have the atoms and references that are told of them.
+pub fn objects_of_clang(alloc: Global) -> Result<bool, OutOfMemory> {
     for wanted in &OBJECTS {
         let object = object(alloc, wanted)?;
-        assert!(rt; object.is_whole());
-        let atoms = cut(alloc, &object, FILE)?;
-        check_atoms(&rt, &atoms, wanted.atoms);
-        let Ok(refs) = refs_of(alloc, &object, &atoms, FILE) else {
-            panic!(rt; "an object of clang was refused");
-        };
-        check_refs(&rt, &refs, wanted);
+        if !is_read(alloc, &object, wanted)? {
+            return Ok(false);
+        }
     }
-    Ok(())
+    Ok(true)
 }

@@ -43,11 +43,10 @@ pub static OBJECTS: [ClangObject; 5] = [
                 place: (0x0, 0x38, 2),
                 flags: (0x0, 0x80000400),
                 offsets: (0x188, 0x1e8),
-                bytes: &[
-                    0, 0, 0, 148, 0, 0, 0, 144, 0, 0, 0, 145, 1, 0, 64, 249, 2, 0, 0, 144, 66, 0,
-                    64, 249, 3, 0, 0, 144, 99, 0, 64, 249, 0, 0, 0, 20, 0, 0, 0, 148, 192, 3, 95,
-                    214, 4, 0, 0, 144, 132, 0, 0, 145, 0, 0, 0, 20,
-                ],
+                bytes: b"\
+\x00\x00\x00\x94\x00\x00\x00\x90\x00\x00\x00\x91\x01\x00\x40\xf9\x02\x00\x00\x90\x42\x00\x40\xf9\
+\x03\x00\x00\x90\x63\x00\x40\xf9\x00\x00\x00\x14\x00\x00\x00\x94\xc0\x03\x5f\xd6\x04\x00\x00\x90\
+\x84\x00\x00\x91\x00\x00\x00\x14",
                 relocs: &[
                     (2, 0x34, 6, true, 2, true),
                     (4, 0x30, 3, false, 2, true),
@@ -73,10 +72,9 @@ pub static OBJECTS: [ClangObject; 5] = [
                 place: (0x40, 0x20, 4),
                 flags: (0x0, 0x0),
                 offsets: (0x1c8, 0x0),
-                bytes: &[
-                    0, 0, 0, 0, 0, 0, 0, 0, 1, 0, 0, 0, 0, 0, 0, 0, 2, 0, 0, 0, 0, 0, 0, 0, 3, 0,
-                    0, 0, 0, 0, 0, 0,
-                ],
+                bytes: b"\
+\x00\x00\x00\x00\x00\x00\x00\x00\x01\x00\x00\x00\x00\x00\x00\x00\x02\x00\x00\x00\x00\x00\x00\x00\
+\x03\x00\x00\x00\x00\x00\x00\x00",
                 relocs: &[],
             },
         ],
@@ -123,7 +121,8 @@ pub static OBJECTS: [ClangObject; 5] = [
                 place: (0x0, 0x8, 2),
                 flags: (0x0, 0x80000400),
                 offsets: (0x1d8, 0x0),
-                bytes: &[31, 32, 3, 213, 192, 3, 95, 214],
+                bytes: b"\
+\x1f\x20\x03\xd5\xc0\x03\x5f\xd6",
                 relocs: &[],
             },
             ClangSection {
@@ -131,12 +130,11 @@ pub static OBJECTS: [ClangObject; 5] = [
                 place: (0x8, 0x58, 3),
                 flags: (0x0, 0x0),
                 offsets: (0x1e0, 0x250),
-                bytes: &[
-                    0, 0, 0, 0, 0, 0, 0, 0, 0, 0, 0, 0, 0, 0, 0, 0, 40, 0, 0, 0, 0, 0, 0, 0, 216,
-                    255, 255, 255, 255, 255, 255, 255, 0, 0, 0, 0, 1, 0, 0, 0, 4, 0, 0, 0, 0, 0, 0,
-                    0, 0, 0, 0, 0, 0, 0, 0, 0, 232, 255, 255, 255, 255, 255, 255, 255, 0, 0, 0, 0,
-                    4, 0, 0, 0, 252, 255, 255, 255, 180, 255, 255, 255, 0, 0, 0, 0, 0, 0, 0, 0,
-                ],
+                bytes: b"\
+\x00\x00\x00\x00\x00\x00\x00\x00\x00\x00\x00\x00\x00\x00\x00\x00\x28\x00\x00\x00\x00\x00\x00\x00\
+\xd8\xff\xff\xff\xff\xff\xff\xff\x00\x00\x00\x00\x01\x00\x00\x00\x04\x00\x00\x00\x00\x00\x00\x00\
+\x00\x00\x00\x00\x00\x00\x00\x00\xe8\xff\xff\xff\xff\xff\xff\xff\x00\x00\x00\x00\x04\x00\x00\x00\
+\xfc\xff\xff\xff\xb4\xff\xff\xff\x00\x00\x00\x00\x00\x00\x00\x00",
                 relocs: &[
                     (7, 0x50, 1, false, 3, true),
                     (7, 0x4c, 9, true, 2, true),
@@ -162,9 +160,8 @@ pub static OBJECTS: [ClangObject; 5] = [
                 place: (0x60, 0x18, 2),
                 flags: (0x0, 0x0),
                 offsets: (0x238, 0x2d8),
-                bytes: &[
-                    4, 0, 0, 0, 0, 0, 0, 0, 16, 0, 0, 0, 0, 0, 0, 0, 0, 0, 0, 0, 0, 0, 0, 0,
-                ],
+                bytes: b"\
+\x04\x00\x00\x00\x00\x00\x00\x00\x10\x00\x00\x00\x00\x00\x00\x00\x00\x00\x00\x00\x00\x00\x00\x00",
                 relocs: &[
                     (1, 0x10, 6, false, 3, true),
                     (0, 0x10, 8, false, 3, true),
@@ -220,10 +217,9 @@ pub static OBJECTS: [ClangObject; 5] = [
                 place: (0x0, 0x1c, 2),
                 flags: (0x0, 0x80000400),
                 offsets: (0x2c8, 0x350),
-                bytes: &[
-                    0, 0, 0, 144, 0, 0, 0, 145, 1, 0, 0, 144, 33, 0, 0, 145, 2, 0, 0, 144, 66, 0,
-                    64, 253, 192, 3, 95, 214,
-                ],
+                bytes: b"\
+\x00\x00\x00\x90\x00\x00\x00\x91\x01\x00\x00\x90\x21\x00\x00\x91\x02\x00\x00\x90\x42\x00\x40\xfd\
+\xc0\x03\x5f\xd6",
                 relocs: &[
                     (4, 0x14, 4, false, 2, true),
                     (3, 0x10, 4, true, 2, true),
@@ -240,10 +236,8 @@ pub static OBJECTS: [ClangObject; 5] = [
                 place: (0x1c, 0x14, 0),
                 flags: (0x2, 0x0),
                 offsets: (0x2e4, 0x0),
-                bytes: &[
-                    102, 105, 114, 115, 116, 0, 0, 115, 101, 99, 111, 110, 100, 0, 116, 104, 105,
-                    114, 100, 0,
-                ],
+                bytes: b"\
+\x66\x69\x72\x73\x74\x00\x00\x73\x65\x63\x6f\x6e\x64\x00\x74\x68\x69\x72\x64\x00",
                 relocs: &[],
             },
             ClangSection {
@@ -251,7 +245,8 @@ pub static OBJECTS: [ClangObject; 5] = [
                 place: (0x30, 0xc, 2),
                 flags: (0x3, 0x0),
                 offsets: (0x2f8, 0x0),
-                bytes: &[1, 0, 0, 0, 2, 0, 0, 0, 3, 0, 0, 0],
+                bytes: b"\
+\x01\x00\x00\x00\x02\x00\x00\x00\x03\x00\x00\x00",
                 relocs: &[],
             },
             ClangSection {
@@ -259,7 +254,8 @@ pub static OBJECTS: [ClangObject; 5] = [
                 place: (0x40, 0x10, 3),
                 flags: (0x4, 0x0),
                 offsets: (0x308, 0x0),
-                bytes: &[1, 0, 0, 0, 0, 0, 0, 0, 2, 0, 0, 0, 0, 0, 0, 0],
+                bytes: b"\
+\x01\x00\x00\x00\x00\x00\x00\x00\x02\x00\x00\x00\x00\x00\x00\x00",
                 relocs: &[],
             },
             ClangSection {
@@ -267,10 +263,9 @@ pub static OBJECTS: [ClangObject; 5] = [
                 place: (0x50, 0x20, 4),
                 flags: (0xe, 0x0),
                 offsets: (0x318, 0x0),
-                bytes: &[
-                    1, 0, 0, 0, 0, 0, 0, 0, 2, 0, 0, 0, 0, 0, 0, 0, 3, 0, 0, 0, 0, 0, 0, 0, 4, 0,
-                    0, 0, 0, 0, 0, 0,
-                ],
+                bytes: b"\
+\x01\x00\x00\x00\x00\x00\x00\x00\x02\x00\x00\x00\x00\x00\x00\x00\x03\x00\x00\x00\x00\x00\x00\x00\
+\x04\x00\x00\x00\x00\x00\x00\x00",
                 relocs: &[],
             },
             ClangSection {
@@ -278,9 +273,8 @@ pub static OBJECTS: [ClangObject; 5] = [
                 place: (0x70, 0x18, 3),
                 flags: (0x0, 0x0),
                 offsets: (0x338, 0x390),
-                bytes: &[
-                    0, 0, 0, 0, 0, 0, 0, 0, 3, 0, 0, 0, 0, 0, 0, 0, 0, 0, 0, 0, 0, 0, 0, 0,
-                ],
+                bytes: b"\
+\x00\x00\x00\x00\x00\x00\x00\x00\x03\x00\x00\x00\x00\x00\x00\x00\x00\x00\x00\x00\x00\x00\x00\x00",
                 relocs: &[
                     (0, 0x10, 9, false, 3, true),
                     (0, 0x8, 3, false, 3, true),
@@ -338,7 +332,8 @@ pub static OBJECTS: [ClangObject; 5] = [
                 place: (0x0, 0xc, 3),
                 flags: (0x0, 0x80000400),
                 offsets: (0x228, 0x0),
-                bytes: &[2, 0, 0, 20, 31, 32, 3, 213, 254, 255, 255, 151],
+                bytes: b"\
+\x02\x00\x00\x14\x1f\x20\x03\xd5\xfe\xff\xff\x97",
                 relocs: &[],
             },
             ClangSection {
@@ -346,7 +341,8 @@ pub static OBJECTS: [ClangObject; 5] = [
                 place: (0xc, 0x5, 0),
                 flags: (0x2, 0x0),
                 offsets: (0x234, 0x0),
-                bytes: &[97, 0, 98, 99, 0],
+                bytes: b"\
+\x61\x00\x62\x63\x00",
                 relocs: &[],
             },
             ClangSection {
@@ -354,7 +350,8 @@ pub static OBJECTS: [ClangObject; 5] = [
                 place: (0x18, 0x10, 3),
                 flags: (0x0, 0x0),
                 offsets: (0x240, 0x250),
-                bytes: &[0, 0, 0, 0, 0, 0, 0, 0, 0, 0, 0, 0, 0, 0, 0, 0],
+                bytes: b"\
+\x00\x00\x00\x00\x00\x00\x00\x00\x00\x00\x00\x00\x00\x00\x00\x00",
                 relocs: &[
                     (1, 0x8, 3, false, 3, true),
                     (0, 0x8, 8, false, 3, true),
@@ -366,7 +363,7 @@ pub static OBJECTS: [ClangObject; 5] = [
                 place: (0x30, 0x20, 4),
                 flags: (0x1, 0x0),
                 offsets: (0x0, 0x0),
-                bytes: &[],
+                bytes: b"",
                 relocs: &[],
             },
         ],
@@ -402,18 +399,15 @@ pub static OBJECTS: [ClangObject; 5] = [
                 place: (0x0, 0xc0, 2),
                 flags: (0x0, 0x80000400),
                 offsets: (0x3c8, 0x558),
-                bytes: &[
-                    8, 242, 158, 210, 72, 181, 178, 242, 40, 225, 215, 242, 168, 0, 232, 242, 1, 1,
-                    103, 158, 200, 205, 144, 210, 104, 3, 190, 242, 40, 63, 196, 242, 40, 1, 232,
-                    242, 2, 1, 103, 158, 0, 4, 66, 31, 192, 3, 95, 214, 253, 123, 191, 169, 253, 3,
-                    0, 145, 232, 3, 0, 170, 0, 0, 0, 144, 0, 0, 64, 249, 9, 0, 64, 249, 32, 1, 63,
-                    214, 9, 0, 64, 185, 41, 1, 8, 11, 9, 0, 0, 185, 0, 0, 0, 144, 0, 0, 64, 249, 9,
-                    0, 64, 249, 32, 1, 63, 214, 9, 0, 64, 185, 41, 1, 8, 75, 9, 0, 0, 185, 9, 5, 0,
-                    18, 41, 245, 126, 211, 10, 0, 0, 144, 74, 1, 0, 145, 72, 105, 41, 184, 10, 0,
-                    0, 144, 74, 1, 0, 145, 8, 1, 0, 18, 64, 89, 104, 248, 8, 0, 0, 144, 8, 1, 0,
-                    145, 1, 1, 9, 139, 0, 0, 0, 148, 8, 0, 0, 144, 8, 1, 64, 249, 8, 1, 64, 185, 0,
-                    1, 0, 11, 253, 123, 193, 168, 192, 3, 95, 214,
-                ],
+                bytes: b"\
+\x08\xf2\x9e\xd2\x48\xb5\xb2\xf2\x28\xe1\xd7\xf2\xa8\x00\xe8\xf2\x01\x01\x67\x9e\xc8\xcd\x90\xd2\
+\x68\x03\xbe\xf2\x28\x3f\xc4\xf2\x28\x01\xe8\xf2\x02\x01\x67\x9e\x00\x04\x42\x1f\xc0\x03\x5f\xd6\
+\xfd\x7b\xbf\xa9\xfd\x03\x00\x91\xe8\x03\x00\xaa\x00\x00\x00\x90\x00\x00\x40\xf9\x09\x00\x40\xf9\
+\x20\x01\x3f\xd6\x09\x00\x40\xb9\x29\x01\x08\x0b\x09\x00\x00\xb9\x00\x00\x00\x90\x00\x00\x40\xf9\
+\x09\x00\x40\xf9\x20\x01\x3f\xd6\x09\x00\x40\xb9\x29\x01\x08\x4b\x09\x00\x00\xb9\x09\x05\x00\x12\
+\x29\xf5\x7e\xd3\x0a\x00\x00\x90\x4a\x01\x00\x91\x48\x69\x29\xb8\x0a\x00\x00\x90\x4a\x01\x00\x91\
+\x08\x01\x00\x12\x40\x59\x68\xf8\x08\x00\x00\x90\x08\x01\x00\x91\x01\x01\x09\x8b\x00\x00\x00\x94\
+\x08\x00\x00\x90\x08\x01\x40\xf9\x08\x01\x40\xb9\x00\x01\x00\x0b\xfd\x7b\xc1\xa8\xc0\x03\x5f\xd6",
                 relocs: &[
                     (6, 0xac, 22, false, 2, true),
                     (5, 0xa8, 22, true, 2, true),
@@ -435,7 +429,8 @@ pub static OBJECTS: [ClangObject; 5] = [
                 place: (0xc0, 0x4, 2),
                 flags: (0x11, 0x0),
                 offsets: (0x488, 0x0),
-                bytes: &[7, 0, 0, 0],
+                bytes: b"\
+\x07\x00\x00\x00",
                 relocs: &[],
             },
             ClangSection {
@@ -443,10 +438,9 @@ pub static OBJECTS: [ClangObject; 5] = [
                 place: (0xc4, 0x30, 0),
                 flags: (0x13, 0x0),
                 offsets: (0x48c, 0x5c0),
-                bytes: &[
-                    0, 0, 0, 0, 0, 0, 0, 0, 0, 0, 0, 0, 0, 0, 0, 0, 0, 0, 0, 0, 0, 0, 0, 0, 0, 0,
-                    0, 0, 0, 0, 0, 0, 0, 0, 0, 0, 0, 0, 0, 0, 0, 0, 0, 0, 0, 0, 0, 0,
-                ],
+                bytes: b"\
+\x00\x00\x00\x00\x00\x00\x00\x00\x00\x00\x00\x00\x00\x00\x00\x00\x00\x00\x00\x00\x00\x00\x00\x00\
+\x00\x00\x00\x00\x00\x00\x00\x00\x00\x00\x00\x00\x00\x00\x00\x00\x00\x00\x00\x00\x00\x00\x00\x00",
                 relocs: &[
                     (0, 0x28, 11, false, 3, true),
                     (0, 0x18, 21, false, 3, true),
@@ -459,7 +453,8 @@ pub static OBJECTS: [ClangObject; 5] = [
                 place: (0xf4, 0x10, 2),
                 flags: (0x0, 0x0),
                 offsets: (0x4bc, 0x0),
-                bytes: &[1, 0, 0, 0, 2, 0, 0, 0, 3, 0, 0, 0, 4, 0, 0, 0],
+                bytes: b"\
+\x01\x00\x00\x00\x02\x00\x00\x00\x03\x00\x00\x00\x04\x00\x00\x00",
                 relocs: &[],
             },
             ClangSection {
@@ -467,7 +462,7 @@ pub static OBJECTS: [ClangObject; 5] = [
                 place: (0x190, 0x18, 2),
                 flags: (0x1, 0x0),
                 offsets: (0x0, 0x0),
-                bytes: &[],
+                bytes: b"",
                 relocs: &[],
             },
             ClangSection {
@@ -475,11 +470,10 @@ pub static OBJECTS: [ClangObject; 5] = [
                 place: (0x108, 0x38, 3),
                 flags: (0x0, 0x0),
                 offsets: (0x4d0, 0x5e0),
-                bytes: &[
-                    8, 0, 0, 0, 0, 0, 0, 0, 0, 0, 0, 0, 0, 0, 0, 0, 12, 0, 0, 0, 0, 0, 0, 0, 20, 0,
-                    0, 0, 0, 0, 0, 0, 0, 0, 0, 0, 0, 0, 0, 0, 0, 0, 0, 0, 0, 0, 0, 0, 1, 0, 0, 0,
-                    0, 0, 0, 0,
-                ],
+                bytes: b"\
+\x08\x00\x00\x00\x00\x00\x00\x00\x00\x00\x00\x00\x00\x00\x00\x00\x0c\x00\x00\x00\x00\x00\x00\x00\
+\x14\x00\x00\x00\x00\x00\x00\x00\x00\x00\x00\x00\x00\x00\x00\x00\x00\x00\x00\x00\x00\x00\x00\x00\
+\x01\x00\x00\x00\x00\x00\x00\x00",
                 relocs: &[
                     (0, 0x30, 13, false, 3, true),
                     (0, 0x28, 13, false, 3, true),
@@ -495,7 +489,7 @@ pub static OBJECTS: [ClangObject; 5] = [
                 place: (0x1a8, 0x4, 2),
                 flags: (0x12, 0x0),
                 offsets: (0x0, 0x0),
-                bytes: &[],
+                bytes: b"",
                 relocs: &[],
             },
             ClangSection {
@@ -503,7 +497,8 @@ pub static OBJECTS: [ClangObject; 5] = [
                 place: (0x140, 0x9, 0),
                 flags: (0x2, 0x0),
                 offsets: (0x508, 0x0),
-                bytes: &[122, 101, 114, 111, 0, 111, 110, 101, 0],
+                bytes: b"\
+\x7a\x65\x72\x6f\x00\x6f\x6e\x65\x00",
                 relocs: &[],
             },
             ClangSection {
@@ -511,11 +506,10 @@ pub static OBJECTS: [ClangObject; 5] = [
                 place: (0x150, 0x40, 3),
                 flags: (0x0, 0x2000000),
                 offsets: (0x518, 0x618),
-                bytes: &[
-                    0, 0, 0, 0, 0, 0, 0, 0, 48, 0, 0, 0, 0, 0, 0, 2, 0, 0, 0, 0, 0, 0, 0, 0, 0, 0,
-                    0, 0, 0, 0, 0, 0, 48, 0, 0, 0, 0, 0, 0, 0, 144, 0, 0, 0, 0, 0, 0, 4, 0, 0, 0,
-                    0, 0, 0, 0, 0, 0, 0, 0, 0, 0, 0, 0, 0,
-                ],
+                bytes: b"\
+\x00\x00\x00\x00\x00\x00\x00\x00\x30\x00\x00\x00\x00\x00\x00\x02\x00\x00\x00\x00\x00\x00\x00\x00\
+\x00\x00\x00\x00\x00\x00\x00\x00\x30\x00\x00\x00\x00\x00\x00\x00\x90\x00\x00\x00\x00\x00\x00\x04\
+\x00\x00\x00\x00\x00\x00\x00\x00\x00\x00\x00\x00\x00\x00\x00\x00",
                 relocs: &[(0, 0x20, 1, false, 3, false), (0, 0x0, 1, false, 3, false)],
             },
         ],
