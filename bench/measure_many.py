@@ -1,0 +1,133 @@
+#!/usr/bin/env python3
+"""Times the link of a folder's objects by atomld and by ld64.lld: `measure_many.py ATOMLD FOLDER RUNS`.
+
+The objects are those of make_many_objects.py. Both linkers are first run once, and their images compared: the same code
+with the same calls, and each address that is taken at the same place of its section. Then each is run so often, in
+turn, with one worker and with four (ld64.lld: with as many as it takes by itself), ld64.lld with and without a
+signature, and beside them the objects are copied by cp. Prints the least and the median of seconds and of the
+processor's, the peak memory, and the seconds as parts of those of ld64.lld with as many workers and no signature.
+"""
+import glob
+import os
+import shutil
+import statistics
+import struct
+import sys
+import tempfile
+from array import array
+from pathlib import Path
+
+from make_many_objects import FUNCTION, OTHER_OFFSET, OTHER_PAGE, OWN_OFFSET, OWN_PAGE
+from measure import LLD_WORDS, find_lld, run
+
+LLD_FORMS = {
+    "ld64.lld, 1": ["--threads=1"],
+    "ld64.lld, all": [],
+    "ld64.lld, 1, no signature": ["--threads=1", "-no_adhoc_codesign"],
+    "ld64.lld, all, no signature": ["-no_adhoc_codesign"],
+}
+ATOMLD_FORMS = {"atomld, 1": (1, "ld64.lld, 1, no signature"), "atomld, 4": (4, "ld64.lld, all, no signature")}
+
+
+def sections_of(path):
+    """The address and the bytes of each section of an image, by name."""
+    image = Path(path).read_bytes()
+    found, at = {}, 32
+    for _ in range(struct.unpack_from("<I", image, 16)[0]):
+        command, size = struct.unpack_from("<II", image, at)
+        if command == 0x19:
+            for section in range(at + 72, at + 72 + 80 * struct.unpack_from("<I", image, at + 64)[0], 80):
+                address, length, offset = struct.unpack_from("<QQI", image, section + 32)
+                found[image[section : section + 16].rstrip(b"\0")] = (address, image[offset : offset + length])
+        at += size
+    return found
+
+
+def code_of(path):
+    """The code of an image without the fields of addresses, the addresses that it takes from the start of __data, and
+    the data."""
+    sections = sections_of(path)
+    (start, code), (data_start, data) = sections[b"__text"], sections[b"__data"]
+    words = array("I")
+    words.frombytes(code)
+    step, taken = len(FUNCTION), []
+    for page_at, offset_at in ((OWN_PAGE, OWN_OFFSET), (OTHER_PAGE, OTHER_OFFSET)):
+        for i, (page, offset) in enumerate(zip(words[page_at::step], words[offset_at::step])):
+            pages = (page >> 5 & 0x7FFFF) << 2 | page >> 29 & 3
+            pages -= (pages & 1 << 20) << 1
+            from_page = start + 4 * (step * i + page_at) >> 12
+            taken.append((from_page + pages << 12) + (offset >> 10 & 0xFFF) - data_start)
+        words[page_at::step] = array("I", [word & 0x9F00001F for word in words[page_at::step]])
+        words[offset_at::step] = array("I", [word & 0xFFC003FF for word in words[offset_at::step]])
+    return words, taken, data
+
+
+def same_code(one, other):
+    """Compares two images in a process of its own: a child begins with the peak memory of its parent."""
+    child = os.fork()
+    if child == 0:
+        os._exit(0 if code_of(one) == code_of(other) else 1)
+    return os.waitstatus_to_exitcode(os.waitpid(child, 0)[1]) == 0
+
+
+def lld_path():
+    """ld64.lld, or the newest of its versions, or that of the newest LLVM in /usr/lib."""
+    found = sorted(glob.glob("/usr/lib/llvm-*/bin/ld64.lld"), key=lambda path: int(path.split("/")[3][5:].split(".")[0]))
+    return find_lld() or (found[-1] if found else None)
+
+
+def main(program, folder, runs):
+    objects = sorted(glob.glob(f"{folder}/*.o"))
+    size = sum(map(os.path.getsize, objects))
+    lld = lld_path()
+    with tempfile.TemporaryDirectory() as out_folder:
+        image, other = f"{out_folder}/atomld", f"{out_folder}/lld"
+        commands = {
+            name: [program, "-threads", str(threads), "-o", image, *objects]
+            for name, (threads, _) in ATOMLD_FORMS.items()
+        }
+        if lld:
+            for name, words in LLD_FORMS.items():
+                commands[name] = [lld, *words, *LLD_WORDS, "-o", other, *objects]
+        else:
+            print("ld64.lld isn't there: skipped")
+        copies = f"{out_folder}/copies"
+        os.mkdir(copies)
+        commands["cp"] = ["cp", "-t", copies, *objects]
+        measured = {name: [] for name in commands}
+        if lld:
+            run(commands["ld64.lld, all"])
+        for name in ATOMLD_FORMS:
+            run(commands[name])
+            if lld and not same_code(image, other):
+                sys.exit(f"{name}: other code than that of ld64.lld")
+            shutil.copy(image, f"{out_folder}/{name}")
+        if len({Path(f"{out_folder}/{name}").read_bytes() for name in ATOMLD_FORMS}) != 1:
+            sys.exit("the images of atomld differ by the number of workers")
+        for _ in range(runs):
+            # in turn, so that a busy moment of the machine meets all of them
+            for name, words in commands.items():
+                for path in (image, other):
+                    if os.path.exists(path):
+                        os.remove(path)
+                measured[name].append(run(words))
+    print(f"{len(objects)} objects, {size} bytes, {runs} runs, load {os.getloadavg()[0]:.1f} at the end")
+    print(f"{'':28}{'seconds':>9}{'median':>9}{'processor':>11}{'median':>9}{'peak MiB':>10}{'of lld':>8}{'median':>8}")
+    base = {name: [seconds for seconds, _, _ in results] for name, results in measured.items()}
+    for name, results in measured.items():
+        seconds, processor, peak = zip(*results)
+        row = f"{name:28}{min(seconds):9.3f}{statistics.median(seconds):9.3f}"
+        row += f"{min(processor):11.3f}{statistics.median(processor):9.3f}{statistics.median(peak):10.0f}"
+        if lld and name in ATOMLD_FORMS:
+            against = base[ATOMLD_FORMS[name][1]]
+            row += f"{min(seconds) / min(against):8.2f}{statistics.median(seconds) / statistics.median(against):8.2f}"
+        print(row)
+    if lld:
+        print("the code of both linkers is the same, and the image of atomld is one for all numbers of workers")
+    return 0
+
+
+if __name__ == "__main__":
+    if len(sys.argv) != 4:
+        sys.exit(__doc__)
+    sys.exit(main(sys.argv[1], sys.argv[2], int(sys.argv[3])))
