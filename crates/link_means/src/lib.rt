@@ -1,0 +1,6 @@
+//! What a link means: what is linked is an image, and what a plan writes is one that loaded files link to.
+#![tactic(auto)]
+
+mod laws;
+
+pub use laws::{a_plan_is_a_linked_image, what_is_linked_is_an_image};
