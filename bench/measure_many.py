@@ -9,6 +9,7 @@ processor's, the peak memory, and the seconds as parts of those of ld64.lld with
 """
 import glob
 import os
+import re
 import shutil
 import statistics
 import struct
@@ -72,8 +73,8 @@ def same_code(one, other):
 
 def lld_path():
     """ld64.lld, or the newest of its versions, or that of the newest LLVM in /usr/lib."""
-    found = sorted(glob.glob("/usr/lib/llvm-*/bin/ld64.lld"), key=lambda path: int(path.split("/")[3][5:].split(".")[0]))
-    return find_lld() or (found[-1] if found else None)
+    found = glob.glob("/usr/lib/llvm-*/bin/ld64.lld")
+    return find_lld() or max(found, key=lambda path: int(re.search(r"llvm-(\d+)", path).group(1)), default=None)
 
 
 def main(program, folder, runs):

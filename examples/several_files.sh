@@ -1,8 +1,8 @@
 #!/usr/bin/env bash
 # Has clang compile the three files of several/, links their objects by the built program, and checks the image by what
-# the objects say: that each function and datum stands in it once, that each of their references leads to the place of the
-# symbol that its relocation names, and each entry of the switch's table to the instruction at its label in clang's own
-# assembly. Where ld64.lld is there, its image of the same objects is checked so too, and has the same code.
+# the objects say: that each function and datum stands in it once, that each of their references leads to the place of
+# the symbol that its relocation names, and each entry of the switch's table to the instruction at its label in clang's
+# own assembly. Where ld64.lld is there, its image of the same objects is checked so too, and has the same code.
 set -euo pipefail
 examples=$(cd "$(dirname "$0")" && pwd)
 program=${1:-$examples/../crates/atomld/out/atomld}
