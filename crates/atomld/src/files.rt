@@ -19,7 +19,7 @@ use std::{fs, io, rt};
 // The most bytes that are fetched of one file.
 const FETCH_LIMIT: usize = 1 << 30;
 
-// The bytes that are read at once. They are cleared first, and then still lie in the processor's cache.
+// The most bytes that are read at once. They are cleared first, and then still lie in the processor's cache.
 const PIECE_SIZE: usize = 1 << 18;
 
 /// The files of the file system, which don't tell what they hold.
@@ -38,7 +38,8 @@ impl<R: rt::Files> DiskFiles<R> {
     }
 }
 
-// Reads the next piece behind the bytes that are filled, and answers how many bytes came.
+// Reads the next piece behind the bytes that are filled, and answers how many bytes came. A piece takes the room that there
+// is, so that a file whose size is known gets no more memory than for one byte behind its own.
 fn read_after<R: Read>(from: &mut R, into: &mut Vec<u8>, filled: usize) -> Result<usize, FetchFault>
     requires within { filled ≤ vec_len into.old }
     requires size { vec_len into.old ≤ fetch_limit }
@@ -49,7 +50,8 @@ fn read_after<R: Read>(from: &mut R, into: &mut Vec<u8>, filled: usize) -> Resul
     ensures ok { IfOk result (λ count. Consumes (R.remaining from.old) (R.remaining from.new) (take count (drop filled into.new.items))) }
     ensures end { IfOk result (λ count. count ≡ 0 → IsAtEnd (R.remaining from.new)) }
 {
-    let end = (filled + PIECE_SIZE).min(FETCH_LIMIT);
+    let room = into.capacity().saturating_sub(filled);
+    let end = (filled + room.clamp(1, PIECE_SIZE)).min(FETCH_LIMIT);
     if into.len() < end {
         into.resize(end, 0).map_err(|_| FetchFault::Memory)?;
     }
@@ -104,8 +106,7 @@ where
 {
     if let Ok(metadata) = file.metadata() {
         let size = metadata.len().min(FETCH_LIMIT as u64) as usize;
-        into.reserve(size + PIECE_SIZE)
-            .map_err(|_| FetchFault::Memory)?;
+        into.reserve(size + 1).map_err(|_| FetchFault::Memory)?;
     }
     read_whole(&mut file, into)
 }

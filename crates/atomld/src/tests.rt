@@ -11,6 +11,7 @@ use std::os::unix::fs::PermissionsExt;
 use std::process::{Abort, id};
 use std::rt::Env;
 use std::test::Fail;
+use std::thread::Threads;
 use std::{fs, io};
 
 #[test]
@@ -129,7 +130,7 @@ impl Env for Line<'_> {
 
 // What the program answers and says of a command line, where no file is there.
 fn assert_answer(
-    rt: &(impl Abort + AllocGlobal),
+    rt: &(impl Abort + AllocGlobal + Threads + Sync),
     line: &[u8],
     code: u8,
     says: &str,
@@ -139,7 +140,7 @@ fn assert_answer(
     let mut files = SureFiles::new(Items::new(alloc));
     let mut out = SureOut::new(alloc, 64)?;
     let mut diag = SureDiag::new(alloc, 64)?;
-    assert!(rt; run(alloc, words, &mut files, &mut out, &mut diag) == code);
+    assert!(rt; run(rt, alloc, words, &mut files, &mut out, &mut diag) == code);
     assert!(rt; diag.lines() == Some(says.as_bytes()));
     assert!(rt; out.path(0).is_none());
     Ok(())

@@ -40,7 +40,9 @@ fn run_case<R: Files + Print + AllocGlobal + Threads + Sync>(rt: &R, case: &Case
     let mut files = CaseFiles::new(rt, case.name());
     let mut out = SureOut::new(alloc, OUTPUT_ROOM)?;
     let mut diag = SureDiag::new(alloc, MESSAGE_ROOM)?;
-    let status = link(rt, alloc, &words, &mut files, &mut out, &mut diag, &FreeGate);
+    let status = link(
+        rt, alloc, &words, &mut files, &mut out, &mut diag, &FreeGate,
+    );
     print_row(rt, case.name(), &status, &out, &diag)
 }
 

@@ -86,14 +86,19 @@ fn written(out: &MemOut) -> Option<(usize, bool)> {
     }
 }
 
-fn assert_run<R: Abort + AllocGlobal + Threads + Sync>(rt: &R, run: Run) -> Result<(), OutOfMemory> {
+fn assert_run<R: Abort + AllocGlobal + Threads + Sync>(
+    rt: &R,
+    run: Run,
+) -> Result<(), OutOfMemory> {
     let alloc = rt.alloc();
     let (files, out, diag) = run.failing;
     let mut files = MemFiles::new(both_files(alloc)?, one_call(alloc, files)?);
     let mut out = MemOut::new(alloc, run.room, one_call(alloc, out)?)?;
     let mut diag = MemDiag::new(alloc, 64, one_call(alloc, diag)?)?;
     let words = words_of(alloc, run.words)?;
-    let status = link(rt, alloc, &words, &mut files, &mut out, &mut diag, &FreeGate);
+    let status = link(
+        rt, alloc, &words, &mut files, &mut out, &mut diag, &FreeGate,
+    );
     assert!(rt; status.code() == run.code);
     assert!(rt; diag.lines() == run.line);
     assert!(rt; written(&out) == run.written);
