@@ -1,14 +1,21 @@
 //! What holds of links. Each function is a law, which its contract states, and does nothing.
-ghost use Rattle.std.specs.Prelude.{ℕ, List, Ok};
+ghost use Rattle.std.specs.Prelude.{ℕ, Contains, List, Ok};
+ghost use Rattle.atom_work.specs.Rows.{Row};
+ghost use Rattle.image_make.specs.Made.{rows_of};
+ghost use Rattle.image_means.specs.Means.{addresses_of};
+ghost use Rattle.image_means.specs.References.{IsReferenceOf, TellsGoal, goal_of};
+ghost use Rattle.image_read.specs.Held.{AtomMap};
 ghost use Rattle.lib_bind.specs.declared.library.LibraryGraph.{LibraryGraph};
 ghost use Rattle.link_engine.specs.Verdict.{IsVerdict};
 ghost use Rattle.link_engine.specs.declared.plan.Plan.{Plan};
 ghost use Rattle.link_files.specs.Linked.{IsLinked};
 ghost use Rattle.link_means.specs.Images.{AreCut, AreOrdered, IsImageOf};
 ghost use Rattle.link_means.specs.Plans.{IsPlanOfImage};
+ghost use Rattle.link_means.specs.Tellings.{AreInForm, AreWhole, IsNotBelow, made_of};
 ghost use Rattle.mo_cmd.specs.declared.command.Command.{Command as Commanded};
 ghost use Rattle.mo_outside.specs.Answers.{Answer};
 ghost use Rattle.mo_types.specs.declared.loaded.LoadedFile.{LoadedFile};
+ghost use Rattle.mo_types.specs.declared.reference.Ref.{Ref};
 
 /// What files link to, whose ids rise and each of which is cut into the pieces of its object, is an image of the atoms that
 /// are kept: no name of theirs leads nowhere, and nothing to which they refer is in another image.
@@ -19,4 +26,10 @@ pub fn what_is_linked_is_an_image()
 /// What is planned for words and answers is the image to which the objects of the command's inputs link.
 pub fn a_plan_is_a_linked_image()
     ensures { (words : List (List ℕ)) (answers : List Answer) (plan : Plan) → IsVerdict words answers (Ok plan) → IsPlanOfImage words answers plan }
+{}
+
+/// The field of each reference of a kept atom tells the goal of the reference, which is in the image: files of whole objects
+/// that have the form leave no reference to another image, to nowhere, or to an atom that isn't kept.
+pub fn kept_references_tell_their_goals()
+    ensures { (command : Commanded) (libs : LibraryGraph) (files : List LoadedFile) (image : List ℕ) (is : IsImageOf command libs files image) (offsets : AtomMap) (section : ℕ) (row : Row) (reference : Ref) → AreOrdered files → AreWhole files → AreInForm files → Contains (rows_of (made_of is) is.layout) row → IsReferenceOf (made_of is) row reference → IsNotBelow reference.kind image (addresses_of is.layout.placed) (goal_of (made_of is) row reference.target) reference.addend → TellsGoal (made_of is) is.layout image offsets section row reference }
 {}

@@ -1,0 +1,31 @@
+-- What the references of a linked image tell.
+use Rattle.std.specs.Prelude.{ℕ, ◌≡◌, false, ℤ, pos, List, All, Some}
+use Rattle.image_make.specs.Made.{Making}
+use Rattle.image_read.specs.Held.{AtomMap, target_of}
+use Rattle.input_read.specs.Form.{is_later}
+use Rattle.lib_bind.specs.declared.library.LibraryGraph.{LibraryGraph}
+use Rattle.link_files.specs.Linked.{making}
+use Rattle.mo_cmd.specs.declared.command.Command.{Command}
+use Rattle.mo_types.specs.Loaded.{IsWholeFile}
+use Rattle.mo_types.specs.declared.goal.Goal.{Goal}
+use Rattle.mo_types.specs.declared.loaded.LoadedFile.{LoadedFile}
+use Rattle.mo_types.specs.declared.reference.RefKind.{RefKind}
+use Rattle.mo_types.specs.declared.reference.RefKind.TheVariants.{PageOff}
+use Rattle.link_means.specs.Images.{IsImageOf}
+
+-- the pieces and references of each file are those of its whole object
+abbrev pub AreWhole : List LoadedFile → Type 0
+AreWhole files = All IsWholeFile files
+
+-- no file has a form that comes with a later version
+abbrev pub AreInForm : List LoadedFile → Type 0
+AreInForm files = All (λ file. is_later file ≡ false) files
+
+-- what an image of files is made of
+abbrev pub made_of : {command : Command} {libs : LibraryGraph} {files : List LoadedFile} {image : List ℕ} → IsImageOf command libs files image → Making
+made_of {command = command} {libs = libs} {files = files} is = making command libs files is.flags is.keys
+
+-- an instruction that tells the low 12 bits of a target tells those of one that isn't below 0
+abbrev pub IsNotBelow : RefKind → List ℕ → AtomMap → Goal → ℤ → Type 0
+IsNotBelow PageOff image addresses goal addend = (target : ℕ) × (target_of image addresses goal addend ≡ Some (pos target))
+IsNotBelow _ image addresses goal addend = Unit {0}
