@@ -6,3 +6,4 @@ pub mod Refs
 pub mod Goals
 pub mod Standing
 pub mod Telling
+pub mod Fetched

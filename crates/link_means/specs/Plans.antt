@@ -7,7 +7,8 @@ use Rattle.link_engine.specs.Verdict.{no_libraries, plan_of}
 use Rattle.link_engine.specs.declared.plan.Plan.{Plan}
 use Rattle.link_files.specs.Linked.{IsLinked}
 use Rattle.mo_cmd.specs.declared.command.Command.{Command}
-use Rattle.mo_outside.specs.Answers.{Answer}
+use Rattle.mo_obj.specs.Read.{AreBytes}
+use Rattle.mo_outside.specs.Answers.{Answer, There}
 use Rattle.mo_types.specs.declared.loaded.Loaded.{Loaded}
 use Rattle.link_means.specs.Images.{AreCut, AreOrdered, IsImageOf}
 
@@ -26,3 +27,8 @@ pub record IsPlanOfImage (words : List (List ℕ)) (answers : List Answer) (plan
   pub cut : AreCut loaded.files
   pub linked : IsLinked command no_libraries loaded.files (Ok image)
   pub image_of : IsImageOf command no_libraries loaded.files image
+
+-- the numbers that a file answered are bytes
+abbrev pub HaveBytes : Answer → Type 0
+HaveBytes (There bytes) = AreBytes bytes
+HaveBytes _ = Unit {0}
