@@ -1,18 +1,17 @@
 -- The objects of what is planned are whole.
-use Rattle.std.proofs.Common.{◌≡◌, ℕ, ◌+◌, ◌<◌, ◌≤◌, ◌^◌, false, true, Bool, nat_lt, List, [], ◌∷◌, length, get_or, Option, Some, None, Result, Ok, Err, inl, inr, refl, sym, ap, ◌∙◌, subst, arith}
+use Rattle.std.proofs.Common.{◌≡◌, ℕ, ◌+◌, ◌<◌, ◌^◌, false, true, Bool, nat_lt, List, [], ◌∷◌, length, get_or, Result, Ok, Err, refl, sym, subst, arith}
 use Rattle.std.specs.Prelude.{All}
 use Rattle.std.specs.List.{AllByRecursion}
 use Rattle.std.specs.Result.{IfErr}
 use Rattle.std.proofs.lemmas.Bool.{ltb-true}
-use Rattle.list_lemmas.proofs.Members.{In, all_at}
+use Rattle.list_lemmas.proofs.Members.{all_at}
 use Rattle.std.proofs.lemmas.List.Elements.{recursion_from_All}
 use Rattle.input_read.proofs.FileLemmas.{IsObjectOf, from_input}
 use Rattle.input_read.proofs.LawLemmas.{all_formed, each_count, each_object}
 use Rattle.input_read.specs.Reading.{loaded_of, object_of_input}
 use Rattle.link_engine.specs.Input.{content_of, contents_of, inputs_from}
 use Rattle.link_engine.specs.declared.plan.Plan.{Plan}
-use Rattle.link_engine.specs.declared.stop.Stop.{Stop}
-use Rattle.member_rounds.specs.Files.{file_with, id_at, refs_or_none}
+use Rattle.member_rounds.specs.Files.{id_at, refs_or_none}
 use Rattle.member_rounds.specs.declared.input.Input.{Input}
 use Rattle.mo_cmd.specs.declared.command.CommandInput.{CommandInput}
 use Rattle.mo_obj.proofs.WholeLemmas.{read_whole}
@@ -25,13 +24,10 @@ use Rattle.mo_outside.specs.Answers as answer
 use Rattle.mo_types.specs.Gives.{◌>>=◌, guarded}
 use Rattle.mo_types.specs.Loaded.{IsWholeFile}
 use Rattle.mo_types.specs.Refs.{refs_of}
-use Rattle.mo_types.specs.declared.cause.Feature.{Feature}
 use Rattle.mo_types.specs.declared.cause.Which.TheVariants.{Symbols}
-use Rattle.mo_types.specs.declared.key.FileId.{FileId}
 use Rattle.mo_types.specs.declared.loaded.Loaded.{Loaded}
 use Rattle.mo_types.specs.declared.loaded.LoadedFile.{LoadedFile}
 use Rattle.mo_types.specs.declared.object.Object.{Object}
-use Rattle.mo_types.specs.declared.object_fault.ObjFault.{ObjFault}
 use Rattle.mo_types.specs.declared.object_fault.ObjFault.TheVariants.{Limit}
 use Rattle.mo_types.specs.declared.reference.Ref.{Ref}
 use Rattle.mo_types.specs.declared.reference_fault.RefFault.{RefFault}
