@@ -31,7 +31,7 @@ use Rattle.mo_types.specs.declared.object.Object.{Object}
 use Rattle.mo_types.specs.declared.object_fault.ObjFault.TheVariants.{Limit}
 use Rattle.mo_types.specs.declared.reference.Ref.{Ref}
 use Rattle.mo_types.specs.declared.reference_fault.RefFault.{RefFault}
-use Rattle.link_means.specs.Plans.{IsPlanOfImage, HaveBytes}
+use Rattle.link_means.specs.Plans.{IsPlanOfImage, HasBytes}
 use Rattle.link_means.specs.Tellings.{AreInForm, AreWhole}
 
 no_value : {A E : Type 0} {Y : Type 0} (x : E) (y : A) → ◌≡◌ {A = Result A E} (Err x) (Ok y) → Y
@@ -80,13 +80,13 @@ whole_is input file bytes is =
 
 -- ---- what was fetched
 
-bytes_of : (path : List ℕ) (one : Answer) (bytes : List ℕ) → HaveBytes one → content_of path one ≡ Ok bytes → AreBytes bytes
+bytes_of : (path : List ℕ) (one : Answer) (bytes : List ℕ) → HasBytes one → content_of path one ≡ Ok bytes → AreBytes bytes
 bytes_of path (There some) bytes have e = subst (λ (bs : List ℕ). AreBytes bs) (same_value some bytes e) have
 bytes_of path Absent bytes have e = no_value _ bytes e
 bytes_of path Unread bytes have e = no_value _ bytes e
 bytes_of path answer.Refused bytes have e = no_value _ bytes e
 
-contents_are : (inputs : List CommandInput) (answers : List Answer) (contents : List (List ℕ)) → AllByRecursion HaveBytes answers → contents_of inputs answers ≡ Ok contents → AllByRecursion AreBytes contents
+contents_are : (inputs : List CommandInput) (answers : List Answer) (contents : List (List ℕ)) → AllByRecursion HasBytes answers → contents_of inputs answers ≡ Ok contents → AllByRecursion AreBytes contents
 contents_are [] answers contents have e = subst (λ (cs : List (List ℕ)). AllByRecursion AreBytes cs) (same_value [] contents e) tt
 contents_are (input ∷ inputs) [] contents have e = no_value _ contents e
 contents_are (input ∷ inputs) (one ∷ answers) contents have e =
@@ -106,9 +106,9 @@ all_whole inputs loaded are is = λ k d low.
     let within : k < length inputs = omega (arith, low, each_count inputs loaded is) in
     whole_is (get_or inputs k none) (get_or loaded.files k d) (all_at (λ (input : Input). AreBytes input.bytes) inputs k none are within) (each_object inputs loaded k none d is within)
 
-pub planned_whole : (words : List (List ℕ)) (answers : List Answer) (plan : Plan) (is : IsPlanOfImage words answers plan) → All HaveBytes answers → AreWhole is.loaded.files
+pub planned_whole : (words : List (List ℕ)) (answers : List Answer) (plan : Plan) (is : IsPlanOfImage words answers plan) → All HasBytes answers → AreWhole is.loaded.files
 planned_whole words answers plan is have =
-    all_whole (inputs_from 0 is.command.inputs is.contents) is.loaded (inputs_are 0 is.command.inputs is.contents (contents_are is.command.inputs answers is.contents (recursion_from_All HaveBytes answers have) is.fetched)) is.read
+    all_whole (inputs_from 0 is.command.inputs is.contents) is.loaded (inputs_are 0 is.command.inputs is.contents (contents_are is.command.inputs answers is.contents (recursion_from_All HasBytes answers have) is.fetched)) is.read
 
 pub planned_in_form : (words : List (List ℕ)) (answers : List Answer) (plan : Plan) (is : IsPlanOfImage words answers plan) → AreInForm is.loaded.files
 planned_in_form words answers plan is = all_formed (inputs_from 0 is.command.inputs is.contents) is.loaded is.read

@@ -29,6 +29,6 @@ pub record IsPlanOfImage (words : List (List ℕ)) (answers : List Answer) (plan
   pub image_of : IsImageOf command no_libraries loaded.files image
 
 -- the numbers that a file answered are bytes
-abbrev pub HaveBytes : Answer → Type 0
-HaveBytes (There bytes) = AreBytes bytes
-HaveBytes _ = Unit {0}
+abbrev pub HasBytes : Answer → Type 0
+HasBytes (There bytes) = AreBytes bytes
+HasBytes _ = Unit {0}

@@ -10,7 +10,7 @@ ghost use Rattle.link_engine.specs.Verdict.{IsVerdict};
 ghost use Rattle.link_engine.specs.declared.plan.Plan.{Plan};
 ghost use Rattle.link_files.specs.Linked.{IsLinked};
 ghost use Rattle.link_means.specs.Images.{AreCut, AreOrdered, IsImageOf};
-ghost use Rattle.link_means.specs.Plans.{HaveBytes, IsPlanOfImage};
+ghost use Rattle.link_means.specs.Plans.{HasBytes, IsPlanOfImage};
 ghost use Rattle.link_means.specs.Tellings.{AreInForm, AreWhole, IsNotBelow, made_of};
 ghost use Rattle.mo_cmd.specs.declared.command.Command.{Command as Commanded};
 ghost use Rattle.mo_outside.specs.Answers.{Answer};
@@ -28,15 +28,15 @@ pub fn a_plan_is_a_linked_image()
     ensures { (words : List (List ℕ)) (answers : List Answer) (plan : Plan) → IsVerdict words answers (Ok plan) → IsPlanOfImage words answers plan }
 {}
 
-/// The field of each reference of a kept atom tells the goal of the reference, which is in the image: files of whole objects
-/// that have the form leave no reference to another image, to nowhere, or to an atom that isn't kept.
+/// The field of each reference of an atom with bytes tells the goal of the reference, which the image has, unless it is to
+/// tell an offset in a page of a target below 0: where the files' objects are whole and have the form, no such reference
+/// leads to another image, nowhere, or to an atom that isn't kept.
 pub fn kept_references_tell_their_goals()
     ensures { (command : Commanded) (libs : LibraryGraph) (files : List LoadedFile) (image : List ℕ) (is : IsImageOf command libs files image) (offsets : AtomMap) (section : ℕ) (row : Row) (reference : Ref) → AreOrdered files → AreWhole files → AreInForm files → Contains (rows_of (made_of is) is.layout) row → IsReferenceOf (made_of is) row reference → IsNotBelow reference.kind image (addresses_of is.layout.placed) (goal_of (made_of is) row reference.target) reference.addend → TellsGoal (made_of is) is.layout image offsets section row reference }
 {}
 
-/// Where the files answered with bytes, the objects of what is planned are whole, and they have the form: so each reference
-/// of the image tells its goal.
+/// The objects of what is planned have the form, and where the files answered with bytes they are whole.
 pub fn what_is_planned_is_of_whole_objects()
-    ensures whole { (words : List (List ℕ)) (answers : List Answer) (plan : Plan) (is : IsPlanOfImage words answers plan) → All HaveBytes answers → AreWhole is.loaded.files }
+    ensures whole { (words : List (List ℕ)) (answers : List Answer) (plan : Plan) (is : IsPlanOfImage words answers plan) → All HasBytes answers → AreWhole is.loaded.files }
     ensures form { (words : List (List ℕ)) (answers : List Answer) (plan : Plan) (is : IsPlanOfImage words answers plan) → AreInForm is.loaded.files }
 {}
