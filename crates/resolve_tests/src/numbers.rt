@@ -67,22 +67,27 @@ fn holds(table: &NameTable, names: &[&[u8]]) -> bool {
             .all(|(name, id)| table.id_of(*name) == Some(id))
 }
 
-#[test]
-fn names_get_numbers(rt: HostRuntime) -> Result<(), Fail> {
-    let alloc = rt.alloc();
-    let loaded = sample(alloc)?;
+// Two further names, of which one stands in a file too.
+fn further(alloc: Global) -> Result<NameList, OutOfMemory> {
     let mut extra = NameList::new(alloc);
     extra.push(Bytes::from_static(b"_b"))?;
     extra.push(Bytes::from_static(b""))?;
-    let table = gather(alloc, &loaded, &extra).ok();
-    assert!(rt;
-        table.is_some_and(|table| {
-            holds(&table, &[b"_main", b"_a", b"_b", b""])
-                && table.id_of(b"l_one").is_none()
-                && table.id_of(b"_").is_none()
-        })
-    );
-    Ok(())
+    Ok(extra)
+}
+
+fn numbers_are_given(table: &NameTable) -> bool {
+    holds(table, &[b"_main", b"_a", b"_b", b""])
+        && table.id_of(b"l_one").is_none()
+        && table.id_of(b"_").is_none()
+}
+
+fn names_get_numbers(alloc: Global) -> Result<bool, OutOfMemory> {
+    let extra = further(alloc)?;
+    let loaded = sample(alloc)?;
+    match &gather(alloc, &loaded, &extra) {
+        Ok(table) => Ok(numbers_are_given(table)),
+        Err(_) => Ok(false),
+    }
 }
 
 // A name of a number: `_n` and seven digits, the lowest first.
@@ -108,27 +113,34 @@ fn large(alloc: Global, count: u32, names: u32) -> Result<Loaded, OutOfMemory> {
     Ok(Loaded { files })
 }
 
+fn leads_to(alloc: Global, table: &NameTable, id: u32, name: &[u8]) -> Result<bool, OutOfMemory> {
+    let want = name_of(alloc, id)?;
+    Ok(name == want.as_slice() && table.id_of(name) == Some(id))
+}
+
 // Whether each number leads to its name, and the name back to it.
 fn leads_back(alloc: Global, table: &NameTable) -> Result<bool, OutOfMemory> {
     for id in 0..table.len() {
-        let name = table.name_of(id);
-        if name != name_of(alloc, id)?.as_slice() || table.id_of(name) != Some(id) {
+        if !leads_to(alloc, table, id, table.name_of(id))? {
             return Ok(false);
         }
     }
-    Ok(true)
+    Ok(table.len() == 20_000)
+}
+
+fn thousands_of_names(alloc: Global) -> Result<bool, OutOfMemory> {
+    let extra = NameList::new(alloc);
+    let loaded = large(alloc, 100_000, 20_000)?;
+    match &gather(alloc, &loaded, &extra) {
+        Ok(table) => leads_back(alloc, table),
+        Err(_) => Ok(false),
+    }
 }
 
 #[test]
-fn thousands_of_names(rt: HostRuntime) -> Result<(), Fail> {
+fn names_are_numbered(rt: HostRuntime) -> Result<(), Fail> {
     let alloc = rt.alloc();
-    let loaded = large(alloc, 100_000, 20_000)?;
-    let extra = NameList::new(alloc);
-    let table = gather(alloc, &loaded, &extra).ok();
-    assert!(rt; table.is_some());
-    if let Some(table) = table {
-        assert!(rt; table.len() == 20_000);
-        assert!(rt; leads_back(alloc, &table)?);
-    }
+    assert!(rt; names_get_numbers(alloc)?);
+    assert!(rt; thousands_of_names(alloc)?);
     Ok(())
 }

@@ -1,6 +1,6 @@
 //! The references of kept atoms against tables that were written by hand.
 
-use kept_refs::{GoalTable, ref_order, spots_of_atom, undefined};
+use kept_refs::{GoalTable, Lost, ref_order, spots_of_atom, undefined};
 use mark_core::kept;
 use mo_types::{
     AtomKey, AtomList, Bytes, EdgeList, FileId, Goal, GoalList, KeyList, Loaded, LoadedFile,
@@ -120,21 +120,31 @@ type Case = (
     Option<(&'static [u8], &'static [u8])>,
 );
 
-fn tells(alloc: Global, files: &[File], case: &Case) -> Result<bool, OutOfMemory> {
-    let (atoms, wanted, told) = case;
-    let (loaded, table) = link(alloc, files)?;
-    let none = EdgeList::new(alloc);
-    let kept = kept(alloc, &none, &none, &keys(alloc, atoms)?)?;
+fn names_of(alloc: Global, wanted: &[&'static [u8]]) -> Result<Vec<Bytes>, OutOfMemory> {
     let mut names = Vec::new(alloc);
-    for name in *wanted {
+    for name in wanted {
         names.push(Bytes::from_static(*name))?;
     }
-    let lost = undefined(&loaded, &table, &kept, names.as_slice());
-    Ok(match (lost, told) {
+    Ok(names)
+}
+
+fn is_told(lost: &Option<Lost>, told: &Option<(&'static [u8], &'static [u8])>) -> bool {
+    match (lost, told) {
         (Some(lost), Some((name, label))) => lost.name == *name && lost.label == *label,
         (None, None) => true,
         _ => false,
-    })
+    }
+}
+
+fn tells(alloc: Global, files: &[File], case: &Case) -> Result<bool, OutOfMemory> {
+    let (atoms, wanted, told) = case;
+    let none = EdgeList::new(alloc);
+    let roots = keys(alloc, atoms)?;
+    let kept = kept(alloc, &none, &none, &roots)?;
+    let names = names_of(alloc, wanted)?;
+    let (loaded, table) = link(alloc, files)?;
+    let lost = undefined(&loaded, &table, &kept, names.as_slice());
+    Ok(is_told(&lost, told))
 }
 
 // Two files: `a.o` refers from 0 to the header, and from 8 to `_z`; `b.o` from 0 to `_z`, and from 4 to the header less
@@ -159,39 +169,40 @@ const CASES: [Case; 8] = [
     (&[(0, 8)], &[b"_z"], Some((b"_z", b"a.o"))),
 ];
 
+// The references of three atoms.
+const SPOTS: [Row; 5] = [
+    (16, 5, None),
+    (0, 4, None),
+    (16, 3, None),
+    (8, 2, None),
+    (0, 1, None),
+];
+
+// The offsets of atoms, and the indices of their references.
+const ORDER: [(u64, &[u32]); 4] = [(0, &[1, 4]), (8, &[3]), (16, &[0, 2]), (12, &[])];
+
+fn references_are_found_by_their_atoms(alloc: Global) -> Result<bool, OutOfMemory> {
+    let refs = refs_of(alloc, 0, &SPOTS)?;
+    let order = ref_order(alloc, &refs)?;
+    for (offset, wanted) in &ORDER {
+        let found = spots_of_atom(order.as_slice(), 1, *offset);
+        if !found
+            .iter()
+            .map(|spot| spot.index)
+            .eq(wanted.iter().copied())
+        {
+            return Ok(false);
+        }
+    }
+    Ok(true)
+}
+
 #[test]
 fn least_undefined_name_is_told(rt: HostRuntime) -> Result<(), Fail> {
     let alloc = rt.alloc();
     for case in &CASES {
         assert!(rt; tells(alloc, &FILES, case)?);
     }
-    Ok(())
-}
-
-#[test]
-fn references_are_found_by_their_atoms(rt: HostRuntime) -> Result<(), Fail> {
-    let alloc = rt.alloc();
-    let refs = refs_of(
-        alloc,
-        0,
-        &[
-            (16, 5, None),
-            (0, 4, None),
-            (16, 3, None),
-            (8, 2, None),
-            (0, 1, None),
-        ],
-    )?;
-    let order = ref_order(alloc, &refs)?;
-    let cases: [(u64, &[u32]); 4] = [(0, &[1, 4]), (8, &[3]), (16, &[0, 2]), (12, &[])];
-    for (offset, wanted) in &cases {
-        let found = spots_of_atom(order.as_slice(), 1, *offset);
-        assert!(rt;
-            found
-                .iter()
-                .map(|spot| spot.index)
-                .eq(wanted.iter().copied())
-        );
-    }
+    assert!(rt; references_are_found_by_their_atoms(alloc)?);
     Ok(())
 }

@@ -194,9 +194,7 @@ fn has(alloc: Global, rows: &[Row], wanted: Pair) -> Result<bool, OutOfMemory> {
     })
 }
 
-#[test]
-fn duplicates(rt: HostRuntime) -> Result<(), Fail> {
-    let alloc = rt.alloc();
+fn duplicates_are_told(alloc: Global) -> Result<bool, OutOfMemory> {
     let main: Row = ((0, 0), &[(b"_main", Is::Strong), (b"_f", Is::Undefined)]);
     let strong: &[(&'static [u8], Is)] = &[(b"_f", Is::Strong)];
     let weak: &[(&'static [u8], Is)] = &[(b"_f", Is::Weak), (b"_f", Is::Common(8, 3))];
@@ -247,9 +245,11 @@ fn duplicates(rt: HostRuntime) -> Result<(), Fail> {
         ),
     ];
     for (files, wanted) in rows {
-        assert!(rt; has(alloc, files, wanted)?, "{wanted:?}");
+        if !has(alloc, files, wanted)? {
+            return Ok(false);
+        }
     }
-    Ok(())
+    Ok(true)
 }
 
 // A file's position, and of its one section the name, the type, the alignment and the bytes.
@@ -317,9 +317,7 @@ fn stand(alloc: Global, rows: &[Section1], wanted: &[Stands]) -> Result<bool, Ou
     )
 }
 
-#[test]
-fn literals_have_representatives(rt: HostRuntime) -> Result<(), Fail> {
-    let alloc = rt.alloc();
+fn literals_have_representatives(alloc: Global) -> Result<bool, OutOfMemory> {
     let strings: &'static [u8] = b"__cstring";
     let words: &'static [u8] = b"__literal4";
     let rows: [(&[Section1], &[Stands]); 5] = [
@@ -358,9 +356,11 @@ fn literals_have_representatives(rt: HostRuntime) -> Result<(), Fail> {
         (&[(0, b"__const", 0, 0, b"hi\0")], &[]),
     ];
     for (sections, wanted) in rows {
-        assert!(rt; stand(alloc, sections, wanted)?, "{sections:?}");
+        if !stand(alloc, sections, wanted)? {
+            return Ok(false);
+        }
     }
-    Ok(())
+    Ok(true)
 }
 
 // What symbols are, and the section and offset of their atoms and their offsets in these. The section has two strings
@@ -440,9 +440,19 @@ fn are_placed(file: &LoadedFile) -> bool
     count == PLACES.len()
 }
 
+fn symbols_have_places(alloc: Global) -> Result<bool, OutOfMemory> {
+    let file = placed(alloc, id_of((3, 9)))?;
+    match &file {
+        Some(file) => Ok(are_placed(file)),
+        None => Ok(false),
+    }
+}
+
 #[test]
-fn symbols_have_places(rt: HostRuntime) -> Result<(), Fail> {
-    let file = placed(rt.alloc(), id_of((3, 9)))?;
-    assert!(rt; file.is_some_and(|file| are_placed(&file)));
+fn duplicates(rt: HostRuntime) -> Result<(), Fail> {
+    let alloc = rt.alloc();
+    assert!(rt; duplicates_are_told(alloc)?);
+    assert!(rt; literals_have_representatives(alloc)?);
+    assert!(rt; symbols_have_places(alloc)?);
     Ok(())
 }

@@ -50,348 +50,342 @@ fn is_as_wanted(row: &Row) -> bool {
 }
 
 // Each kind at both ends of its range and one past. Words are what llvm-mc makes of `bl`, `b` and `adrp`.
-#[test]
-fn fields_hold_their_values(rt: HostRuntime) {
-    let rows: [Row; 46] = [
-        (
-            RefKind::Branch,
-            0x94000000,
-            ADDRESS + 0x7fffffc,
-            0,
-            0,
-            Ok(0x95ffffff),
-        ),
-        (
-            RefKind::Branch,
-            0x94000000,
-            ADDRESS + 0x8000000,
-            0,
-            0,
-            Err((RangeKind::Branch, 134217728)),
-        ),
-        (
-            RefKind::Branch,
-            0x94000000,
-            ADDRESS - 0x8000000,
-            0,
-            0,
-            Ok(0x96000000),
-        ),
-        (
-            RefKind::Branch,
-            0x94000000,
-            ADDRESS - 0x8000004,
-            0,
-            0,
-            Err((RangeKind::Branch, -134217732)),
-        ),
-        (
-            RefKind::Branch,
-            0x94000000,
-            ADDRESS + 2,
-            0,
-            0,
-            Err((RangeKind::Branch, 2)),
-        ),
-        (
-            RefKind::Branch,
-            0x94000000,
-            ADDRESS - 4,
-            0,
-            8,
-            Ok(0x94000001),
-        ),
-        (
-            RefKind::Branch,
-            0xaaaa_aaaa_95ff_ffff,
-            ADDRESS,
-            0,
-            0,
-            Ok(0xaaaa_aaaa_9400_0000),
-        ),
-        (
-            RefKind::Branch,
-            0x14000000,
-            ADDRESS + 0x7fffffc,
-            0,
-            0,
-            Ok(0x15ffffff),
-        ),
-        (
-            RefKind::Branch,
-            0x94000000,
-            u64::MAX,
-            0,
-            1,
-            Err((RangeKind::Branch, 1 << 64)),
-        ),
-        (
-            RefKind::Branch,
-            0x94000000,
-            0,
-            0,
-            -1,
-            Err((RangeKind::Branch, -1)),
-        ),
-        (
-            RefKind::Branch,
-            0x94000000,
-            u64::MAX,
-            0,
-            0,
-            Err((RangeKind::Branch, 0xffff_fffe_ffff_bfff)),
-        ),
-        (
-            RefKind::Page,
-            0x90000000,
-            0x1_0000_5fff,
-            0,
-            0,
-            Ok(0xb0000000),
-        ),
-        (
-            RefKind::Page,
-            0x90000000,
-            0x1_0000_4ff8,
-            0,
-            8,
-            Ok(0xb0000000),
-        ),
-        (
-            RefKind::Page,
-            0x90000000,
-            0x1_0000_4ff8,
-            0,
-            7,
-            Ok(0x90000000),
-        ),
-        (
-            RefKind::Page,
-            0x90000000,
-            0x2_0000_3fff,
-            0,
-            0,
-            Ok(0xf07fffe0),
-        ),
-        (
-            RefKind::Page,
-            0x90000000,
-            0x2_0000_4000,
-            0,
-            0,
-            Err((RangeKind::Page, 1048576)),
-        ),
-        (RefKind::Page, 0x90000000, 0x4000, 0, 0, Ok(0x90800000)),
-        (
-            RefKind::Page,
-            0x90000000,
-            0x3fff,
-            0,
-            0,
-            Err((RangeKind::Page, -1048577)),
-        ),
-        (
-            RefKind::Page,
-            0x90000000,
-            u64::MAX,
-            0,
-            1,
-            Err((RangeKind::Page, 1 << 64)),
-        ),
-        (
-            RefKind::Page,
-            0x90000000,
-            8,
-            0,
-            -9,
-            Err((RangeKind::Page, -1)),
-        ),
-        (
-            RefKind::GotPage,
-            0xf07fffe0,
-            0x1_0000_5000,
-            0,
-            0,
-            Ok(0xb0000000),
-        ),
-        (
-            RefKind::GotPage,
-            0x90000000,
-            0x2_0000_4000,
-            0,
-            0,
-            Err((RangeKind::Page, 1048576)),
-        ),
-        (
-            RefKind::TlvPage,
-            0x90000000,
-            0x1_0000_7000,
-            0,
-            0,
-            Ok(0xf0000000),
-        ),
-        (
-            RefKind::TlvPage,
-            0x90000000,
-            0x2_0000_4000,
-            0,
-            0,
-            Err((RangeKind::Page, 1048576)),
-        ),
-        // addend_before_page_offset
-        (
-            RefKind::PageOff,
-            0x3dc00000,
-            0x1_0000_4030,
-            0,
-            16,
-            Ok(0x3dc01000),
-        ),
-        (
-            RefKind::PageOff,
-            0x3dc00000,
-            0x1_0000_4038,
-            0,
-            16,
-            Err((RangeKind::LowBits, 0x48)),
-        ),
-        (RefKind::PageOff, 0x91000020, 0, 0, -16, Ok(0x913fc020)),
-        (
-            RefKind::GotPageOff,
-            0xf9400020,
-            0x1_0000_4028,
-            0,
-            0,
-            Ok(0xf9401420),
-        ),
-        (
-            RefKind::GotPageOff,
-            0xf9400020,
-            0x1_0000_402c,
-            0,
-            0,
-            Err((RangeKind::LowBits, 0x2c)),
-        ),
-        (
-            RefKind::TlvPageOff,
-            0x91000020,
-            0x1_0000_4030,
-            0,
-            0,
-            Ok(0x9100c020),
-        ),
-        (
-            RefKind::TlvPageOff,
-            0xf9400020,
-            0x1_0000_4001,
-            0,
-            0,
-            Err((RangeKind::LowBits, 1)),
-        ),
-        (
-            RefKind::Pointer,
-            0xffff,
-            ADDRESS,
-            0,
-            -0x4000,
-            Ok(0x1_0000_0000),
-        ),
-        (RefKind::Pointer, 0, u64::MAX, 0, 2, Ok(1)),
-        (RefKind::Pointer, 0, 0, 0, -1, Ok(u64::MAX)),
-        (
-            RefKind::GotPointer,
-            0,
-            0x8000_0000_0000_0001,
-            0,
-            i64::MIN,
-            Ok(1),
-        ),
-        (RefKind::Diff64, 0, 8, 16, 4, Ok(0xffff_ffff_ffff_fffc)),
-        (
-            RefKind::Diff64,
-            7,
-            u64::MAX,
-            0,
-            i64::MAX,
-            Ok(0x7fff_ffff_ffff_fffe),
-        ),
-        (
-            RefKind::Diff32,
-            0,
-            0x1_7fff_ffff,
-            0x1_0000_0000,
-            0,
-            Ok(0x7fff_ffff),
-        ),
-        (
-            RefKind::Diff32,
-            0,
-            0x1_7fff_ffff,
-            0x1_0000_0000,
-            1,
-            Err((RangeKind::Diff32, 0x8000_0000)),
-        ),
-        (
-            RefKind::Diff32,
-            0,
-            0x8000_0000,
-            0x1_0000_0000,
-            0,
-            Ok(0x8000_0000),
-        ),
-        (
-            RefKind::Diff32,
-            0,
-            0x8000_0000,
-            0x1_0000_0000,
-            -1,
-            Err((RangeKind::Diff32, -0x8000_0001)),
-        ),
-        (
-            RefKind::Diff32,
-            0,
-            u64::MAX,
-            0,
-            i64::MAX,
-            Err((RangeKind::Diff32, 0x1_7fff_ffff_ffff_fffe)),
-        ),
-        (
-            RefKind::GotDelta,
-            0,
-            ADDRESS + 0x7fff_ffff,
-            0,
-            0,
-            Ok(0x7fff_ffff),
-        ),
-        (
-            RefKind::GotDelta,
-            0,
-            ADDRESS + 0x8000_0000,
-            0,
-            0,
-            Err((RangeKind::GotDelta, 0x8000_0000)),
-        ),
-        (
-            RefKind::GotDelta,
-            0,
-            ADDRESS - 0x8000_0000,
-            0,
-            0,
-            Ok(0x8000_0000),
-        ),
-        (
-            RefKind::GotDelta,
-            0,
-            ADDRESS - 0x8000_0001,
-            0,
-            0,
-            Err((RangeKind::GotDelta, -0x8000_0001)),
-        ),
-    ];
-    for row in rows.iter() {
-        assert!(rt; is_as_wanted(row), "{row:?}");
-    }
-}
+static FIELDS: [Row; 46] = [
+    (
+        RefKind::Branch,
+        0x94000000,
+        ADDRESS + 0x7fffffc,
+        0,
+        0,
+        Ok(0x95ffffff),
+    ),
+    (
+        RefKind::Branch,
+        0x94000000,
+        ADDRESS + 0x8000000,
+        0,
+        0,
+        Err((RangeKind::Branch, 134217728)),
+    ),
+    (
+        RefKind::Branch,
+        0x94000000,
+        ADDRESS - 0x8000000,
+        0,
+        0,
+        Ok(0x96000000),
+    ),
+    (
+        RefKind::Branch,
+        0x94000000,
+        ADDRESS - 0x8000004,
+        0,
+        0,
+        Err((RangeKind::Branch, -134217732)),
+    ),
+    (
+        RefKind::Branch,
+        0x94000000,
+        ADDRESS + 2,
+        0,
+        0,
+        Err((RangeKind::Branch, 2)),
+    ),
+    (
+        RefKind::Branch,
+        0x94000000,
+        ADDRESS - 4,
+        0,
+        8,
+        Ok(0x94000001),
+    ),
+    (
+        RefKind::Branch,
+        0xaaaa_aaaa_95ff_ffff,
+        ADDRESS,
+        0,
+        0,
+        Ok(0xaaaa_aaaa_9400_0000),
+    ),
+    (
+        RefKind::Branch,
+        0x14000000,
+        ADDRESS + 0x7fffffc,
+        0,
+        0,
+        Ok(0x15ffffff),
+    ),
+    (
+        RefKind::Branch,
+        0x94000000,
+        u64::MAX,
+        0,
+        1,
+        Err((RangeKind::Branch, 1 << 64)),
+    ),
+    (
+        RefKind::Branch,
+        0x94000000,
+        0,
+        0,
+        -1,
+        Err((RangeKind::Branch, -1)),
+    ),
+    (
+        RefKind::Branch,
+        0x94000000,
+        u64::MAX,
+        0,
+        0,
+        Err((RangeKind::Branch, 0xffff_fffe_ffff_bfff)),
+    ),
+    (
+        RefKind::Page,
+        0x90000000,
+        0x1_0000_5fff,
+        0,
+        0,
+        Ok(0xb0000000),
+    ),
+    (
+        RefKind::Page,
+        0x90000000,
+        0x1_0000_4ff8,
+        0,
+        8,
+        Ok(0xb0000000),
+    ),
+    (
+        RefKind::Page,
+        0x90000000,
+        0x1_0000_4ff8,
+        0,
+        7,
+        Ok(0x90000000),
+    ),
+    (
+        RefKind::Page,
+        0x90000000,
+        0x2_0000_3fff,
+        0,
+        0,
+        Ok(0xf07fffe0),
+    ),
+    (
+        RefKind::Page,
+        0x90000000,
+        0x2_0000_4000,
+        0,
+        0,
+        Err((RangeKind::Page, 1048576)),
+    ),
+    (RefKind::Page, 0x90000000, 0x4000, 0, 0, Ok(0x90800000)),
+    (
+        RefKind::Page,
+        0x90000000,
+        0x3fff,
+        0,
+        0,
+        Err((RangeKind::Page, -1048577)),
+    ),
+    (
+        RefKind::Page,
+        0x90000000,
+        u64::MAX,
+        0,
+        1,
+        Err((RangeKind::Page, 1 << 64)),
+    ),
+    (
+        RefKind::Page,
+        0x90000000,
+        8,
+        0,
+        -9,
+        Err((RangeKind::Page, -1)),
+    ),
+    (
+        RefKind::GotPage,
+        0xf07fffe0,
+        0x1_0000_5000,
+        0,
+        0,
+        Ok(0xb0000000),
+    ),
+    (
+        RefKind::GotPage,
+        0x90000000,
+        0x2_0000_4000,
+        0,
+        0,
+        Err((RangeKind::Page, 1048576)),
+    ),
+    (
+        RefKind::TlvPage,
+        0x90000000,
+        0x1_0000_7000,
+        0,
+        0,
+        Ok(0xf0000000),
+    ),
+    (
+        RefKind::TlvPage,
+        0x90000000,
+        0x2_0000_4000,
+        0,
+        0,
+        Err((RangeKind::Page, 1048576)),
+    ),
+    // addend_before_page_offset
+    (
+        RefKind::PageOff,
+        0x3dc00000,
+        0x1_0000_4030,
+        0,
+        16,
+        Ok(0x3dc01000),
+    ),
+    (
+        RefKind::PageOff,
+        0x3dc00000,
+        0x1_0000_4038,
+        0,
+        16,
+        Err((RangeKind::LowBits, 0x48)),
+    ),
+    (RefKind::PageOff, 0x91000020, 0, 0, -16, Ok(0x913fc020)),
+    (
+        RefKind::GotPageOff,
+        0xf9400020,
+        0x1_0000_4028,
+        0,
+        0,
+        Ok(0xf9401420),
+    ),
+    (
+        RefKind::GotPageOff,
+        0xf9400020,
+        0x1_0000_402c,
+        0,
+        0,
+        Err((RangeKind::LowBits, 0x2c)),
+    ),
+    (
+        RefKind::TlvPageOff,
+        0x91000020,
+        0x1_0000_4030,
+        0,
+        0,
+        Ok(0x9100c020),
+    ),
+    (
+        RefKind::TlvPageOff,
+        0xf9400020,
+        0x1_0000_4001,
+        0,
+        0,
+        Err((RangeKind::LowBits, 1)),
+    ),
+    (
+        RefKind::Pointer,
+        0xffff,
+        ADDRESS,
+        0,
+        -0x4000,
+        Ok(0x1_0000_0000),
+    ),
+    (RefKind::Pointer, 0, u64::MAX, 0, 2, Ok(1)),
+    (RefKind::Pointer, 0, 0, 0, -1, Ok(u64::MAX)),
+    (
+        RefKind::GotPointer,
+        0,
+        0x8000_0000_0000_0001,
+        0,
+        i64::MIN,
+        Ok(1),
+    ),
+    (RefKind::Diff64, 0, 8, 16, 4, Ok(0xffff_ffff_ffff_fffc)),
+    (
+        RefKind::Diff64,
+        7,
+        u64::MAX,
+        0,
+        i64::MAX,
+        Ok(0x7fff_ffff_ffff_fffe),
+    ),
+    (
+        RefKind::Diff32,
+        0,
+        0x1_7fff_ffff,
+        0x1_0000_0000,
+        0,
+        Ok(0x7fff_ffff),
+    ),
+    (
+        RefKind::Diff32,
+        0,
+        0x1_7fff_ffff,
+        0x1_0000_0000,
+        1,
+        Err((RangeKind::Diff32, 0x8000_0000)),
+    ),
+    (
+        RefKind::Diff32,
+        0,
+        0x8000_0000,
+        0x1_0000_0000,
+        0,
+        Ok(0x8000_0000),
+    ),
+    (
+        RefKind::Diff32,
+        0,
+        0x8000_0000,
+        0x1_0000_0000,
+        -1,
+        Err((RangeKind::Diff32, -0x8000_0001)),
+    ),
+    (
+        RefKind::Diff32,
+        0,
+        u64::MAX,
+        0,
+        i64::MAX,
+        Err((RangeKind::Diff32, 0x1_7fff_ffff_ffff_fffe)),
+    ),
+    (
+        RefKind::GotDelta,
+        0,
+        ADDRESS + 0x7fff_ffff,
+        0,
+        0,
+        Ok(0x7fff_ffff),
+    ),
+    (
+        RefKind::GotDelta,
+        0,
+        ADDRESS + 0x8000_0000,
+        0,
+        0,
+        Err((RangeKind::GotDelta, 0x8000_0000)),
+    ),
+    (
+        RefKind::GotDelta,
+        0,
+        ADDRESS - 0x8000_0000,
+        0,
+        0,
+        Ok(0x8000_0000),
+    ),
+    (
+        RefKind::GotDelta,
+        0,
+        ADDRESS - 0x8000_0001,
+        0,
+        0,
+        Err((RangeKind::GotDelta, -0x8000_0001)),
+    ),
+];
 
 // A word, the bytes that it loads or stores at once, and the same word with the greatest offset in a page, as
 // llvm-mc makes both.
@@ -479,31 +473,28 @@ fn least_place_is_told() -> bool {
 }
 
 // A few thousand fields, the last one first.
-fn thousands_are_written(alloc: Global) -> Result<bool, OutOfMemory> {
+fn many_fields(alloc: Global) -> Result<Vec<Met>, OutOfMemory> {
     let mut mets = Vec::new(alloc);
-    let mut bytes = Vec::new(alloc);
     for i in 0..3000u64 {
         mets.push(met(4 * (2999 - i), RefKind::Diff32, i))?;
-        bytes.extend_from_slice(&[0xff; 4])?;
     }
-    if !fields_are_in_order(ADDRESS, bytes.len(), mets.as_slice()) {
-        return Ok(false);
-    }
-    let done = patch_atom(bytes.as_mut_slice(), ADDRESS, mets.as_slice()) == Ok(());
-    Ok(
-        done && bytes.as_slice().get(0..4) == Some([0xb7, 0x0b, 0, 0].as_slice())
-            && bytes.as_slice().get(11996..12000) == Some([0, 0, 0, 0].as_slice()),
-    )
+    Ok(mets)
 }
 
-#[test]
-fn accesses_are_scaled_and_faults_are_the_first(rt: HostRuntime) -> Result<(), Fail> {
-    for (word, step, want) in ACCESSES {
-        assert!(rt; is_scaled(word, step, want), "{word}");
+fn are_written(bytes: &mut [u8], mets: &[Met]) -> bool {
+    if !fields_are_in_order(ADDRESS, bytes.len(), mets) {
+        return false;
     }
-    assert!(rt; least_place_is_told());
-    assert!(rt; thousands_are_written(rt.alloc())?);
-    Ok(())
+    let is_done = patch_atom(bytes, ADDRESS, mets) == Ok(());
+    is_done
+        && bytes.get(0..4) == Some([0xb7, 0x0b, 0, 0].as_slice())
+        && bytes.get(11996..12000) == Some([0, 0, 0, 0].as_slice())
+}
+
+fn thousands_are_written(alloc: Global) -> Result<bool, OutOfMemory> {
+    let mets = many_fields(alloc)?;
+    let mut bytes = vec![in alloc; 0xff; 12_000]?;
+    Ok(are_written(bytes.as_mut_slice(), mets.as_slice()))
 }
 
 // ---- atoms in a piece of an image
@@ -655,31 +646,66 @@ fn least_key_is_told(alloc: Global) -> Result<bool, OutOfMemory> {
 }
 
 // Some thousands of atoms, which stand in the image the other way round than in their section.
-fn thousands_are_filled(alloc: Global) -> Result<bool, OutOfMemory> {
+fn many_words(alloc: Global) -> Result<Vec<u8>, OutOfMemory> {
     let mut contents = Vec::new(alloc);
-    let mut piece = Vec::new(alloc);
-    let mut mets = Vec::new(alloc);
-    let mut items = Vec::new(alloc);
     for i in 0..3000u64 {
         contents.extend_from_slice(&[(i % 256) as u8, 0, 0, 0x94])?;
-        piece.extend_from_slice(&[0xee; 8])?;
-        mets.push(met(0, RefKind::Branch, 0x1_0000_0000 + 8 * i + 4))?;
-        items.push(work(1, 4 * (2999 - i), 8 * i, i as usize))?;
     }
-    let loaded = loaded(alloc, contents.as_slice())?;
-    let (work, mets) = (items.as_slice(), mets.as_slice());
-    if !work_is_in_order(work, loaded.files.as_slice(), mets, 0, piece.len()) {
-        return Ok(false);
-    }
-    let done = patch_range(piece.as_mut_slice(), 0, work, &loaded, mets) == Ok(());
-    let want = b"\x01\0\0\x94\xee\xee\xee\xee".as_slice();
-    Ok(done && piece.as_slice().chunks(8).all(|part| part == want))
+    Ok(contents)
 }
 
+fn many_branches(alloc: Global) -> Result<Vec<Met>, OutOfMemory> {
+    let mut mets = Vec::new(alloc);
+    for i in 0..3000u64 {
+        mets.push(met(0, RefKind::Branch, 0x1_0000_0000 + 8 * i + 4))?;
+    }
+    Ok(mets)
+}
+
+fn many_works(alloc: Global) -> Result<Vec<PlacedWork>, OutOfMemory> {
+    let mut items = Vec::new(alloc);
+    for i in 0..3000u64 {
+        items.push(work(1, 4 * (2999 - i), 8 * i, i as usize))?;
+    }
+    Ok(items)
+}
+
+fn are_filled(piece: &mut [u8], items: &[PlacedWork], loaded: &Loaded, mets: &[Met]) -> bool {
+    if !work_is_in_order(items, loaded.files.as_slice(), mets, 0, piece.len()) {
+        return false;
+    }
+    let is_done = patch_range(piece, 0, items, loaded, mets) == Ok(());
+    let want = b"\x01\0\0\x94\xee\xee\xee\xee".as_slice();
+    is_done && piece.chunks(8).all(|part| part == want)
+}
+
+fn thousands_are_filled(alloc: Global) -> Result<bool, OutOfMemory> {
+    let mets = many_branches(alloc)?;
+    let items = many_works(alloc)?;
+    let loaded = loaded(alloc, many_words(alloc)?.as_slice())?;
+    let mut piece = vec![in alloc; 0xee; 24_000]?;
+    Ok(are_filled(
+        piece.as_mut_slice(),
+        items.as_slice(),
+        &loaded,
+        mets.as_slice(),
+    ))
+}
+
+// One field, several fields, and atoms with theirs.
 #[test]
-fn atoms_are_placed_with_their_fields(rt: HostRuntime) -> Result<(), Fail> {
-    assert!(rt; atoms_are_filled(rt.alloc())?);
-    assert!(rt; least_key_is_told(rt.alloc())?);
-    assert!(rt; thousands_are_filled(rt.alloc())?);
+fn fields_hold_their_values(rt: HostRuntime) -> Result<(), Fail> {
+    let alloc = rt.alloc();
+    for (at, row) in FIELDS.iter().enumerate() {
+        assert!(rt; is_as_wanted(row), "in row {at}");
+    }
+    for (word, step, want) in ACCESSES {
+        assert!(rt; is_scaled(word, step, want), "{word}");
+    }
+    assert!(rt; least_place_is_told());
+    assert!(rt; thousands_are_written(alloc)?);
+    assert!(rt; atoms_are_filled(alloc)?);
+    assert!(rt; least_key_is_told(alloc)?);
+    assert!(rt; thousands_are_filled(alloc)?);
     Ok(())
 }

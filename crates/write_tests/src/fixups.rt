@@ -5,7 +5,6 @@ mod tables;
 use image_read::{FixupRead, Meaning, denote, fixup_at, import_name, mapped};
 use mo_types::RefKind;
 use std::alloc::{AllocError, Global};
-use std::process::Abort;
 use std::test::Fail;
 use tables::{header, images, numbers_of_format_1, numbers_of_format_3};
 
@@ -356,125 +355,203 @@ fn small_image(alloc: Global, text: &str) -> Result<Vec<u8>, AllocError> {
     Ok(image)
 }
 
-// The edits of each line of a table, after some that come first, give what the line tells.
-fn expect_numbers(
-    rt: &impl Abort,
+// The two parts of a line.
+fn row(line: &str) -> Option<(&str, &str)> {
+    line.split_once(": ")
+}
+
+// Whether a text is what was found, but for blanks at its end.
+fn is_text(found: &[u8], text: &str) -> bool {
+    found.trim_ascii_end() == text.as_bytes()
+}
+
+fn has_bytes(alloc: Global, edits: &str, text: &str) -> Result<bool, AllocError> {
+    let image = edited(alloc, edits)?;
+    Ok(is_text(&bytes_of(alloc, &image)?, text))
+}
+
+fn has_fixups(alloc: Global, edits: &str, text: &str) -> Result<bool, AllocError> {
+    let image = edited(alloc, edits)?;
+    Ok(is_text(&fixups_of(alloc, &image)?, text))
+}
+
+fn has_names(alloc: Global, edits: &str, text: &str) -> Result<bool, AllocError> {
+    let image = edited(alloc, edits)?;
+    Ok(is_text(&names_of(alloc, &image)?, text))
+}
+
+// As `416=00@5120` says, the edits and the address.
+fn has_meanings(alloc: Global, place: &str, text: &str) -> Result<bool, AllocError> {
+    let (edits, address) = place.split_once('@').unwrap_or(("", ""));
+    let image = edited(alloc, edits)?;
+    let found = meanings_of(alloc, &image, address.parse().unwrap_or(0))?;
+    Ok(is_text(&found, text))
+}
+
+fn has_numbers(alloc: Global, first: &str, edits: &str, text: &str) -> Result<bool, AllocError> {
+    let mut image = edited(alloc, first)?;
+    edit(&mut image, edits);
+    Ok(is_text(&names_and_fixups_of(alloc, &image)?, text))
+}
+
+// Of what the lines of a table tell.
+#[derive(Clone, Copy)]
+enum Subject {
+    Memory,
+    Names,
+    Fixups,
+    Meanings,
+}
+
+fn tells(alloc: Global, subject: Subject, edits: &str, text: &str) -> Result<bool, AllocError> {
+    match subject {
+        Subject::Memory => has_bytes(alloc, edits, text),
+        Subject::Names => has_names(alloc, edits, text),
+        Subject::Fixups => has_fixups(alloc, edits, text),
+        Subject::Meanings => has_meanings(alloc, edits, text),
+    }
+}
+
+// The edits of the first line of a table that tells something else.
+fn wrong_line(
+    alloc: Global,
+    subject: Subject,
+    table: &'static str,
+) -> Result<Option<&'static str>, AllocError> {
+    for (edits, text) in table.lines().filter_map(row) {
+        if !tells(alloc, subject, edits, text)? {
+            return Ok(Some(edits));
+        }
+    }
+    Ok(None)
+}
+
+fn all_have_numbers(
     alloc: Global,
     first: &str,
-    table: &str,
-) -> Result<(), AllocError> {
-    for (text, lines) in table.lines().filter_map(|line| line.split_once(": ")) {
-        for edits in lines.split(", ") {
-            let mut image = edited(alloc, first)?;
-            edit(&mut image, edits);
-            let found = names_and_fixups_of(alloc, &image)?;
-            expect(rt, &found, text);
+    lines: &str,
+    text: &str,
+) -> Result<bool, AllocError> {
+    for edits in lines.split(", ") {
+        if !has_numbers(alloc, first, edits, text)? {
+            return Ok(false);
         }
     }
-    Ok(())
+    Ok(true)
 }
 
-// What the field or byte of an address is, as `64>72` says of a branch and `64:192` of a byte.
-fn expect_field(rt: &impl Abort, image: &[u8], text: &str) {
+// The first line of a table of which some edits, after those that come first, give something else than it tells.
+fn wrong_numbers(
+    alloc: Global,
+    first: &str,
+    table: &'static str,
+) -> Result<Option<&'static str>, AllocError> {
+    for (text, lines) in table.lines().filter_map(row) {
+        if !all_have_numbers(alloc, first, lines, text)? {
+            return Ok(Some(text));
+        }
+    }
+    Ok(None)
+}
+
+// Whether no byte is there of a file that ends in its header or in its commands.
+fn has_no_bytes_of_a_part() -> bool {
+    for size in 0..264 {
+        if mapped(sample().get(..size).unwrap_or(b""), 0x1000).is_some() {
+            return false;
+        }
+    }
+    true
+}
+
+// Whether a chain is broken in the first bytes of a file, and the second import's name is there from a size on.
+fn is_broken(image: &[u8], size: usize, address: u64, from: usize) -> bool {
+    let image = image.get(..size).unwrap_or(b"");
+    fixup_at(image, address) == FixupRead::Broken
+        && import_name(image, 1).is_none() == (size < from)
+}
+
+// Whether fixups are broken wherever the file ends within what is read of them. The name is there once its NUL is; with
+// imports of format 3, which stand behind the names, once the import is whole too.
+fn parts_are_broken(wide: &[u8]) -> bool {
+    for size in 268..620 {
+        if !is_broken(sample(), size, 0x1400, 496) || !is_broken(wide, size, 0x1408, 544) {
+            return false;
+        }
+    }
+    import_name(sample().get(..496).unwrap_or(b""), 1) == Some(b"_bc".as_slice())
+}
+
+fn fixups_end_early(alloc: Global) -> Result<bool, AllocError> {
+    let wide = edited(alloc, "468=03 456=40")?;
+    Ok(parts_are_broken(&wide))
+}
+
+// Whether a branch or a byte of an address is as `64>72` says of a branch and `64:192` of a byte.
+fn has_field(image: &[u8], text: &str) -> bool {
     if let Some((address, target)) = text.split_once('>') {
         let found = denote(image, address.parse().unwrap_or(0), RefKind::Branch);
-        assert!(rt;
-            found == Meaning::Address(target.parse().unwrap_or(0)),
-            "not {text}"
-        );
+        return found == Meaning::Address(target.parse().unwrap_or(0));
     }
-    if let Some((address, byte)) = text.split_once(':') {
-        let found = mapped(image, address.parse().unwrap_or(0));
-        assert!(rt; found == Some(byte.parse().unwrap_or(0)), "not {text}");
+    match text.split_once(':') {
+        Some((address, byte)) => {
+            let found = mapped(image, address.parse().unwrap_or(0));
+            found == Some(byte.parse().unwrap_or(0))
+        }
+        None => false,
     }
 }
 
-fn expect(rt: &impl Abort, found: &[u8], text: &str) {
-    assert!(rt; found.trim_ascii_end() == text.as_bytes(), "not {text}");
+fn has_fields(image: &[u8], fields: &str) -> bool {
+    for field in fields.split_whitespace() {
+        if !has_field(image, field) {
+            return false;
+        }
+    }
+    true
 }
 
-#[test]
-fn bytes_in_memory(rt: HostRuntime) -> Result<(), Fail> {
-    for (edits, text) in memory().lines().filter_map(|line| line.split_once(": ")) {
-        let image = edited(rt.alloc(), edits)?;
-        let found = bytes_of(rt.alloc(), &image)?;
-        expect(&rt, &found, text);
+fn has_no_fixup(image: &[u8]) -> bool {
+    for word in 0..0x1000 {
+        if fixup_at(image, 0x1_0000_0000 + 4 * word) != FixupRead::Plain {
+            return false;
+        }
     }
-    // no byte of a file that ends in its header or in its commands
-    for size in 0..264 {
-        let image = sample().get(..size).unwrap_or(b"");
-        assert!(rt; mapped(image, 0x1000).is_none(), "{size} bytes");
-    }
-    Ok(())
+    true
 }
 
+fn is_small_image(alloc: Global, text: &str, fields: &str) -> Result<bool, AllocError> {
+    let image = small_image(alloc, text)?;
+    Ok(has_fields(&image, fields) && has_no_fixup(&image))
+}
+
+// The first of the images of small objects whose fields are others, or that has a fixup.
+fn wrong_image(alloc: Global) -> Result<Option<&'static str>, AllocError> {
+    for (text, fields) in images().lines().filter_map(row) {
+        if !is_small_image(alloc, text, fields)? {
+            return Ok(Some(text));
+        }
+    }
+    Ok(None)
+}
+
+// Bytes in memory, fixups and names, fields by their kinds, and images of small objects.
 #[test]
 fn fixups_and_names(rt: HostRuntime) -> Result<(), Fail> {
-    for (edits, text) in fixups().lines().filter_map(|line| line.split_once(": ")) {
-        let image = edited(rt.alloc(), edits)?;
-        let found = fixups_of(rt.alloc(), &image)?;
-        expect(&rt, &found, text);
+    let alloc = rt.alloc();
+    for wrong in [
+        wrong_line(alloc, Subject::Memory, memory())?,
+        wrong_line(alloc, Subject::Names, names())?,
+        wrong_line(alloc, Subject::Fixups, fixups())?,
+        wrong_line(alloc, Subject::Meanings, meanings())?,
+        wrong_numbers(alloc, "", numbers_of_format_1())?,
+        wrong_numbers(alloc, "468=03 456=40", numbers_of_format_3())?,
+        wrong_image(alloc)?,
+    ] {
+        let row = wrong.unwrap_or("");
+        assert!(rt; wrong.is_none(), "in {row}");
     }
-    for (edits, text) in names().lines().filter_map(|line| line.split_once(": ")) {
-        let image = edited(rt.alloc(), edits)?;
-        let found = names_of(rt.alloc(), &image)?;
-        expect(&rt, &found, text);
-    }
-    let wide = edited(rt.alloc(), "468=03 456=40")?;
-    for size in 268..620 {
-        // broken wherever the file ends within what is read of the fixups
-        let image = sample().get(..size).unwrap_or(b"");
-        assert!(rt;
-            fixup_at(image, 0x1400) == FixupRead::Broken,
-            "{size} bytes"
-        );
-        // the name is there once its NUL is
-        assert!(rt;
-            import_name(image, 1).is_none() == (size < 496),
-            "{size} bytes"
-        );
-        // with imports of format 3, which stand behind the names, once the import is whole too
-        let image = wide.get(..size).unwrap_or(b"");
-        assert!(rt;
-            fixup_at(image, 0x1408) == FixupRead::Broken,
-            "{size} bytes"
-        );
-        assert!(rt;
-            import_name(image, 1).is_none() == (size < 544),
-            "{size} bytes"
-        );
-    }
-    assert!(rt; import_name(sample().get(..496).unwrap_or(b""), 1) == Some(b"_bc".as_slice()));
-    expect_numbers(&rt, rt.alloc(), "", numbers_of_format_1())?;
-    expect_numbers(&rt, rt.alloc(), "468=03 456=40", numbers_of_format_3())?;
-    Ok(())
-}
-
-#[test]
-fn images_of_small_objects(rt: HostRuntime) -> Result<(), Fail> {
-    for (text, fields) in images().lines().filter_map(|line| line.split_once(": ")) {
-        let image = small_image(rt.alloc(), text)?;
-        for field in fields.split_whitespace() {
-            expect_field(&rt, &image, field);
-        }
-        // none of them has a fixup
-        for word in 0..0x1000 {
-            let address = 0x1_0000_0000 + 4 * word;
-            assert!(rt; fixup_at(&image, address) == FixupRead::Plain, "{address}");
-        }
-    }
-    Ok(())
-}
-
-#[test]
-fn fields_by_their_kinds(rt: HostRuntime) -> Result<(), Fail> {
-    for (place, text) in meanings().lines().filter_map(|line| line.split_once(": ")) {
-        let Some((edits, address)) = place.split_once('@') else {
-            continue;
-        };
-        let image = edited(rt.alloc(), edits)?;
-        let found = meanings_of(rt.alloc(), &image, address.parse().unwrap_or(0))?;
-        expect(&rt, &found, text);
-    }
+    assert!(rt; has_no_bytes_of_a_part());
+    assert!(rt; fixups_end_early(alloc)?);
     Ok(())
 }

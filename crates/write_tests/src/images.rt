@@ -51,31 +51,53 @@ fn joined_of(
     join(alloc, &parts)
 }
 
-#[test]
-fn parts_stand_at_their_places(rt: HostRuntime) -> Result<(), Fail> {
-    let alloc = rt.alloc();
-    let apart: [(u64, &'static [u8]); 4] = [(2, b"ab"), (4, b"c"), (9, b""), (12, b"wxyz")];
-    let image = joined_of(alloc, 16, &apart)?;
-    assert_eq!(rt; image.as_slice(), b"\0\0abc\0\0\0\0\0\0\0wxyz".as_slice());
-    let whole: [(u64, &'static [u8]); 1] = [(0, b"xyz")];
-    let image = joined_of(alloc, 3, &whole)?;
-    assert_eq!(rt; image.as_slice(), b"xyz".as_slice());
-    let image = joined_of(alloc, 5, &[])?;
-    assert_eq!(rt; image.as_slice(), [0; 5].as_slice());
+fn is_joined(
+    alloc: Global,
+    size: u64,
+    rows: &[(u64, &'static [u8])],
+    want: &[u8],
+) -> Result<bool, OutOfMemory> {
+    let image = joined_of(alloc, size, rows)?;
+    Ok(image.as_slice() == want)
+}
+
+fn many_rows(alloc: Global) -> Result<Vec<(u64, &'static [u8])>, OutOfMemory> {
     let mut many: Vec<(u64, &'static [u8])> = Vec::new(alloc);
     for i in 0..5000u64 {
         many.push((3 * i + 1, b"#."))?;
     }
-    let image = joined_of(alloc, 15_000, many.as_slice())?;
-    assert_eq!(rt; image.len(), 15_000);
+    Ok(many)
+}
+
+fn many_are_in_place(image: &[u8]) -> bool {
     for (i, byte) in image.iter().enumerate() {
         let want = match i % 3 {
             0 => 0,
             1 => b'#',
             _ => b'.',
         };
-        assert_eq!(rt; *byte, want, "at {i}");
+        if *byte != want {
+            return false;
+        }
     }
+    image.len() == 15_000
+}
+
+fn many_are_joined(alloc: Global) -> Result<bool, OutOfMemory> {
+    let many = many_rows(alloc)?;
+    let image = joined_of(alloc, 15_000, many.as_slice())?;
+    Ok(many_are_in_place(image.as_slice()))
+}
+
+// Parts that lie apart, one part that is all, none, and thousands.
+#[test]
+fn parts_stand_at_their_places(rt: HostRuntime) -> Result<(), Fail> {
+    let alloc = rt.alloc();
+    let apart: [(u64, &'static [u8]); 4] = [(2, b"ab"), (4, b"c"), (9, b""), (12, b"wxyz")];
+    assert!(rt; is_joined(alloc, 16, &apart, b"\0\0abc\0\0\0\0\0\0\0wxyz")?);
+    assert!(rt; is_joined(alloc, 3, &[(0, b"xyz")], b"xyz")?);
+    assert!(rt; is_joined(alloc, 5, &[], &[0; 5])?);
+    assert!(rt; many_are_joined(alloc)?);
     Ok(())
 }
 
@@ -165,47 +187,64 @@ fn branches(alloc: Global, count: u64) -> Result<Loaded, OutOfMemory> {
     loaded(alloc, contents.as_slice())
 }
 
+// Fills an image, where its work is in order.
+fn filled<R: Threads + Sync, G: Gate + Sync>(
+    rt: &R,
+    gate: &G,
+    workers: u32,
+    image: &mut [u8],
+    items: &[PlacedWork],
+    loaded: &Loaded,
+    mets: &[Met],
+) -> Option<Result<(), (AtomKey, RangeFault)>> {
+    let size = image.len();
+    if !work_is_in_order(items, loaded.files.as_slice(), mets, 0, size) {
+        return None;
+    }
+    Some(fill(rt, gate, workers, image, items, loaded, mets))
+}
+
+// Atoms, of which the last one of the section comes first, so many bytes apart.
+fn works(alloc: Global, count: u32, apart: u64) -> Result<Vec<PlacedWork>, OutOfMemory> {
+    let count = u64::from(count);
+    let mut items = Vec::new(alloc);
+    for i in 0..count {
+        items.push(work(4 * (count - 1 - i), apart.wrapping_mul(i), i as usize))?;
+    }
+    Ok(items)
+}
+
+fn branches_to_start(alloc: Global, count: u32) -> Result<Vec<Met>, OutOfMemory> {
+    let mut mets = Vec::new(alloc);
+    for _ in 0..count {
+        mets.push(branch(0x200, 0x1_0000_0000))?;
+    }
+    Ok(mets)
+}
+
 // Every second word of an image of `2 * count` words is an atom, the last one of the section first; the atom at the
 // place i of the image branches i words back, to the image's start.
-fn filled_by<R: Threads + Sync, G: Gate + Sync>(
+fn branches_are_filled<R: Threads + Sync, G: Gate + Sync>(
     rt: &R,
     alloc: Global,
     gate: &G,
     workers: u32,
     count: u32,
-) -> Result<Vec<u8>, OutOfMemory> {
-    let count = u64::from(count);
-    let loaded = branches(alloc, count)?;
-    let mut items = Vec::new(alloc);
-    let mut mets = Vec::new(alloc);
-    for i in 0..count {
-        items.push(work(4 * (count - 1 - i), 8 * i, i as usize))?;
-        mets.push(branch(0x200, 0x1_0000_0000))?;
-    }
+) -> Result<bool, OutOfMemory> {
+    let items = works(alloc, count, 8)?;
+    let mets = branches_to_start(alloc, count)?;
+    let loaded = branches(alloc, u64::from(count))?;
     let mut image = vec![in alloc; 0xee; 8 * count as usize]?;
-    let size = image.len();
-    if !work_is_in_order(
-        items.as_slice(),
-        loaded.files.as_slice(),
-        mets.as_slice(),
-        0,
-        size,
-    ) {
-        return Ok(Vec::new(alloc));
-    }
-    let piece = image.as_mut_slice();
-    match fill(
+    let answer = filled(
         rt,
         gate,
         workers,
-        piece,
+        image.as_mut_slice(),
         items.as_slice(),
         &loaded,
         mets.as_slice(),
-    ) {
-        Ok(()) => Ok(image),
-        Err(_) => Ok(Vec::new(alloc)),
-    }
+    );
+    Ok(answer == Some(Ok(())) && branches_lead_back(image.as_slice(), count))
 }
 
 // Whether each second word is a branch of as many bytes back as it lies from the start, and the others are as before.
@@ -231,9 +270,7 @@ fn branches_lead_back(image: &[u8], count: u32) -> bool {
     true
 }
 
-#[test]
-fn atoms_are_placed_by_any_number_of_workers(rt: HostRuntime) -> Result<(), Fail> {
-    let alloc = rt.alloc();
+fn any_number_of_workers<R: Threads + Sync>(rt: &R, alloc: Global) -> Result<bool, OutOfMemory> {
     for (workers, count) in [
         (0, 3),
         (1, 1),
@@ -245,92 +282,103 @@ fn atoms_are_placed_by_any_number_of_workers(rt: HostRuntime) -> Result<(), Fail
         (7, 5000),
         (4, 0),
     ] {
-        let image = filled_by(&rt, alloc, &FreeGate, workers, count)?;
-        assert!(rt;
-            branches_lead_back(image.as_slice(), count),
-            "{workers} workers, {count} atoms"
-        );
+        if !branches_are_filled(rt, alloc, &FreeGate, workers, count)? {
+            return Ok(false);
+        }
     }
-    Ok(())
+    Ok(true)
 }
 
-#[test]
-fn two_workers_meet(rt: HostRuntime) -> Result<(), Fail> {
-    let alloc = rt.alloc();
-    let gate = MeetGate::new(100_000_000);
-    let image = filled_by(&rt, alloc, &gate, 2, 5000)?;
-    assert!(rt; branches_lead_back(image.as_slice(), 5000));
-    assert!(rt; gate.met());
-    let gate = MeetGate::new(10);
-    let image = filled_by(&rt, alloc, &gate, 1, 5000)?;
-    assert!(rt; branches_lead_back(image.as_slice(), 5000));
-    assert!(rt; !gate.met());
-    Ok(())
+// Whether so many workers meet at a gate that is looked at so often.
+fn workers_meet<R: Threads + Sync>(
+    rt: &R,
+    alloc: Global,
+    workers: u32,
+    looks: u64,
+) -> Result<Option<bool>, OutOfMemory> {
+    let gate = MeetGate::new(looks);
+    let is_filled = branches_are_filled(rt, alloc, &gate, workers, 5000)?;
+    Ok(is_filled.then_some(gate.met()))
 }
 
-// The answer for atoms of an image, the last of the section first, which branch to these addresses.
-fn answer_for<R: Threads + Sync>(
+fn branches_to(alloc: Global, values: &[u64]) -> Result<Vec<Met>, OutOfMemory> {
+    let mut mets = Vec::new(alloc);
+    for (i, value) in values.iter().enumerate() {
+        mets.push(branch(0x200u64.wrapping_add(i as u64), *value))?;
+    }
+    Ok(mets)
+}
+
+// Whether a fault of a key is told for atoms of an image, the last of the section first, which branch to these
+// addresses.
+fn is_told<R: Threads + Sync>(
     rt: &R,
     alloc: Global,
     workers: u32,
     values: &[u64],
-) -> Result<Result<(), (AtomKey, RangeFault)>, OutOfMemory> {
-    let count = values.len() as u64 % 0x1000;
-    let loaded = branches(alloc, count)?;
-    let mut items = Vec::new(alloc);
-    let mut mets = Vec::new(alloc);
-    for (i, value) in values.iter().enumerate() {
-        let i = i as u64 % 0x1000;
-        items.push(work(4 * count.saturating_sub(1 + i), 4 * i, i as usize))?;
-        mets.push(branch(0x200 + i, *value))?;
-    }
-    let mut image = vec![in alloc; 0; 4 * count as usize]?;
-    let size = image.len();
-    if !work_is_in_order(
-        items.as_slice(),
-        loaded.files.as_slice(),
-        mets.as_slice(),
-        0,
-        size,
-    ) {
-        return Ok(Ok(()));
-    }
-    let piece = image.as_mut_slice();
-    Ok(fill(
+    told: (AtomKey, RangeFault),
+) -> Result<bool, OutOfMemory> {
+    let items = works(alloc, 4, 4)?;
+    let mets = branches_to(alloc, values)?;
+    let loaded = branches(alloc, 4)?;
+    let mut image = [0; 16];
+    let answer = filled(
         rt,
         &FreeGate,
         workers,
-        piece,
+        &mut image,
         items.as_slice(),
         &loaded,
         mets.as_slice(),
-    ))
+    );
+    Ok(answer == Some(Err(told)))
 }
 
 // Of the atoms at fault the last one has the least key. A branch reaches 2^27 bytes less 4 forwards.
-#[test]
-fn the_fault_of_the_least_atom_is_told(rt: HostRuntime) -> Result<(), Fail> {
-    let near = 0x1_0000_0000;
-    let far = 0x1_0800_0000;
-    for (values, place, value) in [
-        ([far, near, near, near], 0, 134217728),
-        ([far, near, near, far + 12], 3, 134217728),
-        ([far, far + 4, near, near], 1, 134217728),
-        ([near, near, far + 8, near], 2, 134217728),
-    ] {
+const NEAR: u64 = 0x1_0000_0000;
+
+const FAR: u64 = 0x1_0800_0000;
+
+// The addresses, and the place of the one that is told and how far it is.
+const FAULTS: [([u64; 4], u64, i128); 4] = [
+    ([FAR, NEAR, NEAR, NEAR], 0, 134217728),
+    ([FAR, NEAR, NEAR, FAR + 12], 3, 134217728),
+    ([FAR, FAR + 4, NEAR, NEAR], 1, 134217728),
+    ([NEAR, NEAR, FAR + 8, NEAR], 2, 134217728),
+];
+
+fn the_fault_of_the_least_atom<R: Threads + Sync>(
+    rt: &R,
+    alloc: Global,
+    workers: u32,
+) -> Result<bool, OutOfMemory> {
+    for (values, place, value) in &FAULTS {
         let fault = RangeFault {
-            file_place: 0x200 + place,
+            file_place: 0x200 + *place % 4,
             kind: RangeKind::Branch,
-            value,
+            value: *value,
         };
-        for workers in [1, 2, 3, 4] {
-            let answer = answer_for(&rt, rt.alloc(), workers, &values)?;
-            assert_eq!(rt;
-                answer,
-                Err((key(4 * (3 - place)), fault)),
-                "{workers} workers"
-            );
+        if !is_told(
+            rt,
+            alloc,
+            workers,
+            values,
+            (key(4 * (3 - *place % 4)), fault),
+        )? {
+            return Ok(false);
         }
+    }
+    Ok(true)
+}
+
+#[test]
+fn atoms_are_placed_by_any_number_of_workers(rt: HostRuntime) -> Result<(), Fail> {
+    let alloc = rt.alloc();
+    assert!(rt; any_number_of_workers(&rt, alloc)?);
+    assert!(rt; workers_meet(&rt, alloc, 2, 100_000_000)? == Some(true));
+    assert!(rt; workers_meet(&rt, alloc, 1, 10)? == Some(false));
+    for workers in [1, 2, 3, 4] {
+        assert!(rt; the_fault_of_the_least_atom(&rt, alloc, workers)?);
     }
     Ok(())
 }

@@ -5,7 +5,6 @@ ghost use Rattle.std.specs.Prelude.{◌≡◌, ◌≢◌, ◌↔◌, IsTrue, All
 use export_trie::{ExportAddress, Found, find, write_trie};
 use mo_types::{Bytes, Items};
 use std::alloc::Global;
-use std::process::Abort;
 use std::test::Fail;
 
 type Row = (&'static [u8], u64, u64);
@@ -95,14 +94,20 @@ const THREE: [u8; 32] = [
     0x00,
 ];
 
-#[test]
-fn trie_of_three(rt: HostRuntime) -> Result<(), Fail> {
-    let rows: [Row; 3] = [(b"_b", 0, 0x1008), (b"_a", 0, 0x1000), (b"_ab", 0, 0x1004)];
-    let trie = written(rt.alloc(), &rows)?;
-    assert!(rt; trie.as_slice() == THREE.as_slice());
-    assert!(rt; has_all(&trie, &rows));
-    assert!(rt; has_none(&trie, &[b"_", b"_abc", b""]));
-    Ok(())
+static THREE_ROWS: [Row; 3] = [(b"_b", 0, 0x1008), (b"_a", 0, 0x1000), (b"_ab", 0, 0x1004)];
+
+fn three_are_written(alloc: Global) -> Result<bool, Fail> {
+    let trie = written(alloc, &THREE_ROWS)?;
+    Ok(
+        trie.as_slice() == THREE.as_slice()
+            && has_all(&trie, &THREE_ROWS)
+            && has_none(&trie, &[b"_", b"_abc", b""]),
+    )
+}
+
+fn none_are_written(alloc: Global) -> Result<bool, Fail> {
+    let trie = written(alloc, &[])?;
+    Ok(trie.as_slice() == [0; 8].as_slice() && has_none(&trie, &[b""]))
 }
 
 fn finds_number(alloc: Global, trie: &[u8], number: u64) -> Result<bool, Fail> {
@@ -121,16 +126,18 @@ fn finds_number(alloc: Global, trie: &[u8], number: u64) -> Result<bool, Fail> {
     }
 }
 
-#[test]
-fn tries_of_none_and_of_many(rt: HostRuntime) -> Result<(), Fail> {
-    let trie = written(rt.alloc(), &[])?;
-    assert!(rt; trie.as_slice() == [0; 8].as_slice());
-    assert!(rt; has_none(&trie, &[b""]));
-    let trie = spelled(rt.alloc(), many_exports(rt.alloc())?)?;
+fn finds_numbers(alloc: Global, trie: &[u8]) -> Result<bool, Fail> {
     for number in [0, 1, 10, 4711, MANY - 1, MANY] {
-        assert!(rt; finds_number(rt.alloc(), &trie, number)?, "{number}");
+        if !finds_number(alloc, trie, number)? {
+            return Ok(false);
+        }
     }
-    Ok(())
+    Ok(true)
+}
+
+fn many_are_written(alloc: Global) -> Result<bool, Fail> {
+    let trie = spelled(alloc, many_exports(alloc)?)?;
+    finds_numbers(alloc, trie.as_slice())
 }
 
 // The trie that LLVM's linker (ld64.lld 14) writes for a library of seven functions, `_ab` of them weak. Its
@@ -143,57 +150,62 @@ const LINKED: [u8; 77] = [
     0xd4, 0x04, 0x01, 0x62, 0x65, 0x74, 0x00, 0x48, 0x03, 0x00, 0xd8, 0x04, 0x00,
 ];
 
-fn another_linkers_trie(rt: &impl Abort) {
-    // As llvm-objdump --exports-trie lists them.
-    let rows: [Row; 7] = [
-        (b"_zeta", 0, 0x260),
-        (b"_b", 0, 0x250),
-        (b"_ab", 4, 0x24c),
-        (b"_alpine", 0, 0x25c),
-        (b"_alphabet", 0, 0x258),
-        (b"_alpha", 0, 0x254),
-        (b"_a", 0, 0x248),
-    ];
-    assert!(rt; has_all(&LINKED, &rows));
-    let others: [&[u8]; 8] = [
-        b"", b"_", b"_al", b"_alph", b"_alphab", b"_c", b"_zetas", b"_a\0",
-    ];
-    assert!(rt; has_none(&LINKED, &others));
-}
+// As llvm-objdump --exports-trie lists them.
+static LINKED_ROWS: [Row; 7] = [
+    (b"_zeta", 0, 0x260),
+    (b"_b", 0, 0x250),
+    (b"_ab", 4, 0x24c),
+    (b"_alpine", 0, 0x25c),
+    (b"_alphabet", 0, 0x258),
+    (b"_alpha", 0, 0x254),
+    (b"_a", 0, 0x248),
+];
+
+static OTHERS: [&'static [u8]; 8] = [
+    b"", b"_", b"_al", b"_alph", b"_alphab", b"_c", b"_zetas", b"_a\0",
+];
+
+// Tries, of which all but the last one are broken, and what they say of `a`.
+static BROKEN: [(&'static [u8], Found); 11] = [
+    // No node; a size, an edge's place, and an address with no end.
+    (&[], Found::Broken),
+    (&[0x80], Found::Broken),
+    (&[0x00, 0x01, b'a', 0x00, 0x85], Found::Broken),
+    (
+        &[0x00, 0x01, b'a', 0x00, 0x05, 0x02, 0x00, 0x80],
+        Found::Broken,
+    ),
+    // An edge without its NUL; data that goes past the end; a count that does.
+    (&[0x00, 0x01, b'a'], Found::Broken),
+    (&[0x05, 0x00, 0x00, 0x00], Found::Broken),
+    (&[0x00], Found::Broken),
+    // A walk that stays, one that goes back, and one that leaves the bytes.
+    (&[0x00, 0x01, 0x00, 0x00], Found::Broken),
+    (
+        &[0x00, 0x01, 0x00, 0x04, 0x00, 0x01, 0x00, 0x00],
+        Found::Broken,
+    ),
+    (&[0x00, 0x01, b'a', 0x00, 0x40], Found::Broken),
+    // A child behind the one that is taken isn't read.
+    (
+        &[0x00, 0x02, b'a', 0x00, 0x06, b'b', 0x02, 0x04, 0x07, 0x00],
+        Found::At {
+            flags: 4,
+            address: 7,
+        },
+    ),
+];
 
 #[test]
-fn other_linkers_and_broken_tries(rt: HostRuntime) {
-    another_linkers_trie(&rt);
-    let rows: [(&[u8], Found); 11] = [
-        // No node; a size, an edge's place, and an address with no end.
-        (&[], Found::Broken),
-        (&[0x80], Found::Broken),
-        (&[0x00, 0x01, b'a', 0x00, 0x85], Found::Broken),
-        (
-            &[0x00, 0x01, b'a', 0x00, 0x05, 0x02, 0x00, 0x80],
-            Found::Broken,
-        ),
-        // An edge without its NUL; data that goes past the end; a count that does.
-        (&[0x00, 0x01, b'a'], Found::Broken),
-        (&[0x05, 0x00, 0x00, 0x00], Found::Broken),
-        (&[0x00], Found::Broken),
-        // A walk that stays, one that goes back, and one that leaves the bytes.
-        (&[0x00, 0x01, 0x00, 0x00], Found::Broken),
-        (
-            &[0x00, 0x01, 0x00, 0x04, 0x00, 0x01, 0x00, 0x00],
-            Found::Broken,
-        ),
-        (&[0x00, 0x01, b'a', 0x00, 0x40], Found::Broken),
-        // A child behind the one that is taken isn't read.
-        (
-            &[0x00, 0x02, b'a', 0x00, 0x06, b'b', 0x02, 0x04, 0x07, 0x00],
-            Found::At {
-                flags: 4,
-                address: 7,
-            },
-        ),
-    ];
-    for (trie, want) in rows {
-        assert_eq!(rt; find(trie, b"a"), want, "{trie:?}");
+fn trie_of_three(rt: HostRuntime) -> Result<(), Fail> {
+    let alloc = rt.alloc();
+    assert!(rt; three_are_written(alloc)?);
+    assert!(rt; none_are_written(alloc)?);
+    assert!(rt; many_are_written(alloc)?);
+    assert!(rt; has_all(&LINKED, &LINKED_ROWS));
+    assert!(rt; has_none(&LINKED, &OTHERS));
+    for (at, (trie, want)) in BROKEN.iter().enumerate() {
+        assert!(rt; find(trie, b"a") == *want, "in row {at}");
     }
+    Ok(())
 }
