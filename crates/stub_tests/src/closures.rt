@@ -10,6 +10,7 @@ use mo_cmd::{Command, read_all_words};
 use mo_outside::{FileList, MemFiles};
 use mo_types::{Arg, ArgList, Bytes, Items, OutOfMemory};
 use std::alloc::Global;
+use std::test::Fail;
 
 // The command of some words.
 fn command_of(alloc: Global, words: &str) -> Result<Option<Command>, OutOfMemory> {
@@ -117,4 +118,16 @@ fn closed(
     calls.push(failing)?;
     let mut files = MemFiles::new(files, calls);
     Ok(Some(closure(alloc, &command, &mut files, named)?))
+}
+
+#[test]
+fn libraries_lead_to_what_they_reexport(rt: HostRuntime) -> Result<(), Fail> {
+    let alloc = rt.alloc();
+    let wrong = rows::wrong_row(alloc)?;
+    let row = wrong.unwrap_or("");
+    assert!(rt; wrong.is_none(), "{row}");
+    assert!(rt; counts::most_libraries(alloc));
+    assert!(rt; counts::a_library_more(alloc));
+    assert!(rt; counts::sdk_hello(alloc));
+    Ok(())
 }

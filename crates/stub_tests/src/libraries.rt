@@ -120,40 +120,56 @@ fn ring(alloc: Global) -> Result<Option<Libraries>, OutOfMemory> {
     )
 }
 
-#[test]
-fn libraries_provide_names(rt: HostRuntime) -> Result<(), Fail> {
-    let rows: [(&[u8], (u8, bool, bool)); 6] = [
-        (b"_a", (1, false, false)),
-        (b"_w", (1, true, false)),
-        (b"_b", (1, false, false)),
-        (b"_c", (1, false, false)),
-        (b"_s", (1, true, false)),
-        (b"_d", (3, false, true)),
-    ];
-    let libs = ring(rt.alloc())?;
-    assert!(rt;
-        libs.is_some_and(|libs| {
-            rows.iter().all(|(name, row)| is_bound(&libs, *name, *row))
-                && provider_of(&libs, b"_e").is_none()
-                && offer_of(&libs, b"_d").is_some_and(|offer| offer.library.position == 7)
-        })
-    );
-    Ok(())
+// The names of the ring, and to what they are bound.
+const BOUND: [(&[u8], (u8, bool, bool)); 6] = [
+    (b"_a", (1, false, false)),
+    (b"_w", (1, true, false)),
+    (b"_b", (1, false, false)),
+    (b"_c", (1, false, false)),
+    (b"_s", (1, true, false)),
+    (b"_d", (3, false, true)),
+];
+
+fn all_are_bound(libs: &Libraries) -> bool {
+    for (name, row) in &BOUND {
+        if !is_bound(libs, *name, *row) {
+            return false;
+        }
+    }
+    true
 }
 
-// Whether these are no libraries: a link past the documents, a document without its links, a library past them, and
-// positions that don't rise.
-#[test]
-fn parts_are_asked_for_their_form(rt: HostRuntime) -> Result<(), Fail> {
-    let alloc = rt.alloc();
-    let one: [&[&'static [u8]]; 1] = [&[]];
-    let none = made(alloc, &one, &[&[0]], &[(1, 0)])?.is_some()
-        && made(alloc, &one, &[&[1]], &[(1, 0)])?.is_none()
-        && made(alloc, &one, &[], &[(1, 0)])?.is_none()
-        && made(alloc, &one, &[&[]], &[(1, 1)])?.is_none()
-        && made(alloc, &one, &[&[]], &[(1, 0), (1, 0)])?.is_none();
-    assert!(rt; none);
-    Ok(())
+fn provides_names(libs: &Libraries) -> bool {
+    all_are_bound(libs)
+        && provider_of(libs, b"_e").is_none()
+        && offer_of(libs, b"_d").is_some_and(|offer| offer.library.position == 7)
+}
+
+fn ring_provides_names(alloc: Global) -> Result<bool, OutOfMemory> {
+    let libs = ring(alloc)?;
+    match &libs {
+        Some(libs) => Ok(provides_names(libs)),
+        None => Ok(false),
+    }
+}
+
+// The links of one document and the libraries, and whether these are libraries: not with a link past the documents, a
+// document without its links, a library past them, and positions that don't rise.
+static FORMS: [(&'static [&'static [usize]], &'static [(u16, usize)], bool); 5] = [
+    (&[&[0]], &[(1, 0)], true),
+    (&[&[1]], &[(1, 0)], false),
+    (&[], &[(1, 0)], false),
+    (&[&[]], &[(1, 1)], false),
+    (&[&[]], &[(1, 0), (1, 0)], false),
+];
+
+fn is_made(
+    alloc: Global,
+    links: &[&[usize]],
+    libraries: &[(u16, usize)],
+) -> Result<bool, OutOfMemory> {
+    let libs = made(alloc, &[&[]], links, libraries)?;
+    Ok(libs.is_some())
 }
 
 // A name of a number: `_n` and seven digits, the lowest first.
@@ -179,46 +195,78 @@ fn numbered(alloc: Global, from: u32, to: u32) -> Result<Stub, OutOfMemory> {
     Ok(stub)
 }
 
-// Two libraries over a ring of a thousand documents, each with three names.
-fn large(alloc: Global) -> Result<Option<Libraries>, OutOfMemory> {
+fn many_documents(alloc: Global) -> Result<StubList, OutOfMemory> {
     let mut stubs = StubList::new(alloc);
-    let mut links = LinkList::new(alloc);
     for document in 0..1000u32 {
         stubs.push(numbered(alloc, 3 * document, 3 * document + 3)?)?;
-        let next = (document as usize + 1) % 1000;
+    }
+    Ok(stubs)
+}
+
+fn ring_of_links(alloc: Global) -> Result<LinkList, OutOfMemory> {
+    let mut links = LinkList::new(alloc);
+    for document in 0..1000usize {
+        let next = (document + 1) % 1000;
         links.push(Items::from_vec(Vec::from_slice(alloc, &[next])?))?;
     }
+    Ok(links)
+}
+
+// Two libraries over a ring of a thousand documents, each with three names.
+fn large(alloc: Global) -> Result<Option<Libraries>, OutOfMemory> {
     whole(
         alloc,
         libraries_of(alloc, &[(3, 700), (5, 0)])?,
-        stubs,
-        links,
+        many_documents(alloc)?,
+        ring_of_links(alloc)?,
     )
 }
 
-#[test]
-fn many_names_are_found(rt: HostRuntime) -> Result<(), Fail> {
-    let alloc = rt.alloc();
-    let libs = large(alloc)?;
-    let mut names = NameList::new(alloc);
-    for number in 0..3000u32 {
-        names.push(name_of(alloc, number)?)?;
+// Whether the name of a number is bound as it should be; there are 3,000.
+fn is_found(alloc: Global, libs: &Libraries, number: u32) -> Result<bool, OutOfMemory> {
+    let name = name_of(alloc, number)?;
+    Ok(if number < 3000 {
+        is_bound(libs, name.as_slice(), (1, number % 2 == 1, false))
+    } else {
+        provider_of(libs, name.as_slice()).is_none()
+    })
+}
+
+fn all_are_found(alloc: Global, libs: &Libraries) -> Result<bool, OutOfMemory> {
+    for number in 0..3001u32 {
+        if !is_found(alloc, libs, number)? {
+            return Ok(false);
+        }
     }
-    let absent = name_of(alloc, 3000)?;
-    assert!(rt;
-        libs.is_some_and(|libs| {
-            names.as_slice().iter().zip(0u32..).all(|(name, number)| is_bound(
-                &libs,
-                name.as_slice(),
-                (1, number % 2 == 1, false)
-            )) && provider_of(&libs, absent.as_slice()).is_none()
-                && libs
-                    .graph()
-                    .reach
-                    .as_slice()
-                    .iter()
-                    .all(|reached| reached.len() == 1000)
-        })
-    );
+    Ok(true)
+}
+
+fn all_are_reached(libs: &Libraries) -> bool {
+    libs.graph()
+        .reach
+        .as_slice()
+        .iter()
+        .all(|reached| reached.len() == 1000)
+}
+
+fn many_names_are_found(alloc: Global) -> Result<bool, OutOfMemory> {
+    let libs = large(alloc)?;
+    match &libs {
+        Some(libs) => Ok(all_are_reached(libs) && all_are_found(alloc, libs)?),
+        None => Ok(false),
+    }
+}
+
+#[test]
+fn libraries_provide_names(rt: HostRuntime) -> Result<(), Fail> {
+    let alloc = rt.alloc();
+    assert!(rt; ring_provides_names(alloc)?);
+    for (at, (links, libraries, is_whole)) in FORMS.iter().enumerate() {
+        assert!(rt;
+            is_made(alloc, links, libraries)? == *is_whole,
+            "in row {at}"
+        );
+    }
+    assert!(rt; many_names_are_found(alloc)?);
     Ok(())
 }

@@ -8,6 +8,7 @@ ghost use Rattle.tbd_yaml.specs.File.{file_of};
 
 use mo_types::Bytes;
 use std::alloc::Global;
+use std::test::Fail;
 use tbd_doc::{Stub, StubFault, StubFile, read_stubs};
 use tbd_yaml::{YamlFault, YamlFile, read_yaml};
 
@@ -80,4 +81,31 @@ fn said(alloc: Global, file: &StubFile) -> Result<Vec<u8>, StubFault> {
         add_stub(alloc, stub, &mut said)?;
     }
     Ok(said)
+}
+
+fn is_said(alloc: Global, file: &StubFile, wanted: &[u8]) -> bool {
+    match said(alloc, file) {
+        Ok(found) => found.as_slice() == wanted,
+        Err(_) => false,
+    }
+}
+
+// Whether what was read are documents that say this.
+fn says(alloc: Global, read: &Result<StubFile, StubFault>, wanted: &[u8]) -> bool {
+    match read {
+        Ok(file) => is_said(alloc, file, wanted),
+        Err(_) => false,
+    }
+}
+
+#[test]
+fn sdk_hello_and_many_symbols(rt: HostRuntime) -> Result<(), Fail> {
+    let alloc = rt.alloc();
+    assert!(rt; worked::sdk_hello(alloc));
+    assert!(rt; worked::many_symbols(alloc) == Ok(true));
+    for wrong in [keys::wrong_key(alloc), faults::wrong_fault(alloc)] {
+        let row = wrong.unwrap_or("");
+        assert!(rt; wrong.is_none(), "{row}");
+    }
+    Ok(())
 }

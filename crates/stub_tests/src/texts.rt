@@ -6,6 +6,7 @@ mod worked;
 
 use mo_types::Bytes;
 use std::alloc::Global;
+use std::test::Fail;
 use tbd_yaml::{YamlEvent, YamlFault, YamlFile, read_yaml};
 
 // The bytes of a row: `~` stands for a newline, `^` for a tab, `;` for a carriage return, `?` for a byte that is no
@@ -62,4 +63,36 @@ fn walk_of(alloc: Global, file: &YamlFile) -> Result<Vec<u8>, YamlFault> {
         }
     }
     Ok(walk)
+}
+
+// The line and the rule of a row, as `5 flow` says.
+fn place_of(text: &str) -> (u32, &str) {
+    let (number, name) = text.split_once(' ').unwrap_or(("", ""));
+    (number.parse::<u32>().unwrap_or(u32::MAX), name)
+}
+
+// Whether what was read is a fault of a line and rule, or a file where the line is 0.
+fn tells(read: &Result<YamlFile, YamlFault>, number: u32, name: &str) -> bool {
+    match read {
+        Ok(_) => number == 0,
+        Err(YamlFault::At { line, rule }) => *line == number && rule.as_str() == name,
+        Err(YamlFault::OutOfMemory) => false,
+    }
+}
+
+#[test]
+fn open_flow_list_and_sdk_hello(rt: HostRuntime) -> Result<(), Fail> {
+    let alloc = rt.alloc();
+    assert!(rt; worked::open_flow_list(alloc));
+    assert!(rt; worked::sdk_hello(alloc));
+    assert!(rt; worked::deep_and_long(alloc) == Ok(true));
+    for wrong in [
+        trees::wrong_tree(alloc),
+        faults::wrong_fault(alloc),
+        cuts::wrong_cut(alloc),
+    ] {
+        let row = wrong.unwrap_or("");
+        assert!(rt; wrong.is_none(), "{row}");
+    }
+    Ok(())
 }

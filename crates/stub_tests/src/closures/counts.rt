@@ -6,21 +6,75 @@ use lib_bind::{
 use mo_outside::FileList;
 use mo_types::{Bytes, OutOfMemory, Refusal, Which};
 use std::alloc::Global;
-use std::test::Fail;
 
-// So many libraries of other install names, on one command line.
-fn many(alloc: Global, count: u16) -> Result<Option<Libraries>, BindFault> {
-    let mut words = String::new(alloc);
-    let mut named = StubFileList::new(alloc);
-    words.push_str("main.o")?;
-    for number in 0..count {
+// The words of a command line that names so many libraries.
+fn many_words(alloc: Global, count: u16) -> Result<String, OutOfMemory> {
+    let mut words = String::from_str(alloc, "main.o")?;
+    for _ in 0..count {
         words.push_str(" l.tbd")?;
-        let install = format!(in alloc; "/l{number}")?;
-        if let Some(stub) = named_at(alloc, number.wrapping_add(1), install.as_str())? {
+    }
+    Ok(words)
+}
+
+fn numbered(alloc: Global, number: u16) -> Result<Option<NamedStub>, OutOfMemory> {
+    let install = format!(in alloc; "/l{number}")?;
+    named_at(alloc, number.wrapping_add(1), install.as_str())
+}
+
+// So many libraries of other install names.
+fn many_named(alloc: Global, count: u16) -> Result<StubFileList, OutOfMemory> {
+    let mut named = StubFileList::new(alloc);
+    for number in 0..count {
+        if let Some(stub) = numbered(alloc, number)? {
             named.push(stub)?;
         }
     }
+    Ok(named)
+}
+
+// So many libraries on one command line.
+fn many(alloc: Global, count: u16) -> Result<Option<Libraries>, BindFault> {
+    let named = many_named(alloc, count)?;
+    let words = many_words(alloc, count)?;
     closed(alloc, words.as_str(), named, FileList::new(alloc), 0)
+}
+
+// The ordinal of the last library.
+fn last_ordinal(answer: &Result<Option<Libraries>, BindFault>) -> Option<u8> {
+    match answer {
+        Ok(Some(libs)) => libs
+            .graph()
+            .libraries
+            .as_slice()
+            .last()
+            .map(|library| library.ordinal),
+        _ => None,
+    }
+}
+
+fn is_limit(answer: &Result<Option<Libraries>, BindFault>) -> bool {
+    let Err(fault) = answer else {
+        return false;
+    };
+    let BindFault::Refused(refusal) = fault else {
+        return false;
+    };
+    match refusal {
+        Refusal::Limit { which } => matches!(which, Which::Libraries),
+        _ => false,
+    }
+}
+
+/// Whether as many libraries are bound as there may be.
+pub fn most_libraries(alloc: Global) -> bool {
+    let answer = many(alloc, 240);
+    last_ordinal(&answer) == Some(240)
+}
+
+/// Whether one library more is told.
+pub fn a_library_more(alloc: Global) -> bool {
+    let answer = many(alloc, 241);
+    is_limit(&answer)
 }
 
 // The text of a library of two documents, the second re-exported by the first, named by a command line.
@@ -64,27 +118,11 @@ fn is_worked(libs: &Libraries) -> bool {
             .any(|document| document.current == 0x0541_6402)
 }
 
-#[test]
-fn libraries_are_counted(rt: HostRuntime) -> Result<(), Fail> {
-    let alloc = rt.alloc();
-    let most = many(alloc, 240);
-    assert!(rt;
-        most.is_ok_and(|libs| libs.is_some_and(|libs| {
-            libs.graph()
-                .libraries
-                .as_slice()
-                .last()
-                .map(|library| library.ordinal)
-                == Some(240)
-        }))
-    );
-    let more = many(alloc, 241);
-    assert!(rt;
-        more.is_err_and(|fault| fault
-            == BindFault::Refused(Refusal::Limit {
-                which: Which::Libraries
-            }))
-    );
-    assert!(rt; worked(alloc).is_ok_and(|libs| libs.is_some_and(|libs| is_worked(&libs))));
-    Ok(())
+/// Whether a library whose second document is re-exported by the first provides its name.
+pub fn sdk_hello(alloc: Global) -> bool {
+    let answer = worked(alloc);
+    match &answer {
+        Ok(Some(libs)) => is_worked(libs),
+        _ => false,
+    }
 }

@@ -3,7 +3,6 @@ use lib_bind::{BindFault, Libraries, StubFileList};
 use mo_outside::FileList;
 use mo_types::{Bytes, Feature, OutOfMemory, Refusal, Rule, Which};
 use std::alloc::Global;
-use std::test::Fail;
 
 // The words of a command line; the stub libraries that it names, by the positions of their inputs; files by their paths;
 // the number of the fetch that fails, or 0; and what comes of it: of each library its position, ordinal and document, and
@@ -85,82 +84,99 @@ fn said_of(alloc: Global, libs: &Libraries) -> Result<Vec<u8>, OutOfMemory> {
 }
 
 // The word for a fault and the path that it tells.
-fn told(fault: BindFault) -> (&'static str, Bytes) {
+fn told(fault: &BindFault) -> (&'static str, &[u8]) {
     match fault {
-        BindFault::ReadFault { path } => ("unread", path),
-        BindFault::Refused(Refusal::Missing { path }) => ("missing", path),
+        BindFault::ReadFault { path } => ("unread", path.as_slice()),
+        BindFault::Refused(Refusal::Missing { path }) => ("missing", path.as_slice()),
         BindFault::Refused(
             Refusal::Unsupported {
                 file,
                 feature: Feature::Tbd,
             },
-        ) => ("tbd", file),
+        ) => ("tbd", file.as_slice()),
         BindFault::Refused(
             Refusal::Malformed {
                 file,
                 place: 0,
                 rule: Rule::NoTarget,
             },
-        ) => ("no target", file),
+        ) => ("no target", file.as_slice()),
         BindFault::Refused(
             Refusal::Malformed {
                 file,
                 place: 0,
                 rule: Rule::NotAnInput,
             },
-        ) => ("no input", file),
+        ) => ("no input", file.as_slice()),
         BindFault::Refused(
             Refusal::Limit {
                 which: Which::Libraries,
             },
-        ) => ("limit", Bytes::new()),
-        _ => ("another", Bytes::new()),
+        ) => ("limit", b""),
+        _ => ("another", b""),
     }
 }
 
-fn said_of_fault(alloc: Global, fault: BindFault) -> Result<Vec<u8>, OutOfMemory> {
+fn said_of_fault(alloc: Global, fault: &BindFault) -> Result<Vec<u8>, OutOfMemory> {
     let (word, path) = told(fault);
     let mut said = Vec::new(alloc);
     said.extend_from_slice(word.as_bytes())?;
     said.push(b' ')?;
-    said.extend_from_slice(path.as_slice())?;
+    said.extend_from_slice(path)?;
     said.push(b' ')?;
     Ok(said)
 }
 
-// Whether what comes of a row is what it says, but for the blank at the end.
-fn holds(alloc: Global, row: &str) -> Result<bool, OutOfMemory> {
-    let mut parts = row.split('\t');
-    let (Some(words), Some(named), Some(files), Some(failing), Some(wanted)) = (
-        parts.next(),
-        parts.next(),
-        parts.next(),
-        parts.next(),
-        parts.next(),
-    ) else {
-        return Ok(false);
-    };
-    let named = named_of(alloc, named)?;
-    let files = files_of(alloc, files)?;
-    let failing = failing.parse::<u64>().unwrap_or(0);
-    let said = match closed(alloc, words, named, files, failing) {
-        Ok(Some(libs)) => said_of(alloc, &libs)?,
-        Ok(None) => Vec::new(alloc),
-        Err(fault) => said_of_fault(alloc, fault)?,
-    };
+fn said_of_answer(
+    alloc: Global,
+    answer: &Result<Option<Libraries>, BindFault>,
+) -> Result<Vec<u8>, OutOfMemory> {
+    match answer {
+        Ok(Some(libs)) => said_of(alloc, libs),
+        Ok(None) => Ok(Vec::new(alloc)),
+        Err(fault) => said_of_fault(alloc, fault),
+    }
+}
+
+// Whether what comes of an answer is what a row says, but for the blank at the end.
+fn is_said(
+    alloc: Global,
+    answer: &Result<Option<Libraries>, BindFault>,
+    wanted: &str,
+) -> Result<bool, OutOfMemory> {
+    let said = said_of_answer(alloc, answer)?;
     let said: &[u8] = said.as_slice();
     Ok(said.split_last().map(|(_, said)| said) == Some(wanted.as_bytes()))
 }
 
-#[test]
-fn libraries_lead_to_what_they_reexport(rt: HostRuntime) -> Result<(), Fail> {
-    let alloc = rt.alloc();
+// The columns of a row.
+fn row_of(row: &str) -> Option<(&str, &str, &str, &str, &str)> {
+    let mut parts = row.split('\t');
+    let words = parts.next()?;
+    let named = parts.next()?;
+    let files = parts.next()?;
+    let failing = parts.next()?;
+    let wanted = parts.next()?;
+    Some((words, named, files, failing, wanted))
+}
+
+fn holds(alloc: Global, row: &str) -> Result<bool, OutOfMemory> {
+    let Some((words, named, files, failing, wanted)) = row_of(row) else {
+        return Ok(false);
+    };
+    let failing = failing.parse::<u64>().unwrap_or(0);
+    let named = named_of(alloc, named)?;
+    let files = files_of(alloc, files)?;
+    let answer = closed(alloc, words, named, files, failing);
+    is_said(alloc, &answer, wanted)
+}
+
+/// The first row of which something else comes.
+pub fn wrong_row(alloc: Global) -> Result<Option<&'static str>, OutOfMemory> {
     for row in ROWS.lines() {
-        let passes = holds(alloc, row)?;
-        if !passes {
-            let _ = println!(rt; "{row}");
+        if !holds(alloc, row)? {
+            return Ok(Some(row));
         }
-        assert!(rt; passes);
     }
-    Ok(())
+    Ok(None)
 }

@@ -1,4 +1,4 @@
-use super::{StubFault, StubFile, read_bytes, said};
+use super::{StubFault, StubFile, read_bytes, says};
 use mo_types::Bytes;
 use std::alloc::Global;
 
@@ -61,30 +61,22 @@ fn counts(file: &StubFile) -> Option<(usize, usize)> {
     Some((stub.exports.len(), weak))
 }
 
-fn counted(alloc: Global, text: Result<Bytes, StubFault>) -> Option<(usize, usize)> {
-    let Ok(text) = text else {
-        return None;
-    };
-    match read_bytes(alloc, &text) {
-        Ok(file) => counts(&file),
+fn counted(read: &Result<StubFile, StubFault>) -> Option<(usize, usize)> {
+    match read {
+        Ok(file) => counts(file),
         Err(_) => None,
     }
 }
 
-fn is_said(alloc: Global, text: &'static [u8], wanted: &[u8]) -> bool {
-    let Ok(file) = read_bytes(alloc, &Bytes::from_static(text)) else {
-        return false;
-    };
-    match said(alloc, &file) {
-        Ok(found) => found.as_slice() == wanted,
-        Err(_) => false,
-    }
+/// Whether a document of thousands of symbols exports each once. `_00000` stands among the weak ones alone.
+pub fn many_symbols(alloc: Global) -> Result<bool, StubFault> {
+    let text = listed(alloc, 6_000)?;
+    let read = read_bytes(alloc, &text);
+    Ok(counted(&read) == Some((6_001, 2_000)))
 }
 
-#[test]
-fn sdk_hello_and_many_symbols(rt: HostRuntime) {
-    let alloc = rt.alloc();
-    assert!(rt; is_said(alloc, SDK_HELLO, SDK_HELLO_SAID));
-    // `_00000` stands among the weak ones alone.
-    assert!(rt; counted(alloc, listed(alloc, 6_000)) == Some((6_001, 2_000)));
+/// Whether a library and what it re-exports say what they do.
+pub fn sdk_hello(alloc: Global) -> bool {
+    let read = read_bytes(alloc, &Bytes::from_static(SDK_HELLO));
+    says(alloc, &read, SDK_HELLO_SAID)
 }

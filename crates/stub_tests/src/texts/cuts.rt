@@ -1,6 +1,5 @@
-use super::read;
+use super::{place_of, read, tells};
 use std::alloc::Global;
-use tbd_yaml::{YamlFault, YamlFile};
 
 const TEXT: &str = "\
     --- !tapi-tbd~\
@@ -75,45 +74,36 @@ const CUTS: &str = "\
     400 0 read\n\
 ";
 
-fn is_so(read: Result<YamlFile, YamlFault>, number: u32, name: &str) -> bool {
-    match read {
-        Ok(_) => number == 0,
-        Err(YamlFault::At { line, rule }) => line == number && rule.as_str() == name,
-        Err(YamlFault::OutOfMemory) => false,
-    }
+fn is_so(alloc: Global, size: usize, number: u32, name: &str) -> bool {
+    let read = read(alloc, TEXT.get(..size).unwrap_or(""));
+    tells(&read, number, name)
 }
 
-// Whether the fronts of more than `from` bytes are what a row says, and how many bytes the last of them has.
-fn fronts_so(alloc: Global, from: usize, row: &str) -> Option<usize> {
-    let mut words = row.split(' ');
-    let (Some(last), Some(number), Some(name)) = (words.next(), words.next(), words.next()) else {
-        return None;
-    };
-    let (Ok(last), Ok(number)) = (last.parse::<usize>(), number.parse::<u32>()) else {
-        return None;
-    };
-    for size in from..=last {
-        let Some(front) = TEXT.get(..size) else {
-            return None;
-        };
-        if !is_so(read(alloc, front), number, name) {
-            return None;
-        }
-    }
-    Some(last)
+// How many bytes the last of a row's fronts has, the line, and the rule.
+fn row_of(row: &str) -> (usize, u32, &str) {
+    let (last, rest) = row.split_once(' ').unwrap_or(("", ""));
+    let (number, name) = place_of(rest);
+    (last.parse::<usize>().unwrap_or(0), number, name)
 }
 
-#[test]
-fn a_text_may_be_cut_anywhere(rt: HostRuntime) {
-    let alloc = rt.alloc();
+/// The first row of which a front of the text is something else.
+pub fn wrong_cut(alloc: Global) -> Option<&'static str> {
     let mut from = 0;
     for row in CUTS.lines() {
-        let last = fronts_so(alloc, from, row);
-        if last.is_none() {
-            let _ = println!(rt; "{row}");
+        let (last, number, name) = row_of(row);
+        if last < from || last > TEXT.len() {
+            return Some(row);
         }
-        assert!(rt; last.is_some());
-        from = last.unwrap_or(0).min(400) + 1;
+        for size in from..=last {
+            if !is_so(alloc, size, number, name) {
+                return Some(row);
+            }
+        }
+        from = last.min(400) + 1;
     }
-    assert!(rt; from == TEXT.len() + 1);
+    if from == TEXT.len() + 1 {
+        None
+    } else {
+        Some("the whole text")
+    }
 }

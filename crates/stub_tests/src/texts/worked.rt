@@ -1,7 +1,7 @@
-use super::{read_bytes, walk_of};
-use mo_types::{Bytes, Rule};
+use super::{read_bytes, tells, walk_of};
+use mo_types::Bytes;
 use std::alloc::Global;
-use tbd_yaml::YamlFault;
+use tbd_yaml::{YamlFault, YamlFile};
 
 const SDK_HELLO: &[u8] = b"\
 --- !tapi-tbd\n\
@@ -38,12 +38,16 @@ exports: [ a,\n  \
   b\n\
 ...\n";
 
-fn is_walk(alloc: Global, text: &'static [u8], walk: &[u8]) -> bool {
-    let Ok(file) = read_bytes(alloc, &Bytes::from_static(text)) else {
-        return false;
-    };
-    match walk_of(alloc, &file) {
+fn has_walk(alloc: Global, file: &YamlFile, walk: &[u8]) -> bool {
+    match walk_of(alloc, file) {
         Ok(found) => found.as_slice() == walk,
+        Err(_) => false,
+    }
+}
+
+fn is_walk(alloc: Global, text: &'static [u8], walk: &[u8]) -> bool {
+    match &read_bytes(alloc, &Bytes::from_static(text)) {
+        Ok(file) => has_walk(alloc, file, walk),
         Err(_) => false,
     }
 }
@@ -72,35 +76,34 @@ fn listed(alloc: Global, lines: usize) -> Result<Bytes, YamlFault> {
     Ok(Bytes::from_vec(text)?)
 }
 
-// How many steps the walk through the only tree of a text has, or 0.
-fn steps_of(alloc: Global, text: Result<Bytes, YamlFault>) -> usize {
-    let Ok(text) = text else {
-        return 0;
-    };
-    match read_bytes(alloc, &text) {
-        Ok(file) => match file.docs.as_slice() {
-            [doc] => doc.events.len(),
-            _ => 0,
-        },
-        Err(_) => 0,
+// How many steps the walk through the only tree of a file has, or 0.
+fn steps(file: &YamlFile) -> usize {
+    match file.docs.as_slice() {
+        [doc] => doc.events.len(),
+        _ => 0,
     }
 }
 
-#[test]
-fn open_flow_list_and_sdk_hello(rt: HostRuntime) {
-    let alloc = rt.alloc();
-    assert!(rt; is_walk(alloc, SDK_HELLO, SDK_HELLO_WALK));
-    assert!(rt; is_walk(alloc, b"---\na: \"\\n\\t\\0\"", b"%{a=<\n\t\0>."));
+fn steps_of(alloc: Global, text: &Bytes) -> Result<usize, YamlFault> {
+    let file = read_bytes(alloc, text)?;
+    Ok(steps(&file))
+}
+
+/// Whether keys within each other and a long list are read.
+pub fn deep_and_long(alloc: Global) -> Result<bool, YamlFault> {
+    let deep = steps_of(alloc, &nested(alloc, 46_000)?)?;
+    let long = steps_of(alloc, &listed(alloc, 5_000)?)?;
+    Ok(deep == 138_001 && long == 20_002)
+}
+
+/// Whether the line that opens a list which isn't closed is told.
+pub fn open_flow_list(alloc: Global) -> bool {
     let told = read_bytes(alloc, &Bytes::from_static(OPEN_FLOW_LIST));
-    assert!(rt;
-        matches!(
-            told,
-            Err(YamlFault::At {
-                line: 5,
-                rule: Rule::Flow
-            })
-        )
-    );
-    assert!(rt; steps_of(alloc, nested(alloc, 46_000)) == 138_001);
-    assert!(rt; steps_of(alloc, listed(alloc, 5_000)) == 20_002);
+    tells(&told, 5, "flow")
+}
+
+/// Whether two documents, and escapes, are their trees.
+pub fn sdk_hello(alloc: Global) -> bool {
+    is_walk(alloc, SDK_HELLO, SDK_HELLO_WALK)
+        && is_walk(alloc, b"---\na: \"\\n\\t\\0\"", b"%{a=<\n\t\0>.")
 }
