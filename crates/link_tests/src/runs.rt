@@ -31,7 +31,7 @@ fn returning_zero() -> &'static [u8] {
 // The same object with `_help` in place of `_main`.
 fn helping(alloc: Global) -> Result<Bytes, OutOfMemory> {
     let object = returning_zero();
-    let mut bytes = Vec::from_slice(alloc, &object[..object.len() - 6])?;
+    let mut bytes = Vec::from_slice(alloc, &object[..object.len().saturating_sub(6)])?;
     bytes.extend_from_slice(b"_help\x00")?;
     Bytes::from_vec(bytes)
 }
