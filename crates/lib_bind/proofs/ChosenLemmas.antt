@@ -108,7 +108,7 @@ le_true a b is = grind (arith, tests)
 le_false : (a b : ℕ) → nat_le a b ≡ false → b < a
 le_false a b is = grind (arith, tests)
 
-lt_true : (a b : ℕ) → nat_lt a b ≡ true → a < b
+pub lt_true : (a b : ℕ) → nat_lt a b ≡ true → a < b
 lt_true a b is = grind (arith, tests)
 
 chosen_by : (least : ℕ) (command : Command) (named : NamedStub) (known : Option ℕ) (chosen : Chosen) → least ≤ named.position → 0 < length named.file.docs → IsChosen least chosen

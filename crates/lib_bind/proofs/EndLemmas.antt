@@ -37,20 +37,20 @@ stays_ended look root heads start (suc more) count why is =
     ap (λ n. after look root heads n start) one
     ∙ ap (λ (r : Result Closing Ended). r >>= step look root heads (more + count)) (stays_ended look root heads start more count why is)
 
-abbrev bound_of : Chosen → Closing → Bound
+abbrev pub bound_of : Chosen → Closing → Bound
 bound_of chosen closing = record { libraries = chosen.libraries; closing = closing }
 
 abbrev start_of : Chosen → Closing
 start_of chosen = begun chosen.libraries chosen.heads chosen.files
 
-abbrev ends : (List ℕ → Answer) → Command → ℕ → Chosen → Result Bound Ended
+abbrev pub ends : (List ℕ → Answer) → Command → ℕ → Chosen → Result Bound Ended
 ends look command count chosen =
     after look command.syslibroot chosen.heads count (start_of chosen) >>= λ closing. Ok (bound_of chosen closing)
 
 abbrev given : Bound → Result Bound Ended
 given bound = Ok bound
 
-same_value : (one other : Bound) → given one ≡ given other → one ≡ other
+pub same_value : (one other : Bound) → given one ≡ given other → one ≡ other
 same_value one other is = cc
 
 closing_stays : (look : List ℕ → Answer) (command : Command) (chosen : Chosen) (more count : ℕ) (bound : Bound) (closed : Result Closing Ended)

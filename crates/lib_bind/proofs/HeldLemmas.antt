@@ -60,7 +60,7 @@ no_links [] from = refl
 no_links (stub ∷ stubs) zero = refl
 no_links (stub ∷ stubs) (suc from) = no_links stubs from
 
-same_links : (links : List (List ℕ)) (stubs : List Stub) (from : ℕ) → linked (links ++ map (λ stub. []) stubs) from ≡ linked links from
+pub same_links : (links : List (List ℕ)) (stubs : List Stub) (from : ℕ) → linked (links ++ map (λ stub. []) stubs) from ≡ linked links from
 same_links [] stubs from = no_links stubs from
 same_links (targets ∷ links) stubs zero = refl
 same_links (targets ∷ links) stubs (suc from) = same_links links stubs from

@@ -11,9 +11,14 @@ pub mod GrowingLemmas
 pub mod HeldLemmas
 pub mod IndexLemmas
 pub mod LawLemmas
+pub mod LinkLemmas
+pub mod NearLemmas
+pub mod OneLemmas
 pub mod ReachLemmas
 pub mod ReachedLemmas
 pub mod SoughtLemmas
+pub mod StayLemmas
 pub mod StepLemmas
 pub mod TextLemmas
+pub mod ToldLemmas
 pub mod WholeLemmas

@@ -1,8 +1,12 @@
 -- Documents that are found by following links.
 use Rattle.std.proofs.Common.{◌≡◌, ℕ, ◌+◌, ◌<◌, ◌≤◌, ◌⊎◌, Bool, true, false, nat_eq, List, [], ◌∷◌, ◌++◌, length, take, get_or, slice_get, Contains, Some, refl, sym, ap, subst, ◌∙◌, inl, inr, arith, append_assoc, length-append}
 use Rattle.std.specs.List.{IsDistinct, list_any}
+use Rattle.std.specs.List.Sorted.{IsPermutation, IsSorted, IsStrictlySortedBy}
+use Rattle.std.specs.Ordering.{nat_cmp}
 use Rattle.std.proofs.lemmas.List.{append-nil, get_or_append_left, get_or_default, get_or_push, take_all, take_more}
 use Rattle.std.proofs.lemmas.List.Sums.{fold-append}
+use Rattle.std.proofs.lemmas.List.Sorted.{Contains-permutation, IsNonDecreasingBy-from_sort, IsPermutation-sym}
+use Rattle.std.proofs.lemmas.Map.Keys.{IsDistinct-IsPermutation, IsStrictlyIncreasing-from_distinct, sorted_from_strictly_increasing}
 use Rattle.std.proofs.lemmas.Map.Steps.{length-le_from_distinct_below}
 use Rattle.std.proofs.lemmas.Option.{slice_get-get_or, slice_get_within}
 use Rattle.indexmap.specs.IndexSet.{insert_all, insert_key}
@@ -168,11 +172,18 @@ closed_by_members links from found at searching past d to (k, low, is) there =
     let same : get_or found k 0 ≡ d = get_or_default found k 0 d low ∙ is in
     searching.closed k (omega (arith, low, past)) low to (subst (λ (e : ℕ). Contains (linked links e) to) (sym same) there)
 
-pub ends : (links : List (List ℕ)) (from : ℕ) (found : List ℕ) (at : ℕ) → IsSearching links from found at → length found ≤ at → IsDistinct nat_eq found → AreReached links from found
-ends links from found at searching past once = record {
-  all = λ to reaches. leads_among links found (closed_by_members links from found at searching past) from reaches.path to searching.start reaches.leads;
-  only = searching.only;
-  once = once;
+flips : (a b : ℕ) → nat_eq a b ≡ nat_eq b a
+flips a b = grind arith
+
+pub rises : (documents ordered : List ℕ) → IsDistinct nat_eq documents → IsPermutation documents ordered → IsSorted nat_cmp ordered → IsStrictlySortedBy nat_cmp ordered
+rises documents ordered once same sorted =
+    sorted_from_strictly_increasing ordered (IsStrictlyIncreasing-from_distinct ordered (IsNonDecreasingBy-from_sort (λ (n : ℕ). n) ordered sorted) (IsDistinct-IsPermutation nat_eq flips documents ordered same once))
+
+pub ends : (links : List (List ℕ)) (from : ℕ) (found list : List ℕ) (at : ℕ) → IsSearching links from found at → length found ≤ at → IsPermutation found list → IsStrictlySortedBy nat_cmp list → AreReached links from list
+ends links from found list at searching past same rising = record {
+  all = λ to reaches. Contains-permutation found list to same (leads_among links found (closed_by_members links from found at searching past) from reaches.path to searching.start reaches.leads);
+  only = λ to there. searching.only to (Contains-permutation list found to (IsPermutation-sym found list same) there);
+  rising = rising;
 }
 
 -- there are no more documents than links
@@ -222,6 +233,3 @@ first_all libraries links reach at first past within =
 
 pub links_at : (links : List (List ℕ)) (document : ℕ) (listed read : List ℕ) → document < length links → listed ≡ get_or links document listed → read ≡ listed → read ≡ linked links document
 links_at links document listed read within is same = same ∙ is ∙ get_or_default links document listed [] within
-
-pub ends_as : (links : List (List ℕ)) (from : ℕ) (found list : List ℕ) (at : ℕ) → IsSearching links from found at → length found ≤ at → IsDistinct nat_eq found → list ≡ found → AreReached links from list
-ends_as links from found list at searching past once is = subst (λ (ds : List ℕ). AreReached links from ds) (sym is) (ends links from found at searching past once)

@@ -15,7 +15,7 @@ use Rattle.lib_bind.specs.inner.Index.{IsIndexed, known}
 use Rattle.lib_bind.proofs.ReachLemmas.{reached_below}
 use Rattle.lib_bind.proofs.ReachedLemmas.{no_library}
 
-within_or_past : (at n : ℕ) → (at < n) ⊎ (n ≤ at)
+pub within_or_past : (at n : ℕ) → (at < n) ⊎ (n ≤ at)
 within_or_past at n = grind arith
 
 below : (libraries : List Library) (links reach : List (List ℕ)) (documents at d : ℕ) → AreLinks documents links → AreLibraries documents libraries → AreReaches libraries links reach → (at < length libraries) ⊎ (length libraries ≤ at) → Contains (get_or reach at []) d → d < documents

@@ -1,6 +1,7 @@
 -- The libraries of a link, and the documents that they reach.
-use Rattle.std.specs.Prelude.{ℕ, ◌≡◌, ◌+◌, ◌<◌, ◌≤◌, nat_eq, List, [], ◌∷◌, length, get_or, slice_get, Some, Contains}
-use Rattle.std.specs.List.{IsDistinct}
+use Rattle.std.specs.Prelude.{ℕ, ◌≡◌, ◌+◌, ◌<◌, ◌≤◌, List, [], ◌∷◌, length, get_or, slice_get, Some, Contains}
+use Rattle.std.specs.List.Sorted.{IsStrictlySortedBy}
+use Rattle.std.specs.Ordering.{nat_cmp}
 use Rattle.lib_bind.specs.declared.library.Library.{Library}
 use Rattle.lib_bind.specs.declared.library.LibraryGraph.{LibraryGraph}
 
@@ -18,11 +19,11 @@ pub record Reaches (links : List (List ℕ)) (from to : ℕ) : Type 0 where
   pub path : List ℕ
   pub leads : Leads links from path to
 
--- the documents are those that a path of links leads to, once each
+-- the documents are those that a path of links leads to, once each, by rising number
 pub record AreReached (links : List (List ℕ)) (from : ℕ) (documents : List ℕ) : Type 0 where
   pub all : (to : ℕ) → Reaches links from to → Contains documents to
   pub only : (to : ℕ) → Contains documents to → Reaches links from to
-  pub once : IsDistinct nat_eq documents
+  pub rising : IsStrictlySortedBy nat_cmp documents
 
 -- each document has its links, and all of them lead to documents
 pub record AreLinks (documents : ℕ) (links : List (List ℕ)) : Type 0 where

@@ -3,6 +3,7 @@ pub mod Closing
 pub mod Closure
 pub mod Found
 pub mod Graph
+pub mod Links
 pub mod Named
 pub mod Paths
 pub mod Provides

@@ -25,7 +25,8 @@ pub use bind_fault::BindFault;
 pub use binding::closure;
 pub use checks::{are_libraries, are_links};
 pub use laws::{
-    a_library_reaches_what_paths_lead_to, a_provider_is_the_first, what_is_bound_stays,
+    a_library_reaches_what_paths_lead_to, a_provider_is_the_first, links_are_all_reexports,
+    what_is_bound_is_one, what_is_bound_stays, what_is_known_was_answered, whole_libraries_are_one,
     without_a_provider_nothing_provides,
 };
 pub use libraries::Libraries;

@@ -32,6 +32,6 @@ pub struct LibraryGraph {
     pub documents: StubList,
     /// For each document those that it re-exports.
     pub links: LinkList,
-    /// For each library those that a path of links leads to from its document, that one among them.
+    /// For each library those that a path of links leads to from its document, that one among them, by rising number.
     pub reach: LinkList,
 }

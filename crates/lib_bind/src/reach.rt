@@ -1,6 +1,8 @@
 //! The documents that libraries reach.
 ghost use Rattle.std.specs.Prelude.{◌≡◌, ◌<◌, ℕ, List, Some, IfOk, length, nat_eq, get_or, slice_get};
 ghost use Rattle.std.specs.List.{IsDistinct};
+ghost use Rattle.std.specs.List.Sorted.{IsPermutation, IsStrictlySortedBy};
+ghost use Rattle.std.specs.Ordering.{nat_cmp};
 ghost use Rattle.indexmap.specs.IndexSet.{insert_all};
 ghost use Rattle.lib_bind.specs.Graph.{AreLinks, AreReached, AreReaches, linked};
 ghost use Rattle.lib_bind.specs.declared.library.Library.{Library as Lib};
@@ -32,15 +34,26 @@ fn document_at(found: &IndexSet<usize>, at: usize) -> usize
     }
 }
 
-// The list of documents that were found.
+// Puts documents, none of which is there twice, by rising number.
+fn put_in_order(documents: &mut Vec<usize>)
+    requires once { IsDistinct nat_eq documents.old.items }
+    ensures same { IsPermutation documents.old.items documents.new.items }
+    ensures rising { IsStrictlySortedBy nat_cmp documents.new.items }
+{
+    documents.sort_unstable();
+}
+
+// The list of documents that were found, by rising number.
 fn list_of(alloc: Global, found: &IndexSet<usize>) -> Result<NumberList, OutOfMemory>
-    ensures all { IfOk result (λ list. list ≡ found.now.keys) }
-    ensures once { IfOk result (λ list. IsDistinct nat_eq list) }
+    ensures same { IfOk result (λ list. IsPermutation found.now.keys list) }
+    ensures rising { IfOk result (λ list. IsStrictlySortedBy nat_cmp list) }
+    ensures once { IfOk result (λ list. IsDistinct nat_eq found.now.keys) }
 {
     let mut list = Vec::with_capacity(alloc, found.len())?;
     for at in 0..found.len() {
         list.push(document_at(found, at))?;
     }
+    put_in_order(&mut list);
     Ok(Items::from_vec(list))
 }
 
@@ -52,7 +65,7 @@ fn links_of(links: &[NumberList], document: usize) -> &[usize]
     links[document].as_slice()
 }
 
-// The documents that a path of links leads to from one, that one among them, breadth first.
+// The documents that a path of links leads to from one, that one among them. They are looked for breadth first.
 fn reached(alloc: Global, links: &[NumberList], from: usize) -> Result<NumberList, OutOfMemory>
     requires links { AreLinks (length links.now) links.now }
     requires from { from < length links.now }

@@ -1,7 +1,6 @@
-use Rattle.std.proofs.Common.{ℕ, ◌<◌, ◌≤◌, List, length, nat_eq, ap, subst, ◌∙◌, arith}
-use Rattle.std.specs.List.{IsDistinct}
+use Rattle.std.proofs.Common.{ℕ, ◌<◌, ◌≤◌, length, nat_eq, ap, subst, ◌∙◌, arith}
 use Rattle.indexmap.specs.IndexSet.{insert_all}
-use Rattle.lib_bind.proofs.ReachLemmas.{among, ends_as, few, next, reached_below}
+use Rattle.lib_bind.proofs.ReachLemmas.{among, ends, few, next, reached_below}
 use Rattle.lib_bind.proofs.reach.reached.Goals as goal
 
 pub links_of-requires : goal.links_of-requires
@@ -18,12 +17,10 @@ loop-at-preserved c =
 
 pub returns : goal.returns
 returns c =
-    let once : IsDistinct nat_eq c.loop-at.found.keys = subst (λ (ds : List ℕ). IsDistinct nat_eq ds) c.in_ok-list_of-2.ensures.all c.in_ok-list_of-2.ensures.once in
-    let count : length c.loop-at.found.keys ≤ length c.args.links.now = few c.args.links.now c.args.from c.loop-at.found.keys c.loop-at.at c.loop-at.invariant c.requires.links c.requires.from once in
-    ends_as c.args.links.now c.args.from c.loop-at.found.keys c.in_ok-list_of-2.field-0 c.loop-at.at c.loop-at.invariant (omega (arith, count, c.loop-at-test.false)) once c.in_ok-list_of-2.ensures.all
+    let count : length c.loop-at.found.keys ≤ length c.args.links.now = few c.args.links.now c.args.from c.loop-at.found.keys c.loop-at.at c.loop-at.invariant c.requires.links c.requires.from c.in_ok-list_of-2.ensures.once in
+    ends c.args.links.now c.args.from c.loop-at.found.keys c.in_ok-list_of-2.field-0 c.loop-at.at c.loop-at.invariant (omega (arith, count, c.loop-at-test.false)) c.in_ok-list_of-2.ensures.same c.in_ok-list_of-2.ensures.rising
 
 pub returns-then-at-len : goal.returns-then-at-len
 returns-then-at-len c =
-    let once : IsDistinct nat_eq c.loop-at.found.keys = subst (λ (ds : List ℕ). IsDistinct nat_eq ds) c.in_ok-list_of.ensures.all c.in_ok-list_of.ensures.once in
     let past : length c.loop-at.found.keys ≤ c.loop-at.at = subst (λ (n : ℕ). n ≤ c.loop-at.at) c.len.ensures.len c.if-at-len.true in
-    ends_as c.args.links.now c.args.from c.loop-at.found.keys c.in_ok-list_of.field-0 c.loop-at.at c.loop-at.invariant past once c.in_ok-list_of.ensures.all
+    ends c.args.links.now c.args.from c.loop-at.found.keys c.in_ok-list_of.field-0 c.loop-at.at c.loop-at.invariant past c.in_ok-list_of.ensures.same c.in_ok-list_of.ensures.rising
