@@ -1,0 +1,4 @@
+pub mod PlaceLemmas
+pub mod StepLemmas
+pub mod ThereLemmas
+pub mod ToldLemmas

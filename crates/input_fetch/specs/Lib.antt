@@ -1,0 +1,4 @@
+pub mod Contents
+pub mod Fetching
+pub mod Steps
+pub mod There
