@@ -1,9 +1,9 @@
 -- The references of an atom, by their places in the order of atoms and as the file lists them.
-use Rattle.std.proofs.Common.{◌≡◌, ℕ, ◌+◌, ◌<◌, Bool, true, false, cond, List, [], ◌∷◌, ◌++◌, length, map, slice_get, Some, refl, sym, ap, ◌∙◌, arith, append_assoc, length-append}
+use Rattle.std.proofs.Common.{◌≡◌, ℕ, ◌+◌, Bool, true, false, cond, List, [], ◌∷◌, ◌++◌, length, map, slice_get, Some, refl, sym, ap, ◌∙◌, arith, append_assoc, length-append}
 use Rattle.std.specs.List.{enumerate_from, filter, flat_map}
 use Rattle.std.specs.Option.{option_to_list}
 use Rattle.std.specs.Prelude.{Option}
-use Rattle.kept_refs.specs.Order.{AreInOrder, is_of, place, place_of, spot_of, spots_of}
+use Rattle.kept_refs.specs.Order.{AreInOrder, is_of, place, spot_of, spots_of}
 use Rattle.kept_refs.specs.declared.order.Spot.{Spot}
 use Rattle.mo_types.specs.declared.goal.Goal.{Goal}
 use Rattle.mo_types.specs.declared.key.AtomKey.{AtomKey}

@@ -1,3 +1,4 @@
 pub mod Listed
 pub mod Orders
 pub mod Spots
+pub mod Told

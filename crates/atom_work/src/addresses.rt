@@ -5,14 +5,22 @@ ghost use Rattle.atom_work.specs.Addresses as spec;
 
 use mo_types::{AtomKey, Goal, OutOfMemory, Target};
 use resolve::Winners;
-use sect_place::{Layout, address};
+use sect_place::{Layout, address, address_near};
 
 // The address of an atom.
-pub(crate) fn address_of(layout: &Layout, atom: AtomKey) -> Option<u64>
+fn address_of(layout: &Layout, atom: AtomKey) -> Option<u64>
     requires { spec.AreOnce layout.now.placed }
     ensures { result ≡ spec.address_in layout.now.placed atom }
 {
     address(layout, atom)
+}
+
+// The same, of an atom that mostly stands at a place of the list of addresses.
+pub(crate) fn address_beside(layout: &Layout, near: usize, atom: AtomKey) -> Option<u64>
+    requires { spec.AreOnce layout.now.placed }
+    ensures { result ≡ spec.address_in layout.now.placed atom }
+{
+    address_near(layout, near, atom)
 }
 
 // The address of a place in an atom. One of 2^64 or more is answered as want of memory.

@@ -6,10 +6,10 @@ ghost use Rattle.mark_core.specs.Kept.{has};
 ghost use Rattle.mo_types.specs.Keys.{compare_keys};
 ghost use Rattle.atom_work.specs.Atoms as spec;
 
+use mark_core::is_kept_near;
 use mo_types::{Atom, AtomKey, AtomList, Items, KeyList, Loaded, LoadedFile, OutOfMemory};
 use resolve::Winners;
 use std::alloc::Global;
-use std::cmp::Ordering;
 
 /// An atom of the image, with the alignment with which it is placed.
 #[derive(Clone, Copy, Debug, PartialEq, Eq)]
@@ -21,24 +21,6 @@ pub struct KeptAtom {
 
 /// The atoms of an image, file by file.
 pub type KeptList = Items<KeptAtom>;
-
-// The order of atoms.
-fn compare(a: &AtomKey, b: &AtomKey) -> Ordering
-    ensures { result ≡ compare_keys a.now b.now }
-{
-    a.cmp(b)
-}
-
-// Whether an atom is among those of a list whose keys rise.
-fn is_kept(keys: &[AtomKey], key: AtomKey) -> bool
-    requires { IsStrictlySortedBy compare_keys keys.now }
-    ensures { result ≡ has keys.now key }
-{
-    match keys.binary_search_by(|other| compare(other, &key)) {
-        Ok(_) => true,
-        Err(_) => false,
-    }
-}
 
 // An atom with the alignment with which it is placed.
 #[tactic(auto, unfolding(crate::specs::Atoms::raised))]
@@ -67,7 +49,7 @@ fn with_atom(
     ensures { IfOk result (λ new. new.items ≡ before.items ++ map (spec.kept_as winners.now.literals at) (if has keys.now atom.key then atom ∷ [] else [])) }
 {
     let mut kept = before;
-    if is_kept(keys, atom.key) {
+    if is_kept_near(keys, kept.len(), atom.key) {
         kept.push(KeptAtom {
             atom: raised(winners, atom),
             file: at,
@@ -106,7 +88,7 @@ fn kept_of(
     requires { IsStrictlySortedBy compare_keys keys.now }
     ensures { IfOk result (λ kept. kept.items ≡ spec.kept_atoms winners.now.literals keys.now files.now) }
 {
-    let mut kept = Vec::new(alloc);
+    let mut kept = Vec::with_capacity(alloc, keys.len())?;
     for (at, file) in files.iter().enumerate() {
         kept = with_atoms(kept, winners, keys, at, file.atoms.as_slice())?;
     }

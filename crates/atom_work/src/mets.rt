@@ -1,11 +1,13 @@
 //! What an atom's references mean in the image.
-ghost use Rattle.std.specs.Prelude.{◌≡◌, ◌++◌, ◌∷◌, [], IfOk, slice_get};
+ghost use Rattle.std.specs.Prelude.{◌≡◌, ◌++◌, ◌∷◌, [], List, IfOk, OnOk, slice_get};
 ghost use Rattle.std.specs.List.{flat_map};
 ghost use Rattle.std.specs.Option.{option_map, option_map_or, option_to_list};
 ghost use Rattle.kept_refs.specs.Order.{AreInOrder};
-ghost use Rattle.atom_work.specs.Addresses.{AreOnce, target_address};
+ghost use Rattle.mo_types.specs.declared.goal.Goal.{Goal as Declared};
+ghost use Rattle.atom_work.specs.Addresses.{AreOnce, Scene, target_address};
 ghost use Rattle.atom_work.specs.Mets as spec;
 ghost use Rattle.atom_work.specs.inner.Spots.{mets_at};
+ghost use Rattle.atom_work.specs.inner.Told.{IsTold};
 
 use crate::addresses::target_address;
 use kept_refs::{Spot, spots_of_atom};
@@ -31,6 +33,42 @@ fn minus_address(
     }
 }
 
+/// The symbol to which a reference led last, and its address: the parts of an address mostly stand together.
+#[derive(Clone, Copy)]
+struct Told {
+    index: u32,
+    address: u64,
+}
+
+// The address of a target, where that of a symbol is known.
+fn value_of(
+    winners: &Winners,
+    layout: &Layout,
+    base: u64,
+    goals: &[Goal],
+    last: &Option<Told>,
+    target: &Target,
+) -> Result<u64, OutOfMemory>
+    requires once { AreOnce layout.now.placed }
+    requires told { IsTold (record { literals = winners.now.literals; base = base; placed = layout.now.placed }) goals.now last.now }
+    ensures { IfOk result (λ place. place ≡ target_address (record { literals = winners.now.literals; base = base; placed = layout.now.placed }) goals.now target.now) }
+{
+    match (target, last) {
+        (Target::Name(index), Some(told)) if *index == told.index => Ok(told.address),
+        _ => target_address(winners, layout, base, goals, target),
+    }
+}
+
+// What is known of the address of a target.
+fn told_of(target: &Target, address: u64) -> Option<Told>
+    ensures { (scene : Scene) (goals : List Declared) → address ≡ target_address scene goals target.now → IsTold scene goals result }
+{
+    match *target {
+        Target::Name(index) => Some(Told { index, address }),
+        Target::Local(..) => None,
+    }
+}
+
 // A reference with the addresses to which it leads.
 #[tactic(auto, unfolding(crate::specs::Mets::met_of))]
 fn met_of(
@@ -39,11 +77,12 @@ fn met_of(
     base: u64,
     goals: &[Goal],
     reference: &Ref,
+    value: u64,
 ) -> Result<Met, OutOfMemory>
-    requires { AreOnce layout.now.placed }
+    requires once { AreOnce layout.now.placed }
+    requires value { value ≡ target_address (record { literals = winners.now.literals; base = base; placed = layout.now.placed }) goals.now reference.now.target }
     ensures { IfOk result (λ met. met ≡ spec.met_of (record { literals = winners.now.literals; base = base; placed = layout.now.placed }) goals.now reference.now) }
 {
-    let value = target_address(winners, layout, base, goals, &reference.target)?;
     let minus = minus_address(winners, layout, base, goals, &reference.minus)?;
     Ok(Met {
         place: reference.place,
@@ -65,13 +104,20 @@ fn with_met(
     goals: &[Goal],
     refs: &RefList,
     spot: Spot,
+    last: &mut Option<Told>,
 ) -> Result<Vec<Met>, OutOfMemory>
-    requires { AreOnce layout.now.placed }
-    ensures { IfOk result (λ new. new.items ≡ before.items ++ mets_at (record { literals = winners.now.literals; base = base; placed = layout.now.placed }) goals.now refs.now spot) }
+    requires once { AreOnce layout.now.placed }
+    requires told { IsTold (record { literals = winners.now.literals; base = base; placed = layout.now.placed }) goals.now last.old }
+    ensures mets { IfOk result (λ new. new.items ≡ before.items ++ mets_at (record { literals = winners.now.literals; base = base; placed = layout.now.placed }) goals.now refs.now spot) }
+    ensures told { OnOk result (IsTold (record { literals = winners.now.literals; base = base; placed = layout.now.placed }) goals.now last.new) }
 {
     let mut mets = before;
     match refs.get(spot.index as usize) {
-        Some(reference) => mets.push(met_of(winners, layout, base, goals, &reference)?)?,
+        Some(reference) => {
+            let value = value_of(winners, layout, base, goals, last, &reference.target)?;
+            *last = told_of(&reference.target, value);
+            mets.push(met_of(winners, layout, base, goals, &reference, value)?)?;
+        }
         None => {}
     }
     Ok(mets)
@@ -92,8 +138,9 @@ fn with_spots(
     ensures { IfOk result (λ new. new.items ≡ before.items ++ flat_map (mets_at (record { literals = winners.now.literals; base = base; placed = layout.now.placed }) goals.now refs.now) spots.now) }
 {
     let mut mets = before;
+    let mut last = None;
     for spot in spots {
-        mets = with_met(mets, winners, layout, base, goals, refs, *spot)?;
+        mets = with_met(mets, winners, layout, base, goals, refs, *spot, &mut last)?;
     }
     Ok(mets)
 }

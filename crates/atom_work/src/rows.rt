@@ -1,8 +1,8 @@
 //! The atoms that have bytes in the image, in its order, with their places and references.
-ghost use Rattle.std.specs.Prelude.{◌≡◌, ◌+◌, ◌-◌, ◌++◌, ◌∷◌, [], List, IfOk, length, map, not};
+ghost use Rattle.std.specs.Prelude.{◌≡◌, ◌+◌, ◌-◌, ◌++◌, ◌∷◌, [], List, IfOk, IsTrue, length, map, not};
 ghost use Rattle.std.specs.List.{filter, filter_map, find, flat_map};
 ghost use Rattle.std.specs.List.Sorted.{IsStrictlySortedBy};
-ghost use Rattle.std.specs.Option.{option_copied, option_to_list};
+ghost use Rattle.std.specs.Option.{option_map, option_to_list};
 ghost use Rattle.std.specs.Ordering.{is_eq, on};
 ghost use Rattle.mo_types.specs.Keys.{compare_keys};
 ghost use Rattle.mo_types.specs.declared.goal.Goal.{Goal};
@@ -13,12 +13,12 @@ ghost use Rattle.atom_work.specs.declared.kept.KeptAtom.{KeptAtom};
 ghost use Rattle.atom_work.specs.inner.Listed.{AreListed};
 ghost use Rattle.atom_work.specs.inner.Orders.{AreOrders};
 
-use crate::addresses::address_of;
+use crate::addresses::address_beside;
 use crate::kept::KeptAtom;
 use crate::mets::with_mets;
 use crate::orders::orders_of;
 use kept_refs::{GoalTable, SpotList};
-use mo_types::{AtomKey, Goal, Items, Loaded, LoadedList, OutOfMemory};
+use mo_types::{AtomKey, Goal, Items, Loaded, LoadedFile, LoadedList, OutOfMemory};
 use patch::{Met, PlacedWork};
 use resolve::Winners;
 use sect_place::{Layout, PlacedSection};
@@ -52,15 +52,46 @@ fn compare(a: &AtomKey, b: &AtomKey) -> Ordering
     a.cmp(b)
 }
 
+// A kept atom, and its place in the list.
+#[derive(Clone, Copy)]
+struct Found {
+    kept: KeptAtom,
+    at: usize,
+}
+
 // The kept atom with a key.
-fn find_kept(atoms: &[KeptAtom], key: AtomKey) -> Option<KeptAtom>
+fn find_kept(atoms: &[KeptAtom], key: AtomKey) -> Option<Found>
     requires { IsStrictlySortedBy (on (λ (kept : KeptAtom). kept.atom.key) compare_keys) atoms.now }
-    ensures { result ≡ kept_at atoms.now key }
+    ensures { option_map (λ found. found.kept) result ≡ kept_at atoms.now key }
 {
     match atoms.binary_search_by(|kept| compare(&kept.atom.key, &key)) {
-        Ok(at) => Some(atoms[at]),
+        Ok(at) => Some(Found {
+            kept: atoms[at],
+            at,
+        }),
         Err(_) => None,
     }
+}
+
+// Whether a kept atom has a key.
+fn has_key(kept: &KeptAtom, key: &AtomKey) -> bool
+    ensures { IsTrue result → kept.now.atom.key ≡ key.now }
+{
+    kept.atom.key == *key
+}
+
+// The kept atom with a key, which mostly stands at a place of the list.
+fn find_near(atoms: &[KeptAtom], near: usize, key: AtomKey) -> Option<Found>
+    requires { IsStrictlySortedBy (on (λ (kept : KeptAtom). kept.atom.key) compare_keys) atoms.now }
+    ensures { option_map (λ found. found.kept) result ≡ kept_at atoms.now key }
+{
+    if near < atoms.len() {
+        let kept = atoms[near];
+        if has_key(&kept, &key) {
+            return Some(Found { kept, at: near });
+        }
+    }
+    find_kept(atoms, key)
 }
 
 // The goals of the symbols of the file at a place.
@@ -141,26 +172,29 @@ fn with_row(
     Ok(Work { items, mets })
 }
 
-// What is written, and the atom with a key in a section.
+// What is written, and the atom with a key in a section, which mostly is the kept one at a place; the next one is looked
+// for behind it.
 #[tactic(auto, using(crate::proofs::ListLemmas::no_more), unfolding(crate::specs::Rows::row_of))]
 fn with_key(
     before: Work,
     sources: &Sources,
     section: &PlacedSection,
     key: AtomKey,
+    near: &mut usize,
 ) -> Result<Work, OutOfMemory>
     requires once { AreOnce sources.now.layout.now.placed }
     requires orders { AreOrders sources.now.files.now sources.now.orders.now }
     requires rising { IsStrictlySortedBy (on (λ (kept : KeptAtom). kept.atom.key) compare_keys) sources.now.atoms.now }
     ensures { IfOk result (λ new. (rows : List spec.Row) → AreListed rows before.items.items before.mets.items → AreListed (rows ++ option_to_list (spec.row_of (record { literals = sources.now.winners.now.literals; base = sources.now.base; placed = sources.now.layout.now.placed }) sources.now.files.now sources.now.goals.now sources.now.atoms.now section.now key)) new.items.items new.mets.items) }
 {
-    let Some(kept) = find_kept(sources.atoms, key) else {
+    let Some(found) = find_near(sources.atoms, *near, key) else {
         return Ok(before);
     };
-    let Some(address) = address_of(sources.layout, key) else {
+    *near = found.at.saturating_add(1);
+    let Some(address) = address_beside(sources.layout, found.at, key) else {
         return Ok(before);
     };
-    with_row(before, sources, section, &kept, address)
+    with_row(before, sources, section, &found.kept, address)
 }
 
 // What is written, and the atoms of a section.
@@ -191,8 +225,9 @@ fn with_keys(
     ensures { IfOk result (λ new. (rows : List spec.Row) → AreListed rows before.items.items before.mets.items → AreListed (rows ++ filter_map (spec.row_of (record { literals = sources.now.winners.now.literals; base = sources.now.base; placed = sources.now.layout.now.placed }) sources.now.files.now sources.now.goals.now sources.now.atoms.now section.now) keys.now) new.items.items new.mets.items) }
 {
     let mut work = before;
+    let mut near = 0;
     for key in keys {
-        work = with_key(work, sources, section, *key)?;
+        work = with_key(work, sources, section, *key, &mut near)?;
     }
     Ok(work)
 }
@@ -222,6 +257,15 @@ fn with_sections(
         }
     }
     Ok(work)
+}
+
+// How many references files have.
+fn count_of_refs(files: &[LoadedFile]) -> usize {
+    let mut count: usize = 0;
+    for file in files {
+        count = count.saturating_add(file.refs.len());
+    }
+    count
 }
 
 /// What is written into an image: each kept atom in a section with bytes in the file, in the order of the image, with its
@@ -254,8 +298,8 @@ pub fn work_of(
         base,
     };
     let none = Work {
-        items: Vec::new(alloc),
-        mets: Vec::new(alloc),
+        items: Vec::with_capacity(alloc, kept.len())?,
+        mets: Vec::with_capacity(alloc, count_of_refs(loaded.files.as_slice()))?,
     };
     with_sections(none, &sources, layout.sections.as_slice())
 }

@@ -1,4 +1,3 @@
-pub mod KeptLemmas
 mod LeastLemmas
 mod ListLemmas
 mod LostLemmas

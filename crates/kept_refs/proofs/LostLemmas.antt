@@ -1,21 +1,24 @@
 -- The least of the names that lead nowhere, reference by reference.
-use Rattle.std.proofs.Common.{◌≡◌, ℕ, ◌+◌, ◌<◌, ◌≤◌, Bool, true, false, List, [], ◌∷◌, ◌++◌, length, take, get_or, refl, sym, ap, ◌∙◌, arith, Option, Some, None, if◌then◌else◌}
+use Rattle.std.proofs.Common.{◌≡◌, ℕ, ◌+◌, ◌<◌, ◌≤◌, Bool, true, false, List, [], ◌∷◌, ◌++◌, length, take, get_or, refl, sym, ap, ◌∙◌, inl, inr, arith, Option, Some, None, if◌then◌else◌}
 use Rattle.std.specs.Prelude.{filter, fold, slice_get}
-use Rattle.std.specs.List.{enumerate_from, filter_map, flat_map}
-use Rattle.std.specs.Option.{option_map_or}
+use Rattle.std.specs.List.{enumerate_from, filter_map, flat_map, list_any}
+use Rattle.std.specs.Option.{option_and_then, option_map_or}
+use Rattle.std.proofs.lemmas.Bool.{cases_Bool, false≢true}
 use Rattle.std.proofs.lemmas.Grind.{flat_map-append}
 use Rattle.std.proofs.lemmas.List.{append-nil, map-append, take_all, take_more}
 use Rattle.std.proofs.lemmas.List.Elements.{filter-append}
 use Rattle.std.proofs.lemmas.List.FromFn.{get_or-enumerate_from, length-enumerate_from}
 use Rattle.std.proofs.lemmas.List.Sums.{fold-append}
 use Rattle.std.proofs.lemmas.Option.{get_or_from_slice_get, slice_get-get_or, slice_get_within}
+use Rattle.list_lemmas.proofs.Members.{any_from_in, in_from_Contains}
 use Rattle.mo_types.specs.declared.goal.Goal.{Goal}
 use Rattle.mo_types.specs.declared.key.AtomKey.{AtomKey}
 use Rattle.mo_types.specs.declared.loaded.LoadedFile.{LoadedFile}
 use Rattle.mo_types.specs.declared.reference.Ref.{Ref}
 use Rattle.mo_types.specs.declared.reference.Target.{Target}
+use Rattle.mo_types.specs.declared.reference.Target.TheVariants.{Local, Name}
 use Rattle.mark_core.specs.Kept.{has}
-use Rattle.kept_refs.specs.Undefined.{kept_refs, least, lesser, lost, lost_at, lost_in, lost_name, lost_names, targets_of, undefined, wanted}
+use Rattle.kept_refs.specs.Undefined.{is_nobody, kept_refs, least, lesser, lost, lost_at, lost_in, lost_name, lost_names, name_if, targets_of, undefined, wanted}
 use Rattle.kept_refs.specs.inner.Lost.{labelled, pairs_of}
 
 -- ---- one reference
@@ -113,6 +116,38 @@ noted_end keys file goals init found at key kept noted past =
     noted.is ∙ ap (λ rs. fold lesser init (labelled file (flat_map (lost_names file.object.symbols goals) (filter (λ r. has keys r.atom) rs)))) (take_all at file.refs past)
 
 pub ruleset of_file = (noted_start, noted_end)
+
+-- ---- a file whose names all lead somewhere
+
+never_at : {X : Type 0} (p : X → Bool) (xs : List X) (at : ℕ) (x : X) → list_any p xs ≡ false → slice_get xs at ≡ Some x → p x ≡ false
+never_at p xs at x none there = elim (cases_Bool (p x)) [
+  | inl here ↦ absurd (false≢true (sym none ∙ any_from_in p xs x (in_from_Contains xs x (at, slice_get_within xs at x there, get_or_from_slice_get xs at x x there)) here))
+  | inr away ↦ away
+]
+
+unnamed : (file : LoadedFile) (goals : List Goal) (target : Target) → list_any is_nobody goals ≡ false → lost_name file.object.symbols goals target ≡ None
+unnamed file goals (Local atom offset) none = refl
+unnamed file goals (Name index) none = by (slice_get goals index) refl
+  where
+    by : (found : Option Goal) → slice_get goals index ≡ found → option_and_then (λ goal. name_if goal (slice_get file.object.symbols index)) (slice_get goals index) ≡ None
+    by None e = rw e refl
+    by (Some goal) e = let away : is_nobody goal ≡ false = never_at is_nobody goals index goal none e in rw (e, away) refl
+
+unnamed_ref : (file : LoadedFile) (goals : List Goal) (r : Ref) → list_any is_nobody goals ≡ false → lost_names file.object.symbols goals r ≡ []
+unfolding lost_names
+unnamed_ref file goals r none = by r.minus
+  where
+    by : (minus : Option Target) → filter_map (lost_name file.object.symbols goals) (targets_of r.target minus) ≡ []
+    by None = rw (unnamed file goals r.target none) refl
+    by (Some minus) = rw (unnamed file goals r.target none, unnamed file goals minus none) refl
+
+unnamed_refs : (file : LoadedFile) (goals : List Goal) (rs : List Ref) → list_any is_nobody goals ≡ false → flat_map (lost_names file.object.symbols goals) rs ≡ []
+unnamed_refs file goals [] none = refl
+unnamed_refs file goals (r ∷ rs) none = rw (unnamed_ref file goals r none) (unnamed_refs file goals rs none)
+
+pub none_lost : (keys : List AtomKey) (file : LoadedFile) (goals : List Goal) (init : Option (List ℕ × List ℕ)) → list_any is_nobody goals ≡ false → init ≡ fold lesser init (lost_in keys file goals)
+unfolding lost_in
+none_lost keys file goals init none = sym (ap (λ names. fold lesser init (labelled file names)) (unnamed_refs file goals (kept_refs keys file) none))
 
 -- ---- files
 

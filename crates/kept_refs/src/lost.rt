@@ -1,13 +1,15 @@
 //! The names to which kept atoms refer and that lead nowhere.
 
 ghost use Rattle.std.specs.Prelude.{◌≡◌, ◌<◌, ◌++◌, fold, length};
+ghost use Rattle.std.specs.List.{list_any};
 ghost use Rattle.std.specs.List.Sorted.{IsStrictlySortedBy};
 ghost use Rattle.std.specs.Option.{option_copied, option_map};
 ghost use Rattle.mo_types.specs.Keys.{compare_keys};
 ghost use Rattle.kept_refs.specs.Undefined as spec;
 ghost use Rattle.kept_refs.specs.inner.Lost.{held, labelled, pairs_of};
 
-use crate::kept::{Asked, ask, is_kept};
+use crate::kept::{Asked, ask};
+use mark_core::is_kept;
 use mo_types::{
     AtomKey, Bytes, FileId, Goal, GoalList, Items, KeyList, Loaded, LoadedFile, Ref, Symbol, Target,
 };
@@ -27,6 +29,13 @@ fn is_nobody(goal: &Goal) -> bool
     ensures { result ≡ spec.is_nobody goal.now }
 {
     matches!(goal, Goal::Nobody)
+}
+
+// Whether a symbol's goal is nowhere.
+fn has_nobody(goals: &[Goal]) -> bool
+    ensures { result ≡ list_any spec.is_nobody goals.now }
+{
+    goals.iter().any(is_nobody)
 }
 
 // The name to which a target goes, where it leads nowhere.
@@ -127,6 +136,24 @@ fn note_file<'a>(
     found
 }
 
+// The same, which goes through no references where each name of the file leads somewhere.
+#[tactic(auto, using(crate::proofs::LostLemmas::none_lost))]
+fn note_if_any<'a>(
+    least: Option<Lost<'a>>,
+    file: &'a LoadedFile,
+    goals: &[Goal],
+    keys: &[AtomKey],
+) -> Option<Lost<'a>>
+    requires { IsStrictlySortedBy compare_keys keys.now }
+    ensures { option_map held result ≡ fold spec.lesser (option_map held least.entry) (spec.lost_in keys.now file.now goals.now) }
+{
+    if has_nobody(goals) {
+        note_file(least, file, goals, keys)
+    } else {
+        least
+    }
+}
+
 // The least name to which kept atoms of files refer.
 #[tactic(auto, using(crate::proofs::LostLemmas::of_files))]
 fn note_files<'a>(files: &'a [LoadedFile], goals: &GoalTable, keys: &[AtomKey]) -> Option<Lost<'a>>
@@ -136,7 +163,7 @@ fn note_files<'a>(files: &'a [LoadedFile], goals: &GoalTable, keys: &[AtomKey]) 
     let mut least = None;
     for (at, file) in files.iter().enumerate() {
         match goals.get(at) {
-            Some(goals) => least = note_file(least, file, goals.as_slice(), keys),
+            Some(goals) => least = note_if_any(least, file, goals.as_slice(), keys),
             None => {}
         }
     }

@@ -1,18 +1,20 @@
 -- Arrows by rising source, and those from one atom.
-use Rattle.std.proofs.Common.{◌≡◌, ℕ, ◌+◌, ◌-◌, ◌<◌, ◌≤◌, ◌⊎◌, true, false, List, length, take, drop, get_or, Contains, refl, sym, ap, ◌∙◌, inl, inr, arith, length-drop, length-take}
+use Rattle.std.proofs.Common.{◌≡◌, ℕ, ◌+◌, ◌-◌, ◌<◌, ◌≤◌, ◌⊎◌, Bool, true, false, List, [], ◌∷◌, ◌++◌, map, if◌then◌else◌, length, take, drop, get_or, Contains, refl, sym, ap, ◌∙◌, inl, inr, arith, length-drop, length-take}
 use Rattle.std.specs.List.Sorted.{IsNonDecreasingBy, IsPartitionedBy, IsPartitionPoint, IsSorted}
 use Rattle.std.specs.Ordering.{is_le, is_lt, ordering_index, ordering_then}
 use Rattle.std.specs.declared.cmp.Ordering.{Ordering}
 use Rattle.std.specs.declared.cmp.Ordering.TheVariants.{Less, Equal, Greater}
 use Rattle.std.proofs.lemmas.Bool.{cases_lt}
 use Rattle.std.proofs.lemmas.Cmp.{tied_itself}
-use Rattle.std.proofs.lemmas.List.{get_or-drop, get_or-take}
+use Rattle.std.specs.List.{filter}
+use Rattle.std.proofs.lemmas.List.{get_or-drop, get_or-take, map-append, take_all, take_more}
+use Rattle.std.proofs.lemmas.List.Elements.{filter-append}
 use Rattle.std.proofs.lemmas.List.Sorted.{searchable_from_sorted}
 use Rattle.mo_types.specs.declared.edge.Edge.{Edge}
 use Rattle.mo_types.specs.declared.key.AtomKey.{AtomKey}
 use Rattle.mo_types.specs.Keys.{compare_keys}
 use Rattle.mo_types.proofs.KeyOrder.{compare_keys_total}
-use Rattle.mark_core.specs.inner.Arrows.{AreFrom, AreSorted, is_before, is_up_to}
+use Rattle.mark_core.specs.inner.Arrows.{AreFrom, AreSorted, begins_in, end_of, ends_from, is_before, is_up_to}
 use Rattle.mark_core.proofs.KeyLemmas.{same_key}
 
 -- ---- order
@@ -124,3 +126,23 @@ from_points all key from to high before up = record {
   each = each_is all key from to high before up;
   only = only_are all key from to high before up;
 }
+
+-- ---- where arrows from roots end
+
+if_passes : (p : Edge → Bool) (arrow : Edge) (b : Bool) → p arrow ≡ b → map end_of (filter p (arrow ∷ [])) ≡ (if b then end_of arrow ∷ [] else [])
+if_passes p arrow true e = rw e refl
+if_passes p arrow false e = rw e refl
+
+pub end_more : (roots : List AtomKey) (arrows : List Edge) (now new : List AtomKey) (i : ℕ) (d arrow : Edge) (is_root : Bool) → i < length arrows → arrow ≡ get_or arrows i d → now ≡ map end_of (filter (begins_in roots) (take i arrows)) → is_root ≡ begins_in roots arrow
+    → new ≡ now ++ (if is_root then end_of arrow ∷ [] else []) → new ≡ map end_of (filter (begins_in roots) (take (i + 1) arrows))
+end_more roots arrows now new i d arrow is_root low there are root more =
+    more
+    ∙ ap (λ (ks : List AtomKey). ks ++ (if is_root then end_of arrow ∷ [] else [])) are
+    ∙ ap (λ (ks : List AtomKey). map end_of (filter (begins_in roots) (take i arrows)) ++ ks) (sym (if_passes (begins_in roots) arrow is_root (sym root)))
+    ∙ sym (map-append end_of (filter (begins_in roots) (take i arrows)) (filter (begins_in roots) (arrow ∷ [])))
+    ∙ ap (map end_of) (sym (filter-append (begins_in roots) (take i arrows) (arrow ∷ [])))
+    ∙ ap (λ (es : List Edge). map end_of (filter (begins_in roots) es)) (sym (take_more arrows i d low ∙ ap (λ (e : Edge). take i arrows ++ e ∷ []) (sym there)))
+
+pub all_ends : (roots : List AtomKey) (arrows : List Edge) (now : List AtomKey) (i : ℕ) → now ≡ map end_of (filter (begins_in roots) (take i arrows)) → length arrows ≤ i → now ≡ ends_from roots arrows
+unfolding ends_from
+all_ends roots arrows now i are past = are ∙ ap (λ (es : List Edge). map end_of (filter (begins_in roots) es)) (take_all i arrows past)

@@ -7,7 +7,7 @@ use Rattle.mo_types.specs.declared.edge.Edge.{Edge}
 use Rattle.mo_types.specs.declared.key.AtomKey.{AtomKey}
 use Rattle.mo_types.proofs.KeyOrder.{compare_keys_total}
 use Rattle.mark_core.specs.Kept.{IsKept, has}
-use Rattle.mark_core.proofs.KeptLemmas.{in_from_has}
+use Rattle.mark_core.proofs.SetLemmas.{in_from_has}
 
 all_of : (edges supports : List Edge) (roots a b : List AtomKey) → IsKept edges supports roots a → IsKept edges supports roots b → (atom : AtomKey) → In atom a → In atom b
 all_of edges supports roots a b p q atom h =

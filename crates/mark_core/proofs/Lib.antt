@@ -1,4 +1,5 @@
 pub mod KeyLemmas
+pub mod SetLemmas
 pub mod ArrowLemmas
 pub mod ReachLemmas
 pub mod KeptLemmas

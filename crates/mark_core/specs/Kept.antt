@@ -1,5 +1,5 @@
 -- Which atoms an image keeps: no more than follows from its roots.
-use Rattle.std.specs.Prelude.{◌≡◌, Bool, true, List, All}
+use Rattle.std.specs.Prelude.{◌≡◌, Bool, true, not, List, All}
 use Rattle.std.specs.List.{list_any}
 use Rattle.std.specs.List.Sorted.{IsStrictlySortedBy}
 use Rattle.std.specs.Ordering.{is_eq}
@@ -23,3 +23,11 @@ pub record IsKept (edges supports : List Edge) (roots kept : List AtomKey) : Typ
   pub closed : IsClosed edges supports roots (has kept)
   pub least : (set : AtomKey → Bool) → IsClosed edges supports roots set → All (λ atom. set atom ≡ true) kept
   pub rises : IsStrictlySortedBy compare_keys kept
+
+-- An edge leads away from some atoms, and a support begins away from them. Where these are roots, the others add nothing to
+-- what is kept.
+abbrev pub leads_away : List AtomKey → Edge → Bool
+leads_away roots edge = not (has roots edge.to)
+
+abbrev pub begins_away : List AtomKey → Edge → Bool
+begins_away roots support = not (has roots support.from)

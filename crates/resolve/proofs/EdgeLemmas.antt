@@ -1,7 +1,7 @@
 -- The edges and supports of all files, and the goals of all files' symbols, file by file.
 use Rattle.std.proofs.Common.{◌≡◌, ℕ, suc, ◌+◌, ◌<◌, ◌≤◌, List, [], ◌∷◌, ◌++◌, length, map, take, get_or, slice_get, Some, refl, sym, ap, subst, ◌∙◌, arith}
 use Rattle.std.specs.Prelude.{All, Option}
-use Rattle.std.specs.List.{enumerate_from, flat_map}
+use Rattle.std.specs.List.{enumerate_from, filter, flat_map}
 use Rattle.std.specs.Option.{option_map_or}
 use Rattle.std.proofs.lemmas.List.{map-append, take_all, take_more}
 use Rattle.std.proofs.lemmas.List.FromFn.{get_or-enumerate_from, length-enumerate_from}
@@ -10,11 +10,14 @@ use Rattle.mo_cmd.specs.declared.command.Command.{Command}
 use Rattle.mo_types.specs.Loaded.{IsWholeFile}
 use Rattle.mo_types.specs.declared.edge.Edge.{Edge}
 use Rattle.mo_types.specs.declared.goal.Goal.{Goal}
+use Rattle.mo_types.specs.declared.key.AtomKey.{AtomKey}
 use Rattle.mo_types.specs.declared.loaded.LoadedFile.{LoadedFile}
 use Rattle.resolve.specs.Edges.{edges, edges_at, edges_by, file_edges, file_supports, supports, supports_at, supports_by}
 use Rattle.resolve.specs.Goals.{goal_table, goals_of_symbols}
 use Rattle.resolve.specs.Representatives.{representatives_of}
 use Rattle.resolve.specs.declared.representative.Representative.{Representative}
+use Rattle.mark_core.specs.Kept.{begins_away, leads_away}
+use Rattle.resolve.proofs.AwayLemmas.{filter_flat}
 use Rattle.resolve.proofs.GrowLemmas.{IsGrowing, grow_end, grow_item, whole_at}
 
 pub whole_in : (files read : List LoadedFile) (at : ℕ) (file : LoadedFile) → read ≡ files → All IsWholeFile files → at < length read → file ≡ get_or read at file → IsWholeFile file
@@ -54,19 +57,21 @@ files_more f files now new at file grows low is more =
 files_are : (f : ℕ × LoadedFile → List Edge) (files : List LoadedFile) (now : List Edge) (at : ℕ) → IsGrowing f [] now (enumerate_from 0 files) at → length files ≤ at → now ≡ [] ++ flat_map f (enumerate_from 0 files)
 files_are f files now at grows past = grow_end f [] now (enumerate_from 0 files) at grows (omega (arith, past, length-enumerate_from 0 files))
 
-pub edges_are : (files read : List LoadedFile) (table : List (List Goal)) (literals : List Representative) (now list : List Edge) (at : ℕ) → read ≡ files → literals ≡ representatives_of files → IsGrowing (edges_at literals table) [] now (enumerate_from 0 read) at → length read ≤ at → list ≡ now → list ≡ edges_by files table
+pub edges_are : (roots : List AtomKey) (files read : List LoadedFile) (table : List (List Goal)) (literals : List Representative) (now list : List Edge) (at : ℕ) → read ≡ files → literals ≡ representatives_of files → IsGrowing (λ p. filter (leads_away roots) (edges_at literals table p)) [] now (enumerate_from 0 read) at → length read ≤ at → list ≡ now → list ≡ filter (leads_away roots) (edges_by files table)
 unfolding edges_by
-edges_are files read table literals now list at same l grows past is =
-    is ∙ files_are (edges_at literals table) read now at grows past
-    ∙ ap (λ (fs : List LoadedFile). flat_map (edges_at literals table) (enumerate_from 0 fs)) same
-    ∙ ap (λ (ls : List Representative). flat_map (edges_at ls table) (enumerate_from 0 files)) l
+edges_are roots files read table literals now list at same l grows past is =
+    is ∙ files_are (λ p. filter (leads_away roots) (edges_at literals table p)) read now at grows past
+    ∙ filter_flat (leads_away roots) (edges_at literals table) (enumerate_from 0 read)
+    ∙ ap (λ (fs : List LoadedFile). filter (leads_away roots) (flat_map (edges_at literals table) (enumerate_from 0 fs))) same
+    ∙ ap (λ (ls : List Representative). filter (leads_away roots) (flat_map (edges_at ls table) (enumerate_from 0 files))) l
 
-pub supports_are : (files read : List LoadedFile) (table : List (List Goal)) (literals : List Representative) (now list : List Edge) (at : ℕ) → read ≡ files → literals ≡ representatives_of files → IsGrowing (supports_at literals table) [] now (enumerate_from 0 read) at → length read ≤ at → list ≡ now → list ≡ supports_by files table
+pub supports_are : (roots : List AtomKey) (files read : List LoadedFile) (table : List (List Goal)) (literals : List Representative) (now list : List Edge) (at : ℕ) → read ≡ files → literals ≡ representatives_of files → IsGrowing (λ p. filter (begins_away roots) (supports_at literals table p)) [] now (enumerate_from 0 read) at → length read ≤ at → list ≡ now → list ≡ filter (begins_away roots) (supports_by files table)
 unfolding supports_by
-supports_are files read table literals now list at same l grows past is =
-    is ∙ files_are (supports_at literals table) read now at grows past
-    ∙ ap (λ (fs : List LoadedFile). flat_map (supports_at literals table) (enumerate_from 0 fs)) same
-    ∙ ap (λ (ls : List Representative). flat_map (supports_at ls table) (enumerate_from 0 files)) l
+supports_are roots files read table literals now list at same l grows past is =
+    is ∙ files_are (λ p. filter (begins_away roots) (supports_at literals table p)) read now at grows past
+    ∙ filter_flat (begins_away roots) (supports_at literals table) (enumerate_from 0 read)
+    ∙ ap (λ (fs : List LoadedFile). filter (begins_away roots) (flat_map (supports_at literals table) (enumerate_from 0 fs))) same
+    ∙ ap (λ (ls : List Representative). filter (begins_away roots) (flat_map (supports_at ls table) (enumerate_from 0 files))) l
 
 -- ---- file by file
 

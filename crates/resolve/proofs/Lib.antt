@@ -27,5 +27,6 @@ pub mod OneListLemmas
 pub mod GrowLemmas
 pub mod PickLemmas
 pub mod AtomSetLemmas
+pub mod AwayLemmas
 pub mod EdgeLemmas
 pub mod FollowLemmas

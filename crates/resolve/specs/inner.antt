@@ -5,3 +5,4 @@ pub mod Best
 pub mod Index
 pub mod Literals
 pub mod Words
+pub mod Away

@@ -1,11 +1,14 @@
-//! What leads from one atom to another.
-ghost use Rattle.std.specs.Prelude.{◌≡◌, ◌++◌, IfOk, slice_get};
-ghost use Rattle.std.specs.List.{flat_map};
+//! What leads from one atom to another that isn't a root.
+ghost use Rattle.std.specs.Prelude.{◌≡◌, ◌++◌, IfOk, map, slice_get};
+ghost use Rattle.std.specs.List.{filter, flat_map, list_any};
 ghost use Rattle.std.specs.Option.{option_and_then, option_map, option_to_list};
+ghost use Rattle.mark_core.specs.Kept.{begins_away, leads_away};
 ghost use Rattle.resolve.specs.Edges as spec;
+ghost use Rattle.resolve.specs.inner.Away as aways;
 ghost use Rattle.resolve.specs.Representatives.{representatives_of};
 
 use crate::known::Winners;
+use mark_core::KeySet;
 use mo_types::{
     AtomKey, Edge, EdgeList, Goal, GoalList, Items, Loaded, LoadedFile, Object, OutOfMemory, Ref,
     RefList, Section, Target, Unwind,
@@ -83,82 +86,216 @@ fn with_ref(
     with_edge(edges, from, optional_atom(winners, goals, &reference.minus))
 }
 
-// Edges, and those of the reference at a place.
-fn with_ref_at(
+// An atom, if it isn't a root.
+fn away(roots: &KeySet, atom: AtomKey) -> Option<AtomKey>
+    ensures { result ≡ aways.away roots.now atom }
+{
+    if roots.contains(&atom) {
+        None
+    } else {
+        Some(atom)
+    }
+}
+
+// The atom in which a goal stands, if it isn't a root.
+fn goal_away(roots: &KeySet, goal: &Goal) -> Option<AtomKey>
+    ensures { result ≡ aways.goal_away roots.now goal.now }
+{
+    match goal_atom(goal) {
+        Some(atom) => away(roots, atom),
+        None => None,
+    }
+}
+
+// For each symbol of a file the atom to which it leads, if that isn't a root.
+fn goals_away(
+    alloc: Global,
+    roots: &KeySet,
+    goals: &[Goal],
+) -> Result<Vec<Option<AtomKey>>, OutOfMemory>
+    ensures { IfOk result (λ ends. ends.items ≡ map (aways.goal_away roots.now) goals.now) }
+{
+    Ok(
+        goals
+            .iter()
+            .map(|goal| goal_away(roots, goal))
+            .collect(alloc)?,
+    )
+}
+
+// The atom to which the symbol of an index leads, if that isn't a root.
+fn end_at(ends: &[Option<AtomKey>], at: usize) -> Option<AtomKey>
+    ensures { result ≡ option_and_then (λ end. end) (slice_get ends.now at) }
+{
+    match ends.get(at) {
+        Some(end) => *end,
+        None => None,
+    }
+}
+
+// The atom to which a target leads, if that isn't a root.
+fn target_away(
+    winners: &Winners,
+    roots: &KeySet,
+    ends: &[Option<AtomKey>],
+    target: &Target,
+) -> Option<AtomKey>
+    ensures { result ≡ aways.target_away winners.now.literals roots.now ends.now target.now }
+{
+    match *target {
+        Target::Name(index) => end_at(ends, index as usize),
+        Target::Local(atom, _) => away(roots, winners.representative(atom)),
+    }
+}
+
+// The atom to which a target leads, where there is one, if that isn't a root.
+fn optional_away(
+    winners: &Winners,
+    roots: &KeySet,
+    ends: &[Option<AtomKey>],
+    target: &Option<Target>,
+) -> Option<AtomKey>
+    ensures { result ≡ option_and_then (aways.target_away winners.now.literals roots.now ends.now) target.now }
+{
+    match target {
+        Some(target) => target_away(winners, roots, ends, target),
+        None => None,
+    }
+}
+
+// Edges, and those of a reference.
+#[tactic(auto, unfolding(crate::specs::inner::Away::ref_away))]
+fn with_ref_away(
     before: Vec<Edge>,
     winners: &Winners,
-    goals: &[Goal],
+    roots: &KeySet,
+    ends: &[Option<AtomKey>],
+    reference: &Ref,
+) -> Result<Vec<Edge>, OutOfMemory>
+    ensures { IfOk result (λ new. new.items ≡ before.items ++ aways.ref_away winners.now.literals roots.now ends.now reference.now) }
+{
+    let from = reference.atom;
+    let target = target_away(winners, roots, ends, &reference.target);
+    let minus = optional_away(winners, roots, ends, &reference.minus);
+    with_edge(with_edge(before, from, target)?, from, minus)
+}
+
+// Edges, and those of the reference at a place.
+fn with_ref_away_at(
+    before: Vec<Edge>,
+    winners: &Winners,
+    roots: &KeySet,
+    ends: &[Option<AtomKey>],
     refs: &RefList,
     at: usize,
 ) -> Result<Vec<Edge>, OutOfMemory>
-    ensures { IfOk result (λ new. new.items ≡ before.items ++ flat_map (spec.ref_edges winners.now.literals goals.now) (option_to_list (slice_get refs.now at))) }
+    ensures { IfOk result (λ new. new.items ≡ before.items ++ flat_map (aways.ref_away winners.now.literals roots.now ends.now) (option_to_list (slice_get refs.now at))) }
 {
     match refs.get(at) {
-        Some(reference) => with_ref(before, winners, goals, &reference),
+        Some(reference) => with_ref_away(before, winners, roots, ends, &reference),
         None => Ok(before),
     }
 }
 
 // Edges, and those of references.
 #[tactic(auto, using(crate::proofs::GrowLemmas::grows))]
-fn with_refs(
+fn with_refs_away(
     before: Vec<Edge>,
     winners: &Winners,
-    goals: &[Goal],
+    roots: &KeySet,
+    ends: &[Option<AtomKey>],
     refs: &RefList,
 ) -> Result<Vec<Edge>, OutOfMemory>
-    ensures { IfOk result (λ new. new.items ≡ before.items ++ flat_map (spec.ref_edges winners.now.literals goals.now) refs.now) }
+    ensures { IfOk result (λ new. new.items ≡ before.items ++ flat_map (aways.ref_away winners.now.literals roots.now ends.now) refs.now) }
 {
     let mut edges = before;
     for at in 0..refs.len() {
-        edges = with_ref_at(edges, winners, goals, refs, at)?;
+        edges = with_ref_away_at(edges, winners, roots, ends, refs, at)?;
     }
     Ok(edges)
 }
 
-// The atom of the data for handling a function's exceptions.
-fn lsda_atom(unwind: &Unwind) -> Option<AtomKey>
-    ensures { result ≡ option_map (λ lsda. lsda.0) unwind.now.lsda }
+// The atom of the data for handling a function's exceptions, if it isn't a root.
+fn lsda_away(roots: &KeySet, unwind: &Unwind) -> Option<AtomKey>
+    ensures { result ≡ option_and_then (aways.away roots.now) (option_map (λ lsda. lsda.0) unwind.now.lsda) }
 {
     match unwind.lsda {
-        Some((atom, _)) => Some(atom),
+        Some((atom, _)) => away(roots, atom),
         None => None,
     }
 }
 
 // Edges, and those of an unwind entry.
-#[tactic(auto, unfolding(crate::specs::Edges::unwind_edges))]
-fn with_unwind(
+#[tactic(auto, unfolding(crate::specs::inner::Away::unwind_away))]
+fn with_unwind_away(
     before: Vec<Edge>,
     winners: &Winners,
-    goals: &[Goal],
+    roots: &KeySet,
+    ends: &[Option<AtomKey>],
     unwind: &Unwind,
 ) -> Result<Vec<Edge>, OutOfMemory>
-    ensures { IfOk result (λ new. new.items ≡ before.items ++ spec.unwind_edges winners.now.literals goals.now unwind.now) }
+    ensures { IfOk result (λ new. new.items ≡ before.items ++ aways.unwind_away winners.now.literals roots.now ends.now unwind.now) }
 {
     let from = unwind.atom;
-    let edges = with_edge(
-        before,
+    let personality = optional_away(winners, roots, ends, &unwind.personality);
+    with_edge(
+        with_edge(before, from, personality)?,
         from,
-        optional_atom(winners, goals, &unwind.personality),
-    )?;
-    with_edge(edges, from, lsda_atom(unwind))
+        lsda_away(roots, unwind),
+    )
 }
 
 // Edges, and those of unwind entries.
-fn with_unwinds(
+fn with_unwinds_away(
     before: Vec<Edge>,
     winners: &Winners,
-    goals: &[Goal],
+    roots: &KeySet,
+    ends: &[Option<AtomKey>],
     unwinds: &[Unwind],
 ) -> Result<Vec<Edge>, OutOfMemory>
-    ensures { IfOk result (λ new. new.items ≡ before.items ++ flat_map (spec.unwind_edges winners.now.literals goals.now) unwinds.now) }
+    ensures { IfOk result (λ new. new.items ≡ before.items ++ flat_map (aways.unwind_away winners.now.literals roots.now ends.now) unwinds.now) }
 {
     let mut edges = before;
     for unwind in unwinds {
-        edges = with_unwind(edges, winners, goals, unwind)?;
+        edges = with_unwind_away(edges, winners, roots, ends, unwind)?;
     }
     Ok(edges)
+}
+
+// Edges, and those of a file.
+#[tactic(auto, unfolding(crate::specs::inner::Away::file_away))]
+fn with_file_away(
+    before: Vec<Edge>,
+    winners: &Winners,
+    roots: &KeySet,
+    ends: &[Option<AtomKey>],
+    file: &LoadedFile,
+) -> Result<Vec<Edge>, OutOfMemory>
+    ensures { IfOk result (λ new. new.items ≡ before.items ++ aways.file_away winners.now.literals roots.now ends.now file.now) }
+{
+    let edges = with_refs_away(before, winners, roots, ends, &file.refs)?;
+    with_unwinds_away(edges, winners, roots, ends, file.unwinds.as_slice())
+}
+
+// Edges, and those of the file at a place.
+fn with_edges_at(
+    alloc: Global,
+    before: Vec<Edge>,
+    winners: &Winners,
+    table: &Items<GoalList>,
+    roots: &KeySet,
+    at: usize,
+    file: &LoadedFile,
+) -> Result<Vec<Edge>, OutOfMemory>
+    ensures { IfOk result (λ new. new.items ≡ before.items ++ filter (leads_away roots.now) (spec.edges_at winners.now.literals table.now (at, file.now))) }
+{
+    match table.get(at) {
+        Some(goals) => {
+            let ends = goals_away(alloc, roots, goals.as_slice())?;
+            with_file_away(before, winners, roots, ends.as_slice(), file)
+        }
+        None => Ok(before),
+    }
 }
 
 fn is_live_support(section: &Section) -> bool
@@ -178,100 +315,87 @@ fn supports_live(object: &Object, atom: &AtomKey) -> bool
     }
 }
 
-// Edges, and those of a reference whose atom supports what is live.
-#[tactic(auto, unfolding(crate::specs::Edges::ref_supports))]
+// Edges, and those of a reference whose atom supports what is live and isn't a root.
+#[tactic(auto, using(crate::proofs::AwayLemmas::supports))]
 fn with_support(
     before: Vec<Edge>,
     winners: &Winners,
     goals: &[Goal],
+    roots: &KeySet,
     object: &Object,
     reference: &Ref,
 ) -> Result<Vec<Edge>, OutOfMemory>
-    ensures { IfOk result (λ new. new.items ≡ before.items ++ spec.ref_supports winners.now.literals goals.now object.now reference.now) }
+    ensures { IfOk result (λ new. new.items ≡ before.items ++ filter (begins_away roots.now) (spec.ref_supports winners.now.literals goals.now object.now reference.now)) }
 {
-    if supports_live(object, &reference.atom) {
-        with_ref(before, winners, goals, reference)
-    } else {
-        Ok(before)
+    if !supports_live(object, &reference.atom) {
+        return Ok(before);
     }
+    if roots.contains(&reference.atom) {
+        return Ok(before);
+    }
+    with_ref(before, winners, goals, reference)
 }
 
-// Edges, and those of the reference at a place, where its atom supports what is live.
+// Edges, and those of the reference at a place, where its atom supports what is live and isn't a root.
 fn with_support_at(
     before: Vec<Edge>,
     winners: &Winners,
     goals: &[Goal],
+    roots: &KeySet,
     object: &Object,
     refs: &RefList,
     at: usize,
 ) -> Result<Vec<Edge>, OutOfMemory>
-    ensures { IfOk result (λ new. new.items ≡ before.items ++ flat_map (spec.ref_supports winners.now.literals goals.now object.now) (option_to_list (slice_get refs.now at))) }
+    ensures { IfOk result (λ new. new.items ≡ before.items ++ flat_map (λ ref. filter (begins_away roots.now) (spec.ref_supports winners.now.literals goals.now object.now ref)) (option_to_list (slice_get refs.now at))) }
 {
     match refs.get(at) {
-        Some(reference) => with_support(before, winners, goals, object, &reference),
+        Some(reference) => with_support(before, winners, goals, roots, object, &reference),
         None => Ok(before),
     }
 }
 
-// Edges, and those of references whose atoms support what is live.
+// Edges, and those of references whose atoms support what is live and aren't roots.
 #[tactic(auto, using(crate::proofs::GrowLemmas::grows))]
 fn with_supports(
     before: Vec<Edge>,
     winners: &Winners,
     goals: &[Goal],
+    roots: &KeySet,
     object: &Object,
     refs: &RefList,
 ) -> Result<Vec<Edge>, OutOfMemory>
-    ensures { IfOk result (λ new. new.items ≡ before.items ++ flat_map (spec.ref_supports winners.now.literals goals.now object.now) refs.now) }
+    ensures { IfOk result (λ new. new.items ≡ before.items ++ flat_map (λ ref. filter (begins_away roots.now) (spec.ref_supports winners.now.literals goals.now object.now ref)) refs.now) }
 {
     let mut edges = before;
     for at in 0..refs.len() {
-        edges = with_support_at(edges, winners, goals, object, refs, at)?;
+        edges = with_support_at(edges, winners, goals, roots, object, refs, at)?;
     }
     Ok(edges)
 }
 
-// Edges, and those of a file.
-#[tactic(auto, unfolding(crate::specs::Edges::file_edges))]
-fn with_file_edges(
-    before: Vec<Edge>,
-    winners: &Winners,
-    goals: &[Goal],
-    file: &LoadedFile,
-) -> Result<Vec<Edge>, OutOfMemory>
-    ensures { IfOk result (λ new. new.items ≡ before.items ++ spec.file_edges winners.now.literals goals.now file.now) }
+// Whether a section of an object supports what is live.
+fn has_live_support(object: &Object) -> bool
+    ensures { result ≡ list_any spec.is_live_support object.now.sections }
 {
-    let edges = with_refs(before, winners, goals, &file.refs)?;
-    with_unwinds(edges, winners, goals, file.unwinds.as_slice())
+    object.sections.as_slice().iter().any(is_live_support)
 }
 
-// Edges, and those of the file at a place.
-fn with_edges_at(
-    before: Vec<Edge>,
-    winners: &Winners,
-    table: &Items<GoalList>,
-    at: usize,
-    file: &LoadedFile,
-) -> Result<Vec<Edge>, OutOfMemory>
-    ensures { IfOk result (λ new. new.items ≡ before.items ++ spec.edges_at winners.now.literals table.now (at, file.now)) }
-{
-    match table.get(at) {
-        Some(goals) => with_file_edges(before, winners, goals.as_slice(), file),
-        None => Ok(before),
-    }
-}
-
-// Edges, and the supports of a file.
-#[tactic(auto, unfolding(crate::specs::Edges::file_supports))]
+// Edges, and the supports of a file. Where no section supports what is live, it goes through no references.
+#[tactic(auto, using(crate::proofs::AwayLemmas::no_supports, crate::proofs::AwayLemmas::supports_here))]
 fn with_file_supports(
     before: Vec<Edge>,
     winners: &Winners,
     goals: &[Goal],
+    roots: &KeySet,
     file: &LoadedFile,
 ) -> Result<Vec<Edge>, OutOfMemory>
-    ensures { IfOk result (λ new. new.items ≡ before.items ++ spec.file_supports winners.now.literals goals.now file.now) }
+    ensures { IfOk result (λ new. new.items ≡ before.items ++ filter (begins_away roots.now) (spec.file_supports winners.now.literals goals.now file.now)) }
 {
-    with_supports(before, winners, goals, &file.object, &file.refs)
+    if has_live_support(&file.object) {
+        with_supports(before, winners, goals, roots, &file.object, &file.refs)
+    } else {
+        Ok(before)
+    }
 }
 
 // Edges, and the supports of the file at a place.
@@ -279,13 +403,14 @@ fn with_supports_at(
     before: Vec<Edge>,
     winners: &Winners,
     table: &Items<GoalList>,
+    roots: &KeySet,
     at: usize,
     file: &LoadedFile,
 ) -> Result<Vec<Edge>, OutOfMemory>
-    ensures { IfOk result (λ new. new.items ≡ before.items ++ spec.supports_at winners.now.literals table.now (at, file.now)) }
+    ensures { IfOk result (λ new. new.items ≡ before.items ++ filter (begins_away roots.now) (spec.supports_at winners.now.literals table.now (at, file.now))) }
 {
     match table.get(at) {
-        Some(goals) => with_file_supports(before, winners, goals.as_slice(), file),
+        Some(goals) => with_file_supports(before, winners, goals.as_slice(), roots, file),
         None => Ok(before),
     }
 }
@@ -294,23 +419,25 @@ fn with_supports_at(
 /// to what is subtracted, and from a function to what handles its exceptions and to the data for that; where an atom is
 /// kept, so are those. Then the supports, from atoms of sections with S_ATTR_LIVE_SUPPORT (`loader.h`) to where their
 /// references lead: where one of these is kept, so is the atom. File by file, by the goals of each file's symbols, as
-/// `goal_table` gives them; no name is looked up.
+/// `goal_table` gives them; no name is looked up. Edges that end in a root, and supports that begin in one, are left out:
+/// they add nothing to what is kept. Where each symbol leads is asked once a file.
 pub fn edges(
     alloc: Global,
     loaded: &Loaded,
     winners: &Winners,
     goals: &Items<GoalList>,
+    roots: &KeySet,
 ) -> Result<(EdgeList, EdgeList), OutOfMemory>
     requires { winners.now.literals ≡ representatives_of loaded.now.files }
-    ensures edges { IfOk result (λ lists. lists.0 ≡ spec.edges_by loaded.now.files goals.now) }
-    ensures supports { IfOk result (λ lists. lists.1 ≡ spec.supports_by loaded.now.files goals.now) }
+    ensures edges { IfOk result (λ lists. lists.0 ≡ filter (leads_away roots.now) (spec.edges_by loaded.now.files goals.now)) }
+    ensures supports { IfOk result (λ lists. lists.1 ≡ filter (begins_away roots.now) (spec.supports_by loaded.now.files goals.now)) }
 {
     let files = loaded.files.as_slice();
     let mut edges = Vec::new(alloc);
     let mut supports = Vec::new(alloc);
     for (at, file) in files.iter().enumerate() {
-        edges = with_edges_at(edges, winners, goals, at, file)?;
-        supports = with_supports_at(supports, winners, goals, at, file)?;
+        edges = with_edges_at(alloc, edges, winners, goals, roots, at, file)?;
+        supports = with_supports_at(supports, winners, goals, roots, at, file)?;
     }
     Ok((Items::from_vec(edges), Items::from_vec(supports)))
 }

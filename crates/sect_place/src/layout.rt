@@ -4,7 +4,7 @@ ghost use Rattle.std.specs.Ordering.{on};
 ghost use Rattle.mo_types.specs.Keys.{compare_keys};
 ghost use Rattle.sect_place.specs.declared.layout.Placed.{Placed};
 
-use crate::lookup::{find, hinted, hints_of};
+use crate::lookup::{address_at, find, hinted, hints_of};
 use mo_types::{AtomKey, Bytes, Items, OutOfMemory, OutSection};
 use std::alloc::Global;
 use std::cmp::Ordering;
@@ -103,6 +103,16 @@ impl PlacedList {
         match hinted(self.placed.as_slice(), self.hints.as_slice(), atom) {
             Some(address) => Some(address),
             None => find(self.placed.as_slice(), atom),
+        }
+    }
+
+    // The same, of an atom that mostly stands at a place.
+    pub(crate) fn address_near(&self, near: usize, atom: &AtomKey) -> Option<u64>
+        ensures { MatchOption result ((address : ℕ) → ¬ Contains self.now (record { atom = atom.now; address = address })) (λ address. Contains self.now (record { atom = atom.now; address = address })) }
+    {
+        match address_at(self.placed.as_slice(), near, atom) {
+            Some(address) => Some(address),
+            None => self.address_of(atom),
         }
     }
 }

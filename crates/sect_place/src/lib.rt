@@ -29,7 +29,7 @@ pub use layout::{
     Layout, Placed, PlacedList, PlacedSection, PlacedSectionList, Segment, SegmentList,
 };
 pub use listing::out_sections;
-pub use lookup::address;
+pub use lookup::{address, address_near};
 pub use placing::place;
 pub use shift::{IslandShifts, address_with};
 pub use size::{PlaceFault, PlaceSizes};

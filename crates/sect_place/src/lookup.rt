@@ -15,6 +15,13 @@ pub fn address(layout: &Layout, atom: AtomKey) -> Option<u64>
     layout.placed.address_of(&atom)
 }
 
+/// The same, of an atom that mostly stands at a place of the list of addresses.
+pub fn address_near(layout: &Layout, near: usize, atom: AtomKey) -> Option<u64>
+    ensures { MatchOption result ((address : ℕ) → ¬ Contains layout.now.placed (record { atom = atom; address = address })) (λ address. Contains layout.now.placed (record { atom = atom; address = address })) }
+{
+    layout.placed.address_near(near, &atom)
+}
+
 // The address of an atom, among addresses in the order of their atoms.
 pub(crate) fn find(placed: &[Placed], atom: &AtomKey) -> Option<u64>
     requires { IsSorted (on (λ (p : Placed). p.atom) compare_keys) placed.now }
@@ -29,25 +36,40 @@ pub(crate) fn find(placed: &[Placed], atom: &AtomKey) -> Option<u64>
 // How many places of the table of hints are looked at for an atom.
 const STEPS: usize = 8;
 
-// For each atom its place in the list, at a place that a hash tells, or behind it. What finds no room is left out.
+// A hint has the atom's place in its lower 24 bits, and bits of its hash above them.
+const PLACES: u32 = 0xff_ffff;
+
+// How many hints a table has for a number of atoms: a power of two.
+fn table_size(count: usize) -> usize {
+    let mut size: usize = 16;
+    for _ in 0..21 {
+        if size < count.saturating_mul(2) {
+            size = size.saturating_mul(2);
+        }
+    }
+    size
+}
+
+// For each atom a hint, at a place that a hash tells, or behind it. What finds no room is left out.
 pub(crate) fn hints_of(alloc: Global, placed: &[Placed]) -> Result<Vec<u32>, OutOfMemory> {
-    let size = placed.len().saturating_mul(2).clamp(16, 1 << 26);
-    let mut hints = vec![in alloc; u32::MAX; size]?;
+    let mut hints = vec![in alloc; u32::MAX; table_size(placed.len())]?;
     for (at, p) in placed.iter().enumerate() {
         if let Ok(at) = u32::try_from(at) {
-            note(hints.as_mut_slice(), &p.atom, at);
+            if at < PLACES {
+                note(hints.as_mut_slice(), hash_of(&p.atom), at);
+            }
         }
     }
     Ok(hints)
 }
 
 // Puts an atom's place into the table of hints, if there is room.
-fn note(hints: &mut [u32], atom: &AtomKey, place: u32) {
-    let first = hash_of(atom) % hints.len().max(1);
+fn note(hints: &mut [u32], hash: u64, place: u32) {
+    let first = first_of(hash, hints.len());
     for step in 0..STEPS {
         if let Some(hint) = hints.get_mut(first.wrapping_add(step)) {
             if *hint == u32::MAX {
-                *hint = place;
+                *hint = tag_of(hash) | place;
                 return;
             }
         }
@@ -58,7 +80,8 @@ fn note(hints: &mut [u32], atom: &AtomKey, place: u32) {
 pub(crate) fn hinted(placed: &[Placed], hints: &[u32], atom: &AtomKey) -> Option<u64>
     ensures { IfSome result (λ address. Contains placed.now (record { atom = atom.now; address = address })) }
 {
-    let first = hash_of(atom) % hints.len().max(1);
+    let hash = hash_of(atom);
+    let first = first_of(hash, hints.len());
     for step in 0..STEPS {
         let hint = hints
             .get(first.wrapping_add(step))
@@ -67,15 +90,17 @@ pub(crate) fn hinted(placed: &[Placed], hints: &[u32], atom: &AtomKey) -> Option
         if hint == u32::MAX {
             return None;
         }
-        if let Some(address) = address_at(placed, hint as usize, atom) {
-            return Some(address);
+        if hint & !PLACES == tag_of(hash) {
+            if let Some(address) = address_at(placed, (hint & PLACES) as usize, atom) {
+                return Some(address);
+            }
         }
     }
     None
 }
 
 // The address at a place of the list, if it is that of an atom.
-fn address_at(placed: &[Placed], at: usize, atom: &AtomKey) -> Option<u64>
+pub(crate) fn address_at(placed: &[Placed], at: usize, atom: &AtomKey) -> Option<u64>
     ensures { IfSome result (λ address. Contains placed.now (record { atom = atom.now; address = address })) }
 {
     if at < placed.len() {
@@ -94,11 +119,21 @@ pub(crate) fn is_same(a: &AtomKey, b: &AtomKey) -> bool
     a == b
 }
 
+// The first place of a hash in a table of hints.
+fn first_of(hash: u64, size: usize) -> usize {
+    (hash >> 32) as usize & size.wrapping_sub(1)
+}
+
+// The bits of a hash that a hint has.
+fn tag_of(hash: u64) -> u32 {
+    (hash & 0xff00_0000) as u32
+}
+
 // A hash of an atom.
-fn hash_of(atom: &AtomKey) -> usize {
+fn hash_of(atom: &AtomKey) -> u64 {
     let file = u64::from(atom.file.position) << 32 | u64::from(atom.file.member);
     let section = mixed(file, u64::from(atom.section));
-    (mixed(section, atom.offset) >> 32) as usize
+    mixed(section, atom.offset)
 }
 
 // A hash with one word more.

@@ -1,10 +1,12 @@
 -- Edges and supports as arrows: where the source of one is kept, so is its end.
 use Rattle.std.specs.Prelude.{◌≡◌, ◌++◌, Bool, List, map, Contains}
+use Rattle.std.specs.List.{filter}
 use Rattle.std.specs.List.Sorted.{IsSortedBy}
 use Rattle.std.specs.Ordering.{is_le, is_lt}
 use Rattle.mo_types.specs.Keys.{compare_keys}
 use Rattle.mo_types.specs.declared.edge.Edge.{Edge}
 use Rattle.mo_types.specs.declared.key.AtomKey.{AtomKey}
+use Rattle.mark_core.specs.Kept.{has}
 
 abbrev pub reversed : Edge → Edge
 reversed edge = record { from = edge.to; to = edge.from }
@@ -14,6 +16,14 @@ end_of arrow = arrow.to
 
 unfoldable pub arrows : List Edge → List Edge → List Edge
 arrows edges supports = edges ++ map reversed supports
+
+-- an arrow begins in one of some atoms
+abbrev pub begins_in : List AtomKey → Edge → Bool
+begins_in roots arrow = has roots arrow.from
+
+-- where arrows from some atoms end
+unfoldable pub ends_from : List AtomKey → List Edge → List AtomKey
+ends_from roots all = map end_of (filter (begins_in roots) all)
 
 -- by rising source
 pub record AreSorted (all : List Edge) : Type 0 where

@@ -1,7 +1,5 @@
-use Rattle.std.proofs.Common.{List, sym, ap, ◌∙◌, ◌++◌}
+use Rattle.std.proofs.Common.{sym, ap, ◌∙◌}
 use Rattle.std.specs.Option.{option_copied}
-use Rattle.mo_types.specs.declared.goal.Goal.{Goal}
-use Rattle.atom_work.specs.Mets.{mets_of}
 use Rattle.atom_work.proofs.OrderLemmas.{kept_mets_of, no_kept_mets, no_order, order_of}
 use Rattle.atom_work.proofs.rows.with_kept_mets.Goals as goal
 

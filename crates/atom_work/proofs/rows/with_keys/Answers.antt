@@ -1,5 +1,4 @@
 use Rattle.patch.proofs.LeastLemmas.{element_at}
-use Rattle.atom_work.specs.Rows.{row_of}
 use Rattle.atom_work.proofs.ListLemmas.{key_more}
 use Rattle.atom_work.proofs.rows.with_keys.Goals as goal
 

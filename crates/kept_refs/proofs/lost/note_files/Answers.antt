@@ -10,7 +10,7 @@ loop-at-preserved c =
     elim c.match-get.branch [
       | in-Some w ↦
           rw w.least-is
-          (files_some c.args.keys.now c.args.files.now c.args.goals.now c.loop-at.at (option_map held c.loop-at.least) (option_map held w.note_file-least.result) c.index-files-at.result _ c.loop-at.invariant c.loop-at-test.true c.index-files-at.is
+          (files_some c.args.keys.now c.args.files.now c.args.goals.now c.loop-at.at (option_map held c.loop-at.least) (option_map held w.note_if_any-least.result) c.index-files-at.result _ c.loop-at.invariant c.loop-at-test.true c.index-files-at.is
           (sym c.get.ensures.value ∙ ap option_copied w.in-Some.is) (search rules))
       | in-None w ↦
           rw w.least-is

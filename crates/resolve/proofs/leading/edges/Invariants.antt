@@ -1,11 +1,12 @@
 use Rattle.std.proofs.Common.{[]}
-use Rattle.std.specs.List.{enumerate_from}
+use Rattle.std.specs.List.{enumerate_from, filter}
+use Rattle.mark_core.specs.Kept.{begins_away, leads_away}
 use Rattle.resolve.proofs.GrowLemmas.{IsGrowing}
 use Rattle.resolve.specs.Edges.{edges_at, supports_at}
 use Rattle.resolve.proofs.leading.edges.Given as goal
 
 abbrev pub invariant-loop-at : goal.invariant-loop-at
 invariant-loop-at l = record {
-  edges : IsGrowing (edges_at l.winners.literals l.goals) [] l.edges.items (enumerate_from 0 l.files) l.at;
-  supports : IsGrowing (supports_at l.winners.literals l.goals) [] l.supports.items (enumerate_from 0 l.files) l.at;
+  edges : IsGrowing (λ p. filter (leads_away l.roots) (edges_at l.winners.literals l.goals p)) [] l.edges.items (enumerate_from 0 l.files) l.at;
+  supports : IsGrowing (λ p. filter (begins_away l.roots) (supports_at l.winners.literals l.goals p)) [] l.supports.items (enumerate_from 0 l.files) l.at;
 }

@@ -2,8 +2,8 @@ use Rattle.std.proofs.Common.{rules}
 use Rattle.std.proofs.lemmas.Fn.{always_returns_same}
 use Rattle.mo_types.specs.Keys.{compare_keys}
 use Rattle.mo_types.specs.declared.key.AtomKey.{AtomKey}
-use Rattle.kept_refs.proofs.KeptLemmas.{has_found, has_none}
-use Rattle.kept_refs.proofs.kept.is_kept.Goals as goal
+use Rattle.mark_core.proofs.SetLemmas.{has_found, has_none}
+use Rattle.mark_core.proofs.lookup.is_kept.Goals as goal
 
 pub returns-in-Ok : goal.returns-in-Ok
 returns-in-Ok c =
