@@ -1,6 +1,10 @@
-pub mod FileLemmas
-pub mod FormLemmas
+pub mod ArchiveLemmas
+pub mod FaultLemmas
 pub mod LawLemmas
-pub mod LoadedLemmas
+pub mod OpenedLemmas
 pub mod OrderLemmas
 pub mod PieceLemmas
+pub mod PlaceLemmas
+pub mod SortLemmas
+pub mod SoundLemmas
+pub mod TextLemmas

@@ -1,6 +1,9 @@
 -- Inputs by rising positions.
-use Rattle.std.proofs.Common.{◌≡◌, ℕ, ◌+◌, ◌-◌, ◌<◌, ◌≤◌, List, length, map, get_or, [], ◌∷◌, subst, ap, arith}
+use Rattle.std.proofs.Common.{◌≡◌, ℕ, zero, suc, ◌+◌, ◌-◌, ◌^◌, ◌==◌, true, false, Fits, w16, w32, ◌<◌, ◌≤◌, List, length, map, get_or, [], ◌∷◌, subst, ap, arith}
 use Rattle.std.specs.List.{AllAdjacentBelow}
+use Rattle.std.specs.List.Sorted.{IsStrictlySortedBy}
+use Rattle.std.specs.Ordering.{nat_cmp}
+use Rattle.std.proofs.Math.Facts.{Fits-lt-pow, Fits-of_lt}
 use Rattle.std.proofs.lemmas.List.{get_or-map, get_or_default, length-map}
 use Rattle.std.proofs.lemmas.Map.Keys.{IsStrictlyIncreasing-from_sorted, sorted_from_strictly_increasing}
 use Rattle.member_rounds.specs.Sources.{AreInOrder}
@@ -44,3 +47,29 @@ apart inputs i a b d low high less =
     let first : (get_or inputs (i - 1) d).position ≡ (get_or inputs (i - 1) a).position = ap (λ (s : Input). s.position) (get_or_default inputs (i - 1) d a (omega (arith, low, high))) in
     let second : (get_or inputs i d).position ≡ (get_or inputs i b).position = ap (λ (s : Input). s.position) (get_or_default inputs i d b high) in
     omega (arith, less, first, second)
+
+-- ---- how many inputs there are
+
+low_number : (ps : List ℕ) (k : ℕ) → IsStrictlySortedBy nat_cmp ps → k < length ps → k ≤ get_or ps k 0
+low_number ps zero order high = omega arith
+low_number ps (suc k) order high =
+    let same : k + 1 ≡ suc k = omega arith in
+    let less : get_or ps k 0 < get_or ps (k + 1) 0 = IsStrictlyIncreasing-from_sorted ps order k (omega (arith, high)) in
+    let next : get_or ps k 0 < get_or ps (suc k) 0 = subst (λ (n : ℕ). get_or ps k 0 < get_or ps n 0) same less in
+    let before : k ≤ get_or ps k 0 = low_number ps k order (omega (arith, high)) in
+    omega (arith, before, next)
+
+-- a position isn't below the number of inputs before
+pub low_position : (inputs : List Input) (k : ℕ) (d : Input) → AreInOrder inputs → k < length inputs → k ≤ (get_or inputs k d).position
+low_position inputs k d order high =
+    let low : k ≤ get_or (map (λ (input : Input). input.position) inputs) k 0 = low_number (map (λ (input : Input). input.position) inputs) k order (omega (arith, high, length-map inputs (λ (input : Input). input.position))) in
+    subst (λ (n : ℕ). k ≤ n) (get_or-map (λ (input : Input). input.position) inputs k d 0 high) low
+
+-- so they have a number of 32 bits, where the last one's position has one of 16
+pub few_inputs : (inputs : List Input) (d : Input) → AreInOrder inputs → false ≡ (length inputs == 0) → Fits w16 (get_or inputs (length inputs - 1) d).position → Fits w32 (length inputs)
+few_inputs [] d order some fits = absurd (let s : false ≡ true = some in cc)
+few_inputs (input ∷ inputs) d order some fits =
+    let low : length (input ∷ inputs) - 1 ≤ (get_or (input ∷ inputs) (length (input ∷ inputs) - 1) d).position = low_position (input ∷ inputs) (length (input ∷ inputs) - 1) d order (omega arith) in
+    let high : (get_or (input ∷ inputs) (length (input ∷ inputs) - 1) d).position < 2 ^ 16 = Fits-lt-pow fits in
+    let few : length (input ∷ inputs) < 2 ^ 32 = omega (arith, low, high) in
+    Fits-of_lt few

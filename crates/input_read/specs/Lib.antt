@@ -1,3 +1,4 @@
-pub mod Form
 pub mod inner
-pub mod Reading
+pub mod Opened
+pub mod Opening
+pub mod Sound

@@ -1,39 +1,37 @@
-//! What holds of what is loaded of inputs, each on a call that does nothing.
-ghost use Rattle.std.specs.Prelude.{◌≡◌, ◌↔◌, ℕ, ◌<◌, false, List, length, slice_index_or, All, Err, Ok, Some};
-ghost use Rattle.std.specs.List.{AllPairs};
+//! What holds of what inputs are, each on a call that does nothing.
+ghost use Rattle.std.specs.Prelude.{◌≡◌, ◌↔◌, ℕ, ◌<◌, List, length, map, slice_index_or, IfErr, Err, Ok, Some};
 ghost use Rattle.std.specs.Result.{result_err};
-ghost use Rattle.mo_types.specs.Loaded.{IsBefore};
 ghost use Rattle.mo_types.specs.Scan.{first_some};
-ghost use Rattle.mo_types.specs.declared.loaded.Loaded.{Loaded};
-ghost use Rattle.mo_types.specs.declared.loaded.LoadedFile.{LoadedFile};
-ghost use Rattle.member_rounds.specs.Sources.{AreInOrder};
+ghost use Rattle.member_rounds.specs.Files.{IsRoundFault};
+ghost use Rattle.member_rounds.specs.Sources.{AreInOrder, object_reads};
 ghost use Rattle.member_rounds.specs.declared.fault.RoundFault.{RoundFault};
 ghost use Rattle.member_rounds.specs.declared.input.Input.{Input};
-ghost use Rattle.input_read.specs.Form.{is_later};
-ghost use Rattle.input_read.specs.Reading.{HasLowAtoms, loaded_of, object_of_input};
+ghost use Rattle.input_read.specs.Opened.{Contents, contents_of, openings_of};
+ghost use Rattle.input_read.specs.Opening.{opening_of};
+ghost use Rattle.input_read.specs.declared.opening.Opening.{Opening};
 
-/// What is loaded are as many files as there are inputs, each the object of the input at its place.
-pub fn each_input_is_loaded()
-    ensures count { (inputs : List Input) (loaded : Loaded) → loaded_of inputs ≡ Ok loaded → length loaded.files ≡ length inputs }
-    ensures each { (inputs : List Input) (loaded : Loaded) (k : ℕ) (input : Input) (file : LoadedFile) → loaded_of inputs ≡ Ok loaded → k < length inputs → object_of_input (slice_index_or inputs k input) ≡ Ok (slice_index_or loaded.files k file) }
+/// There are as many openings as inputs, each what the input at its place is.
+pub fn each_input_is_opened()
+    ensures count { (inputs : List Input) (openings : List Opening) → openings_of inputs ≡ Ok openings → length openings ≡ length inputs }
+    ensures each { (inputs : List Input) (openings : List Opening) (k : ℕ) (input : Input) (opening : Opening) → openings_of inputs ≡ Ok openings → k < length inputs → opening_of (slice_index_or inputs k input) ≡ Ok (slice_index_or openings k opening) }
 {}
 
 /// A fault is told exactly where an input has one, and is that of the first such input.
 pub fn the_first_fault_is_told()
-    ensures { (inputs : List Input) (fault : RoundFault) → (loaded_of inputs ≡ Err fault) ↔ (first_some (λ input. result_err (object_of_input input)) inputs ≡ Some fault) }
+    ensures { (inputs : List Input) (fault : RoundFault) → (contents_of inputs ≡ Err fault) ↔ (first_some (λ input. result_err (opening_of input)) inputs ≡ Some fault) }
 {}
 
-/// Nothing that is loaded has a form that comes with a later version.
-pub fn what_is_loaded_has_the_form()
-    ensures { (inputs : List Input) (loaded : Loaded) → loaded_of inputs ≡ Ok loaded → All (λ file. is_later file ≡ false) loaded.files }
+/// The objects and archives stand in the order of the inputs.
+pub fn inputs_keep_their_order()
+    ensures { (inputs : List Input) (contents : Contents) → AreInOrder inputs → contents_of inputs ≡ Ok contents → AreInOrder contents.inputs }
 {}
 
-/// The ids of what is loaded rise.
-pub fn what_is_loaded_rises()
-    ensures { (inputs : List Input) (loaded : Loaded) → AreInOrder inputs → loaded_of inputs ≡ Ok loaded → AllPairs (λ a b. IsBefore a.id b.id) loaded.files }
+/// The objects are what each of the inputs is read as that is no archive.
+pub fn objects_are_those_of_the_inputs()
+    ensures { (inputs : List Input) (contents : Contents) → contents_of inputs ≡ Ok contents → object_reads contents.inputs ≡ map Ok contents.objects }
 {}
 
-/// No atom of what is loaded is aligned to more than 2^14 bytes.
-pub fn what_is_loaded_is_low()
-    ensures { (inputs : List Input) (loaded : Loaded) → loaded_of inputs ≡ Ok loaded → All HasLowAtoms loaded.files }
+/// An input that isn't read has a fault of its own.
+pub fn a_fault_is_told()
+    ensures { (input : Input) → IfErr (opening_of input) IsRoundFault }
 {}

@@ -1,18 +1,20 @@
-//! Reads the inputs of a link side by side: each one's object, or the fault of the first that has one.
+//! Reads the inputs of a link side by side: what each one is, an object, an archive or the text of stub libraries, or the
+//! fault of the first that has one.
 #![tactic(auto)]
 
 mod collecting;
-mod form;
 mod in_order;
 mod laws;
-mod reading;
-mod reading_all;
+mod opened;
+mod opening;
+mod opening_all;
+mod sorting;
 
-pub use form::is_later;
 pub use in_order::are_in_order;
 pub use laws::{
-    each_input_is_loaded, the_first_fault_is_told, what_is_loaded_has_the_form,
-    what_is_loaded_is_low, what_is_loaded_rises,
+    a_fault_is_told, each_input_is_opened, inputs_keep_their_order,
+    objects_are_those_of_the_inputs, the_first_fault_is_told,
 };
-pub use reading::read_input;
-pub use reading_all::read_inputs;
+pub use opened::{Opened, SourceList};
+pub use opening::{Opening, open_input};
+pub use opening_all::open_inputs;

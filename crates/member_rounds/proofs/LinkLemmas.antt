@@ -21,18 +21,19 @@ use Rattle.lib_bind.specs.declared.library.LibraryGraph.{LibraryGraph}
 use Rattle.name_ids.specs.Names.{external_names, numbered}
 use Rattle.name_ids.proofs.Once.{distinct}
 use Rattle.member_rounds.specs.Growth.{after, is_in}
-use Rattle.member_rounds.specs.Files.{all_ids}
-use Rattle.member_rounds.specs.Rounds.{asks, files_of, has_candidate, is_first, loaded_ids, loaded_of, names_fault, undefined_in}
+use Rattle.member_rounds.specs.Files.{HasLowAtoms, all_ids, file_of}
+use Rattle.member_rounds.specs.Rounds.{asks, files_of, has_candidate, is_first, loaded_ids, loaded_of, names_fault, new_ids, undefined_in}
 use Rattle.member_rounds.specs.Sources.{AreInOrder, inputs_of}
 use Rattle.member_rounds.specs.declared.fault.RoundFault.{RoundFault}
 use Rattle.member_rounds.specs.declared.input.Input.{Input}
 use Rattle.member_rounds.specs.declared.loading.Link.{Link}
 use Rattle.member_rounds.specs.declared.sources.Source.{Source}
 use Rattle.member_rounds.specs.inner.Holding.{AreReadable}
-use Rattle.member_rounds.specs.inner.Linking.{IsLinkAt}
+use Rattle.member_rounds.specs.inner.Linking.{IsLinkAt, IsReadAt}
 use Rattle.member_rounds.specs.inner.Working.{AreKept, HaveAsked, IsBetween, first_names, lists, read_each}
 use Rattle.member_rounds.proofs.CountLemmas.{names_grow}
 use Rattle.member_rounds.proofs.FileLemmas.{few_ids, ids_rise}
+use Rattle.member_rounds.proofs.LowLemmas.{low_at}
 use Rattle.member_rounds.proofs.SettledLemmas.{none_settled}
 use Rattle.member_rounds.proofs.StateLemmas.{all_from, all_has, named_in, union_rises}
 use Rattle.member_rounds.proofs.StepLemmas.{ends_early, ends_late, in_order, names_fail, next_round, read_fails, sorted_rises}
@@ -40,13 +41,16 @@ use Rattle.member_rounds.proofs.WorkLemmas.{fresh_in, from_all, in_either, in_le
 
 -- ---- files that can be read
 
-pub readable_new : (sources : List Source) (libs : LibraryGraph) (wanted : List (List ℕ)) (link : Link) → AreInOrder (inputs_of sources) → IsLinkAt (inputs_of sources) libs wanted link → AreReadable sources link.new.items
+readable_new : (sources : List Source) (libs : LibraryGraph) (wanted : List (List ℕ)) (link : Link) → AreInOrder (inputs_of sources) → IsLinkAt (inputs_of sources) libs wanted link → AreReadable sources link.new.items
 readable_new sources libs wanted link order so = record {
   order = order;
   few = all_from (λ (id : FileId). id.member < 2 ^ 20) link.new.items (λ id there.
       few_ids (inputs_of sources) id (from_all (all_ids (inputs_of sources)) (is_first (inputs_of sources)) (asks (inputs_of sources) libs wanted) link.rounds id
       (fresh_in (inputs_of sources) libs wanted link.rounds id (subst (λ (ids : List FileId). In id ids) so.between.new_are there))));
 }
+
+pub readable_over : (sources : List Source) (libs : LibraryGraph) (wanted : List (List ℕ)) (link : Link) (ids : List FileId) → AreInOrder (inputs_of sources) → IsLinkAt (inputs_of sources) libs wanted link → ids ≡ link.new.items → AreReadable sources ids
+readable_over sources libs wanted link ids order so is = subst (λ (l : List FileId). AreReadable sources l) (sym is) (readable_new sources libs wanted link order so)
 
 in_take : {X : Type 0} (n : ℕ) (xs : List X) (x : X) → In x (take n xs) → In x xs
 in_take {X = X} n xs x there = subst (λ (ys : List X). In x ys) (take-append-drop n xs) (in_left (take n xs) (drop n xs) x there)
@@ -100,14 +104,25 @@ link_begins inputs libs wanted all link are none nothing unsettled first left li
 
 -- ---- a round
 
+-- the files of the first round
+pub new_first : (inputs : List Input) (libs : LibraryGraph) (wanted : List (List ℕ)) (link : Link) → IsLinkAt inputs libs wanted link → link.rounds ≡ 0 → link.new.items ≡ filter (is_first inputs) (all_ids inputs)
+unfolding after
+new_first inputs libs wanted link so none = so.between.new_are ∙ ap (new_ids inputs libs wanted) none
+
+pub read_at : (inputs also : List Input) (libs : LibraryGraph) (wanted : List (List ℕ)) (link : Link) (files : List LoadedFile) → also ≡ inputs → AreInOrder inputs → IsLinkAt inputs libs wanted link → link.rounds < length (all_ids inputs) + 1 → read_each inputs link.new.items ≡ Ok files → All IsWholeFile files → IsReadAt also libs wanted link files
+read_at inputs also libs wanted link files same order so low read whole = subst (λ (all : List Input). IsReadAt all libs wanted link files) (sym same) (record { order = order; link_is = so; rounds = low; read = read; whole = whole })
+
+pub link_over : (inputs also : List Input) (libs : LibraryGraph) (wanted : List (List ℕ)) (link : Link) → also ≡ inputs → IsLinkAt also libs wanted link → IsLinkAt inputs libs wanted link
+link_over inputs also libs wanted link same so = subst (λ (all : List Input). IsLinkAt all libs wanted link) same so
+
+pub fault_over : (inputs also : List Input) (libs : LibraryGraph) (wanted : List (List ℕ)) (fault : RoundFault) → also ≡ inputs → loaded_of also libs wanted ≡ Err fault → loaded_of inputs libs wanted ≡ Err fault
+fault_over inputs also libs wanted fault same is = subst (λ (all : List Input). loaded_of all libs wanted ≡ Err fault) same is
+
 all_both : (xs ys : List LoadedFile) → All IsWholeFile xs → All IsWholeFile ys → All IsWholeFile (xs ++ ys)
 all_both xs ys one two = all_from IsWholeFile (xs ++ ys) (λ file there. elim (in_either xs ys file there) [
   | inl l ↦ all_has IsWholeFile xs file one l
   | inr r ↦ all_has IsWholeFile ys file two r
 ])
-
-pub asked_over : (inputs also : List Input) (libs : LibraryGraph) (before asked : List FileId) (settled after names : List (List ℕ)) → also ≡ inputs → HaveAsked also libs before settled asked after names → HaveAsked inputs libs before settled asked after names
-asked_over inputs also libs before asked settled after names same have = subst (λ (all : List Input). HaveAsked all libs before settled asked after names) same have
 
 pub link_goes_on : (inputs : List Input) (libs : LibraryGraph) (wanted : List (List ℕ)) (link next : Link) (files : List LoadedFile) (noted : List (List ℕ)) (asked : List FileId)
     → AreInOrder inputs
@@ -147,6 +162,9 @@ module _ (inputs : List Input) (libs : LibraryGraph) (wanted : List (List ℕ)) 
     files = All-permutation IsWholeFile link.kept.files loaded.files moved whole;
   }
 
+  low_by : (ids : List FileId) → AreKept inputs ids link.kept.files → IsPermutation link.kept.files loaded.files → All HasLowAtoms loaded.files
+  low_by ids kept moved = All-permutation HasLowAtoms link.kept.files loaded.files moved (all_from HasLowAtoms link.kept.files (λ file there. low_at inputs file.id file (all_has (λ (f : LoadedFile). file_of inputs f.id ≡ Ok f) link.kept.files file kept.read there)))
+
   loaded_by : (ids : List FileId) → AreKept inputs ids link.kept.files → IsStrictlySortedBy compare_files ids → loaded_of inputs libs wanted ≡ Ok (record { files = files_of inputs ids }) → IsPermutation link.kept.files loaded.files → IsSortedBy (λ a b. is_lt (compare_files a.id b.id)) loaded.files → loaded_of inputs libs wanted ≡ Ok loaded
   loaded_by ids kept rise is moved sorted = is ∙ ap (λ (fs : List LoadedFile). Ok (record { files = fs })) (sym (in_order inputs ids link.kept.files loaded.files kept rise moved sorted))
 
@@ -170,3 +188,9 @@ module _ (inputs : List Input) (libs : LibraryGraph) (wanted : List (List ℕ)) 
 
   pub late_whole : AreInOrder inputs → IsLinkAt inputs libs wanted link → link.rounds ≡ length (all_ids inputs) + 1 → IsPermutation link.kept.files loaded.files → IsSortedBy (λ a b. is_lt (compare_files a.id b.id)) loaded.files → IsWholeLoaded loaded
   late_whole order so is moved sorted = let e = late so is in whole_by (loaded_ids inputs libs wanted) e.1 (rise_of order) so.whole moved sorted
+
+  pub early_low : (k : ℕ) → AreInOrder inputs → IsLinkAt inputs libs wanted link → link.rounds ≡ k + 1 → link.new.items ≡ [] → IsPermutation link.kept.files loaded.files → All HasLowAtoms loaded.files
+  early_low k order so is none moved = low_by (loaded_ids inputs libs wanted) (early k order so is none).1 moved
+
+  pub late_low : IsLinkAt inputs libs wanted link → link.rounds ≡ length (all_ids inputs) + 1 → IsPermutation link.kept.files loaded.files → All HasLowAtoms loaded.files
+  late_low so is moved = low_by (loaded_ids inputs libs wanted) (late so is).1 moved

@@ -17,7 +17,7 @@ use Rattle.member_rounds.specs.Sources.{AreInOrder, inputs_of}
 use Rattle.member_rounds.specs.declared.input.Input.{Input}
 use Rattle.member_rounds.specs.declared.sources.Source.{Source}
 
-other_position : (p q : ℕ) → nat_cmp p q ≡ Less → (q == p) ≡ false
+pub other_position : (p q : ℕ) → nat_cmp p q ≡ Less → (q == p) ≡ false
 other_position p q less = by (q == p) refl
   where
     by : (b : Bool) → (q == p) ≡ b → (q == p) ≡ false

@@ -1,14 +1,15 @@
 -- The files that inputs hold. An object is one file, of number 0; the members of an archive count from 1, without its
 -- table of contents (ar(5)).
-use Rattle.std.specs.Prelude.{ℕ, ◌-◌, ◌++◌, ◌==◌, List, [], ◌∷◌, codes, length, map, slice_get, Option, Some, None, option_map, unwrap_or, Result, Ok, Err, if◌then◌else◌}
+use Rattle.std.specs.Prelude.{ℕ, ◌≤◌, ◌-◌, ◌++◌, ◌==◌, List, [], ◌∷◌, codes, length, map, slice_get, All, Option, Some, None, option_map, unwrap_or, Result, Ok, Err, if◌then◌else◌}
 use Rattle.std.specs.List.{flat_map, range_with_len}
 use Rattle.std.specs.Result.{result_ok}
 use Rattle.mo_types.specs.Atoms.{atoms_of}
+use Rattle.mo_types.specs.Gives.{◌>>=◌}
 use Rattle.mo_types.specs.Kind.{kind_of}
 use Rattle.mo_types.specs.Refs.{refs_of}
 use Rattle.mo_types.specs.Scan.{first_some}
 use Rattle.mo_types.specs.declared.answer.Refusal.TheVariants as refusal
-use Rattle.mo_types.specs.declared.cause.Feature.TheVariants.{Bitcode}
+use Rattle.mo_types.specs.declared.cause.Feature.TheVariants.{Bitcode, Later}
 use Rattle.mo_types.specs.declared.cause.Rule.TheVariants.{NotAnInput}
 use Rattle.mo_types.specs.declared.key.FileId.{FileId}
 use Rattle.mo_types.specs.declared.kind.Kind.{Kind}
@@ -23,6 +24,7 @@ use Rattle.mo_ar.specs.Text.{part}
 use Rattle.mo_ar.specs.declared.archive.Archive.{Archive}
 use Rattle.mo_ar.specs.declared.member.Member.{Member}
 use Rattle.mo_obj.specs.Object.{object_of}
+use Rattle.member_rounds.specs.Form.{is_later}
 use Rattle.member_rounds.specs.declared.fault.RoundFault.{RoundFault}
 use Rattle.member_rounds.specs.declared.fault.RoundFault.TheVariants as rounds
 use Rattle.member_rounds.specs.declared.input.Input.{Input}
@@ -94,13 +96,21 @@ read_by kind.MachO id label bytes = object_read id label (object_of bytes)
 read_by (kind.Refused Bitcode) id label bytes = Err (rounds.Refused (refusal.Unsupported label Bitcode))
 read_by _ id label bytes = Err (rounds.Refused (refusal.Malformed label 0 NotAnInput))
 
--- bytes as a file of the link, or their first fault
-abbrev pub read_as : FileId → List ℕ → List ℕ → Result LoadedFile RoundFault
-read_as id label bytes = read_by (kind_of bytes) id label bytes
+abbrev pub in_form : LoadedFile → Result LoadedFile RoundFault
+in_form file = if is_later file then Err (rounds.Refused (refusal.Unsupported file.label Later)) else Ok file
+
+-- bytes as a file of the link, or the first of these that stands: another kind of file, a rule that the object breaks or a
+-- feature that the linker doesn't have, a form that comes with a later version
+unfoldable pub read_as : FileId → List ℕ → List ℕ → Result LoadedFile RoundFault
+read_as id label bytes = read_by (kind_of bytes) id label bytes >>= in_form
 
 -- a file of the inputs as it is loaded, or its first fault
 unfoldable pub file_of : List Input → FileId → Result LoadedFile RoundFault
 file_of inputs id = read_as id (content_of inputs id).label (content_of inputs id).bytes
+
+-- no atom is aligned to more than a page of 2^14 bytes
+abbrev pub HasLowAtoms : LoadedFile → Type 0
+HasLowAtoms file = All (λ atom. atom.align ≤ 14) file.atoms
 
 -- a fault that files have
 abbrev pub IsRoundFault : RoundFault → Type 0

@@ -1,4 +1,5 @@
 pub mod Files
+pub mod Form
 pub mod Growth
 pub mod inner
 pub mod Offers

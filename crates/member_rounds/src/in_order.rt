@@ -1,29 +1,39 @@
-//! Files by rising ids, and sources by rising positions.
-ghost use Rattle.std.specs.Prelude.{◌≡◌, ◌↔◌, IsTrue};
+//! Files by rising ids.
+ghost use Rattle.std.specs.Prelude.{◌≡◌, ◌++◌, IfOk};
 ghost use Rattle.std.specs.List.Sorted.{IsPermutation, IsSortedBy};
 ghost use Rattle.std.specs.Ordering.{is_lt};
 ghost use Rattle.mo_types.specs.Keys.{compare_files};
-ghost use Rattle.member_rounds.specs.Sources.{AreInOrder, inputs_of};
 
-use crate::sources::Source;
-use mo_types::LoadedFile;
+use mo_types::{Loaded, LoadedFile, LoadedList, OutOfMemory};
 
-/// Puts files in the order of their ids.
-pub(crate) fn put_in_order(files: &mut Vec<LoadedFile>)
+/// Files, and more files.
+pub(crate) fn with_files(before: Loaded, more: LoadedList) -> Result<Loaded, OutOfMemory>
+    ensures { IfOk result (λ all. all.files ≡ before.files ++ more) }
+{
+    let mut all = before.files.into_vec();
+    let mut more = more.into_vec();
+    all.append(&mut more)?;
+    Ok(Loaded {
+        files: LoadedList::from_vec(all),
+    })
+}
+
+// Puts files in the order of their ids.
+fn put_in_order(files: &mut Vec<LoadedFile>)
     ensures permutation { IsPermutation files.old.items files.new.items }
     ensures sorted { IsSortedBy (λ a b. is_lt (compare_files a.id b.id)) files.new.items }
 {
     files.sort_unstable_by_key(|file| file.id);
 }
 
-/// Whether sources stand by rising positions.
-pub fn are_in_order(sources: &[Source]) -> bool
-    ensures { IsTrue result ↔ AreInOrder (inputs_of sources.now) }
+/// The files by rising id.
+pub(crate) fn in_order(files: Loaded) -> Loaded
+    ensures permutation { IsPermutation files.files result.files }
+    ensures sorted { IsSortedBy (λ a b. is_lt (compare_files a.id b.id)) result.files }
 {
-    for i in 1..sources.len() {
-        if sources[i - 1].input.position >= sources[i].input.position {
-            return false;
-        }
+    let mut files = files.files.into_vec();
+    put_in_order(&mut files);
+    Loaded {
+        files: LoadedList::from_vec(files),
     }
-    true
 }

@@ -9,6 +9,8 @@ mod contents;
 mod counting;
 mod fault;
 mod files_by_name;
+mod first_reading;
+mod form;
 mod id_set;
 mod in_order;
 mod input;
@@ -26,7 +28,7 @@ mod taking;
 
 pub use asked::asked_by;
 pub use fault::RoundFault;
-pub use in_order::are_in_order;
+pub use form::is_later;
 pub use input::{Input, InputList};
 pub use laws::{
     a_library_before_takes_the_name, each_file_was_asked_for, headers_ask_nobody,

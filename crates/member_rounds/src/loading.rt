@@ -1,21 +1,19 @@
 //! The files that a link loads, round by round.
 ghost use Rattle.std.specs.Prelude.{◌≡◌, ℕ, ◌+◌, ◌^◌, ◌<◌, ◌≤◌, ◌++◌, ◌&&◌, ◌||◌, List, [], length, not, true, All, IfErr, IfOk, Err, Ok};
 ghost use Rattle.std.specs.List.{flat_map};
-ghost use Rattle.std.specs.List.Sorted.{IsPermutation, IsSortedBy, IsStrictlySortedBy};
-ghost use Rattle.std.specs.Ordering.{is_lt};
+ghost use Rattle.std.specs.List.Sorted.{IsStrictlySortedBy};
 ghost use Rattle.mo_types.specs.Gives.{Gives};
 ghost use Rattle.mo_types.specs.Keys.{compare_files};
-ghost use Rattle.mo_types.specs.Loaded.{IsWholeFile, IsWholeLoaded};
+ghost use Rattle.mo_types.specs.Loaded.{IsWholeLoaded};
 ghost use Rattle.mo_types.specs.declared.key.FileId.{FileId};
 ghost use Rattle.name_ids.specs.Names.{external_names};
 ghost use Rattle.lib_bind.specs.declared.library.LibraryGraph.{LibraryGraph};
 ghost use Rattle.member_rounds.specs.Files as files;
-ghost use Rattle.member_rounds.specs.Files.{IsRoundFault};
+ghost use Rattle.member_rounds.specs.Files.{HasLowAtoms, IsRoundFault};
 ghost use Rattle.member_rounds.specs.Rounds.{has_candidate, loaded_of, undefined_in};
 ghost use Rattle.member_rounds.specs.Growth.{is_in};
-ghost use Rattle.member_rounds.specs.Sources.{AreInOrder, inputs_of};
-ghost use Rattle.member_rounds.specs.inner.Holding.{AreReadable};
-ghost use Rattle.member_rounds.specs.inner.Linking.{IsLinkAt};
+ghost use Rattle.member_rounds.specs.Sources.{AreInOrder, AreObjects, inputs_of};
+ghost use Rattle.member_rounds.specs.inner.Linking.{IsLinkAt, IsReadAt};
 ghost use Rattle.member_rounds.specs.inner.Working as working;
 ghost use Rattle.member_rounds.specs.inner.Working.{HaveAsked};
 
@@ -23,8 +21,9 @@ use crate::all_files::{all_ids, first_ids};
 use crate::asking::{Asked, ask_all};
 use crate::counting::{first_spare, names_of, spare_names};
 use crate::fault::RoundFault;
+use crate::first_reading::read_first;
 use crate::id_set::IdSet;
-use crate::in_order::put_in_order;
+use crate::in_order::{in_order, with_files};
 use crate::name_set::NameSet;
 use crate::noting::note_files;
 use crate::offer_index::OfferIndex;
@@ -61,30 +60,6 @@ fn first_names(wanted: &NameList, rounds: usize) -> &[Bytes]
     if rounds == 0 { wanted.as_slice() } else { &[] }
 }
 
-// Files, and more files.
-fn with_files(before: Loaded, more: LoadedList) -> Result<Loaded, OutOfMemory>
-    ensures { IfOk result (λ all. all.files ≡ before.files ++ more) }
-{
-    let mut all = before.files.into_vec();
-    let mut more = more.into_vec();
-    all.append(&mut more)?;
-    Ok(Loaded {
-        files: LoadedList::from_vec(all),
-    })
-}
-
-// The files by rising id.
-fn in_order(kept: Loaded) -> Loaded
-    ensures permutation { IsPermutation kept.files result.files }
-    ensures sorted { IsSortedBy (λ a b. is_lt (compare_files a.id b.id)) result.files }
-{
-    let mut files = kept.files.into_vec();
-    put_in_order(&mut files);
-    Loaded {
-        files: LoadedList::from_vec(files),
-    }
-}
-
 // The files that are left of some without others.
 fn left_at(alloc: Global, all: &[FileId], new: &Vec<FileId>) -> Result<IdSet, OutOfMemory>
     ensures { IfOk result (λ left. (id : FileId) → is_in left id ≡ (is_in all.now id && not (is_in new.now.items id))) }
@@ -118,22 +93,6 @@ fn begin(
         new,
         spare,
     })
-}
-
-// The files of the next round.
-fn read_new<R: Threads + Sync, G: Gate + Sync>(
-    rt: &R,
-    alloc: Global,
-    gate: &G,
-    workers: u32,
-    sources: &[Source],
-    new: &Vec<FileId>,
-) -> Result<LoadedList, RoundFault>
-    requires { AreReadable sources.now new.now.items }
-    ensures exact { Gives IsRoundFault result (working.read_each (inputs_of sources.now) new.now.items) }
-    ensures whole { IfOk result (λ files. All IsWholeFile files) }
-{
-    read_all(rt, alloc, gate, workers, sources, new.as_slice())
 }
 
 // Names, and those of the candidates of new files.
@@ -179,31 +138,21 @@ fn take_new(
     take_next(alloc, left, asked.as_slice())
 }
 
-// A link after one round more: its files are read, and join all at once; then their names ask.
-fn next_round<R: Threads + Sync, G: Gate + Sync>(
-    rt: &R,
+// A link after one round more, whose files were read: they join all at once, and then their names ask.
+fn join_round(
     alloc: Global,
-    gate: &G,
-    workers: u32,
-    sources: &[Source],
     offers: &OfferIndex,
     libs: &Libraries,
     wanted: &NameList,
     link: Link,
+    read: LoadedList,
 ) -> Result<Link, RoundFault>
-    requires order { AreInOrder (inputs_of sources.now) }
-    requires offers { offers.now ≡ inputs_of sources.now }
-    requires link { IsLinkAt (inputs_of sources.now) libs.now wanted.now link }
-    requires rounds { link.rounds < length (files.all_ids (inputs_of sources.now)) + 1 }
+    requires read { IsReadAt offers.now libs.now wanted.now link read }
     requires few { link.rounds < 2 ^ 63 }
     ensures rounds { IfOk result (λ next. next.rounds ≡ link.rounds + 1) }
-    ensures link { IfOk result (λ next. IsLinkAt (inputs_of sources.now) libs.now wanted.now next) }
-    ensures fault { IfErr result (λ fault. IsRoundFault fault → loaded_of (inputs_of sources.now) libs.now wanted.now ≡ Err fault) }
+    ensures link { IfOk result (λ next. IsLinkAt offers.now libs.now wanted.now next) }
+    ensures fault { IfErr result (λ fault. IsRoundFault fault → loaded_of offers.now libs.now wanted.now ≡ Err fault) }
 {
-    let read = match read_new(rt, alloc, gate, workers, sources, &link.new) {
-        Ok(read) => read,
-        Err(fault) => return Err(fault),
-    };
     let Link {
         rounds,
         kept,
@@ -231,6 +180,71 @@ fn next_round<R: Threads + Sync, G: Gate + Sync>(
     })
 }
 
+// A link after its first round: the objects, which were read, and the members of forced archives join.
+fn first_round<R: Threads + Sync, G: Gate + Sync>(
+    rt: &R,
+    alloc: Global,
+    gate: &G,
+    workers: u32,
+    sources: &[Source],
+    objects: LoadedList,
+    offers: &OfferIndex,
+    libs: &Libraries,
+    wanted: &NameList,
+    link: Link,
+) -> Result<Link, RoundFault>
+    requires order { AreInOrder (inputs_of sources.now) }
+    requires objects { AreObjects (inputs_of sources.now) objects }
+    requires offers { offers.now ≡ inputs_of sources.now }
+    requires link { IsLinkAt (inputs_of sources.now) libs.now wanted.now link }
+    requires first { link.rounds ≡ 0 }
+    ensures rounds { IfOk result (λ next. next.rounds ≡ 1) }
+    ensures link { IfOk result (λ next. IsLinkAt (inputs_of sources.now) libs.now wanted.now next) }
+    ensures fault { IfErr result (λ fault. IsRoundFault fault → loaded_of (inputs_of sources.now) libs.now wanted.now ≡ Err fault) }
+{
+    let read = match read_first(
+        rt,
+        alloc,
+        gate,
+        workers,
+        sources,
+        objects,
+        link.new.as_slice(),
+    ) {
+        Ok(read) => read,
+        Err(fault) => return Err(fault),
+    };
+    join_round(alloc, offers, libs, wanted, link, read)
+}
+
+// A link after one round more: its files are read, and join.
+fn next_round<R: Threads + Sync, G: Gate + Sync>(
+    rt: &R,
+    alloc: Global,
+    gate: &G,
+    workers: u32,
+    sources: &[Source],
+    offers: &OfferIndex,
+    libs: &Libraries,
+    wanted: &NameList,
+    link: Link,
+) -> Result<Link, RoundFault>
+    requires order { AreInOrder (inputs_of sources.now) }
+    requires offers { offers.now ≡ inputs_of sources.now }
+    requires link { IsLinkAt (inputs_of sources.now) libs.now wanted.now link }
+    requires rounds { link.rounds < length (files.all_ids (inputs_of sources.now)) + 1 }
+    requires few { link.rounds < 2 ^ 63 }
+    ensures rounds { IfOk result (λ next. next.rounds ≡ link.rounds + 1) }
+    ensures link { IfOk result (λ next. IsLinkAt (inputs_of sources.now) libs.now wanted.now next) }
+    ensures fault { IfErr result (λ fault. IsRoundFault fault → loaded_of (inputs_of sources.now) libs.now wanted.now ≡ Err fault) }
+{
+    let read = match read_all(rt, alloc, gate, workers, sources, link.new.as_slice()) {
+        Ok(read) => read,
+        Err(fault) => return Err(fault),
+    };
+    join_round(alloc, offers, libs, wanted, link, read)
+}
+
 // Whether the next round has no files.
 fn brings_nothing(link: &Link) -> bool
     ensures { result ≡ true → link.now.new.items ≡ [] }
@@ -239,36 +253,45 @@ fn brings_nothing(link: &Link) -> bool
 }
 
 /// The files that a link loads, by rising id, each read once by one of so many workers (none count as one). In the first
-/// round come the objects and the members of forced archives. In each further one come all members at once for which the
-/// names ask that are wanted so far, by files or by the command line, and have no candidate. The rounds end when one brings
-/// no file. Refusals come for the first round that has one: the fault of the least of its files that has one, and then that
-/// of too many names. The answer is the same for every number of workers.
+/// round come the objects, which were read before, and the members of forced archives. In each further one come all members
+/// at once for which the names ask that are wanted so far, by files or by the command line, and have no candidate. The rounds
+/// end when one brings no file. Refusals come for the first round that has one: the fault of the least of its files that has
+/// one, and then that of too many names. The answer is the same for every number of workers.
 pub fn load<R: Threads + Sync, G: Gate + Sync>(
     rt: &R,
     alloc: Global,
     gate: &G,
     workers: u32,
     sources: &[Source],
+    objects: LoadedList,
     libs: &Libraries,
     wanted: &NameList,
 ) -> Result<Loaded, RoundFault>
     requires order { AreInOrder (inputs_of sources.now) }
+    requires objects { AreObjects (inputs_of sources.now) objects }
     ensures exact { Gives IsRoundFault result (loaded_of (inputs_of sources.now) libs.now wanted.now) }
     ensures whole { IfOk result IsWholeLoaded }
+    ensures low { IfOk result (λ loaded. All HasLowAtoms loaded.files) }
 {
     let offers = OfferIndex::new(alloc, sources)?;
     let all = all_ids(alloc, sources)?;
-    let mut link = begin(alloc, sources, all.as_slice(), wanted)?;
-    for round in 0..all.len() + 1 {
+    let link = begin(alloc, sources, all.as_slice(), wanted)?;
+    let mut link = match first_round(
+        rt, alloc, gate, workers, sources, objects, &offers, libs, wanted, link,
+    ) {
+        Ok(link) => link,
+        Err(fault) => return Err(fault),
+    };
+    for round in 0..all.len() {
+        if brings_nothing(&link) {
+            return Ok(in_order(link.kept));
+        }
         link = match next_round(
             rt, alloc, gate, workers, sources, &offers, libs, wanted, link,
         ) {
             Ok(next) => next,
             Err(fault) => return Err(fault),
         };
-        if brings_nothing(&link) {
-            return Ok(in_order(link.kept));
-        }
     }
     Ok(in_order(link.kept))
 }

@@ -9,6 +9,7 @@ ghost use Rattle.member_rounds.specs.Files as files;
 ghost use Rattle.member_rounds.specs.Files.{IsRoundFault};
 
 use crate::fault::RoundFault;
+use crate::form::is_later;
 use mo_obj::{LinkObject, read_for_link};
 use mo_types::{
     Bytes, Feature, FileId, Kind, LoadedFile, ObjFault, Refusal, Rule, UnwindList, kind_of,
@@ -66,16 +67,15 @@ fn read_object(
     }
 }
 
-/// Reads a file, an object or an archive's member, as the link loads it: whole, with its atoms and references; or tells its
-/// first fault, under its label. One that isn't a Mach-O file is refused, LLVM's bitcode as a feature.
-pub fn read_file(
+// Reads a file as what its first bytes tell.
+fn read_kind(
     alloc: Global,
     id: FileId,
     label: Bytes,
     bytes: &Bytes,
 ) -> Result<LoadedFile, RoundFault>
     requires member { id.member < 2 ^ 20 }
-    ensures exact { Gives IsRoundFault result (files.read_as id label bytes.now) }
+    ensures exact { Gives IsRoundFault result (files.read_by (kinds.kind_of bytes.now) id label bytes.now) }
     ensures whole { IfOk result IsWholeFile }
 {
     match kind_of(bytes.as_slice()) {
@@ -90,4 +90,38 @@ pub fn read_file(
             rule: Rule::NotAnInput,
         })),
     }
+}
+
+// A file, where it has the form that is linked.
+fn in_form(file: LoadedFile) -> Result<LoadedFile, RoundFault>
+    requires { IsWholeFile file }
+    ensures exact { result ≡ files.in_form file }
+    ensures whole { IfOk result IsWholeFile }
+{
+    if is_later(&file) {
+        let LoadedFile { label, .. } = file;
+        return Err(RoundFault::Refused(Refusal::Unsupported {
+            file: label,
+            feature: Feature::Later,
+        }));
+    }
+    Ok(file)
+}
+
+/// Reads a file, an object or an archive's member, as the link loads it: whole, with its atoms and references; or tells the
+/// first of these that stands, under its label: another kind of file than a Mach-O file, LLVM's bitcode as a feature; a rule
+/// that the object breaks, or a feature that the linker doesn't have; a form that comes with a later version.
+#[tactic(auto, unfolding(crate::specs::Files::read_as))]
+pub fn read_file(
+    alloc: Global,
+    id: FileId,
+    label: Bytes,
+    bytes: &Bytes,
+) -> Result<LoadedFile, RoundFault>
+    requires member { id.member < 2 ^ 20 }
+    ensures exact { Gives IsRoundFault result (files.read_as id label bytes.now) }
+    ensures whole { IfOk result IsWholeFile }
+{
+    let file = read_kind(alloc, id, label, bytes)?;
+    in_form(file)
 }

@@ -1,9 +1,9 @@
-//! What inputs are read as, by tables that were written by hand.
+//! What inputs are, by tables that were written by hand.
 use crate::{files, forms};
-use input_read::{are_in_order, read_inputs};
+use input_read::{Opened, are_in_order, open_inputs};
 use member_rounds::{Input, RoundFault};
 use mo_outside::FreeGate;
-use mo_types::{Bytes, Loaded, OutOfMemory, Refusal};
+use mo_types::{Bytes, OutOfMemory, Refusal};
 use std::alloc::Global;
 use std::test::Fail;
 use std::thread::Threads;
@@ -24,11 +24,15 @@ fn input_of(position: u16, file: &File) -> Input {
     }
 }
 
-// The labels of loaded files, each with a blank after it.
-fn labels_of(alloc: Global, loaded: &Loaded) -> Result<Vec<u8>, OutOfMemory> {
+// The labels of inputs, each with a blank after it: first those of objects and archives, then those of stub libraries.
+fn labels_of(alloc: Global, opened: &Opened) -> Result<Vec<u8>, OutOfMemory> {
     let mut out = Vec::new(alloc);
-    for file in loaded.files.as_slice() {
-        out.extend_from_slice(file.label.as_slice())?;
+    for source in opened.sources.as_slice() {
+        out.extend_from_slice(source.input.label.as_slice())?;
+        out.push(b' ')?;
+    }
+    for stub in opened.stubs.as_slice() {
+        out.extend_from_slice(stub.label.as_slice())?;
         out.push(b' ')?;
     }
     Ok(out)
@@ -66,19 +70,24 @@ fn said<R: Threads + Sync>(
     if !are_in_order(inputs) {
         return Ok(Vec::new(alloc));
     }
-    match read_inputs(rt, alloc, &FreeGate, workers, inputs) {
-        Ok(loaded) => labels_of(alloc, &loaded),
+    match open_inputs(rt, alloc, &FreeGate, workers, inputs) {
+        Ok(opened) => labels_of(alloc, &opened),
         Err(fault) => told(alloc, &fault),
     }
 }
 
-// What is to be told of two files: the fault of the first that has one, or both labels.
+// What is to be told of two files: the fault of the first that has one, or both labels, that of a stub library last.
 fn wanted(alloc: Global, first: &File, second: &File) -> Result<Vec<u8>, OutOfMemory> {
     for file in [first, second] {
         if !file.fault.is_empty() {
             return line(alloc, file.label, file.fault);
         }
     }
+    let (first, second) = if first.label == b"stub".as_slice() {
+        (second, first)
+    } else {
+        (first, second)
+    };
     let mut out = line(alloc, first.label, second.label)?;
     out.push(b' ')?;
     Ok(out)
@@ -169,17 +178,17 @@ const FILES: [File; 20] = [
     File {
         label: b"archive",
         bytes: files::ROUNDS_A,
-        fault: b"later",
+        fault: b"",
     },
     File {
         label: b"universal",
         bytes: b"\xca\xfe\xba\xbe\0\0\0\x01",
-        fault: b"later",
+        fault: b"slice",
     },
     File {
         label: b"stub",
-        bytes: b"--- !tapi-tbd\n",
-        fault: b"later",
+        bytes: b"--- !tapi-tbd\ntbd-version: 4\ntargets: [ arm64-macos ]\ninstall-name: '/l'\n...\n",
+        fault: b"",
     },
     File {
         label: b"text",

@@ -1,7 +1,8 @@
 //! What links load, by tables of their inputs and labels that were written by hand.
 use crate::files;
 use crate::libraries::library_at;
-use member_rounds::{Input, RoundFault, Source, are_in_order, load};
+use input_read::{are_in_order, open_inputs};
+use member_rounds::{Input, RoundFault, load};
 use mo_outside::FreeGate;
 use mo_types::{Bytes, Loaded, NameList, OutOfMemory, Refusal};
 use std::alloc::Global;
@@ -21,19 +22,18 @@ struct Link {
     loads: &'static [u8],
 }
 
-// The sources of files, one at each position.
-fn sources_of(alloc: Global, files: &[File]) -> Result<Vec<Source>, OutOfMemory> {
-    let mut sources = Vec::new(alloc);
+// Files as inputs, one at each position.
+fn inputs_of(alloc: Global, files: &[File]) -> Result<Vec<Input>, OutOfMemory> {
+    let mut inputs = Vec::new(alloc);
     for ((label, bytes, forced), position) in files.iter().zip(0u16..) {
-        let input = Input {
+        inputs.push(Input {
             position,
             label: Bytes::from_static(*label),
             bytes: Bytes::from_static(*bytes),
             forced: *forced,
-        };
-        sources.push(Source::open(alloc, input)?)?;
+        })?;
     }
-    Ok(sources)
+    Ok(inputs)
 }
 
 fn names_of(alloc: Global, list: &[&'static [u8]]) -> Result<NameList, OutOfMemory> {
@@ -71,20 +71,25 @@ fn said<R: Threads + Sync>(
     workers: u32,
     link: &Link,
 ) -> Result<Vec<u8>, OutOfMemory> {
-    let sources = sources_of(alloc, link.files)?;
+    let inputs = inputs_of(alloc, link.files)?;
     let wanted = names_of(alloc, link.wanted)?;
     let Some(libs) = library_at(alloc, link.library, b"_f")? else {
         return Ok(Vec::new(alloc));
     };
-    if !are_in_order(sources.as_slice()) {
+    if !are_in_order(inputs.as_slice()) {
         return Ok(Vec::new(alloc));
     }
+    let opened = match open_inputs(rt, alloc, &FreeGate, workers, inputs.as_slice()) {
+        Ok(opened) => opened,
+        Err(fault) => return told(alloc, &fault),
+    };
     match load(
         rt,
         alloc,
         &FreeGate,
         workers,
-        sources.as_slice(),
+        opened.sources.as_slice(),
+        opened.objects,
         &libs,
         &wanted,
     ) {

@@ -1,14 +1,25 @@
 -- A link of the code between two of its rounds.
-use Rattle.std.specs.Prelude.{ℕ, ◌+◌, ◌^◌, ◌<◌, ◌≤◌, ◌++◌, List, length, All}
+use Rattle.std.specs.Prelude.{◌≡◌, ℕ, ◌+◌, ◌^◌, ◌<◌, ◌≤◌, ◌++◌, List, length, All, Ok}
 use Rattle.mo_types.specs.Loaded.{IsWholeFile}
+use Rattle.mo_types.specs.declared.loaded.LoadedFile.{LoadedFile}
 use Rattle.lib_bind.specs.declared.library.LibraryGraph.{LibraryGraph}
 use Rattle.name_ids.specs.Names.{external_names, numbered}
+use Rattle.member_rounds.specs.Files.{all_ids}
+use Rattle.member_rounds.specs.Sources.{AreInOrder}
 use Rattle.member_rounds.specs.declared.input.Input.{Input}
 use Rattle.member_rounds.specs.declared.loading.Link.{Link}
-use Rattle.member_rounds.specs.inner.Working.{IsBetween}
+use Rattle.member_rounds.specs.inner.Working.{IsBetween, read_each}
 
 pub record IsLinkAt (inputs : List Input) (libs : LibraryGraph) (wanted : List (List ℕ)) (link : Link) : Type 0 where
   pub between : IsBetween inputs libs wanted link.rounds link.kept.files link.settled link.left link.new.items
   pub whole : All IsWholeFile link.kept.files
   pub spare_limit : link.spare ≤ 2 ^ 24
   pub spare_names : 0 < link.spare → length (numbered (external_names link.kept.files ++ wanted)) + link.spare ≤ 2 ^ 24
+
+-- the files of the next round were read
+pub record IsReadAt (inputs : List Input) (libs : LibraryGraph) (wanted : List (List ℕ)) (link : Link) (files : List LoadedFile) : Type 0 where
+  pub order : AreInOrder inputs
+  pub link_is : IsLinkAt inputs libs wanted link
+  pub rounds : link.rounds < length (all_ids inputs) + 1
+  pub read : read_each inputs link.new.items ≡ Ok files
+  pub whole : All IsWholeFile files

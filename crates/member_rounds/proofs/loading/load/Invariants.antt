@@ -1,7 +1,7 @@
-use Rattle.std.proofs.Common.{◌≡◌}
+use Rattle.std.proofs.Common.{◌≡◌, ◌+◌}
 use Rattle.member_rounds.specs.Sources.{inputs_of}
 use Rattle.member_rounds.specs.inner.Linking.{IsLinkAt}
 use Rattle.member_rounds.proofs.loading.load.Given as goal
 
 abbrev pub invariant-loop-round : goal.invariant-loop-round
-invariant-loop-round g l = IsLinkAt (inputs_of l.sources) l.libs l.wanted l.link × (l.link.rounds ≡ l.round)
+invariant-loop-round g l = IsLinkAt (inputs_of l.sources) l.libs l.wanted l.link × (l.link.rounds ≡ l.round + 1)

@@ -1,0 +1,20 @@
+-- What holds of an input by what it is.
+use Rattle.std.specs.Prelude.{◌≡◌, ◌<◌, length, None, Some, Ok}
+use Rattle.mo_types.specs.Loaded.{IsWholeFile}
+use Rattle.mo_types.specs.declared.loaded.LoadedFile.{LoadedFile}
+use Rattle.member_rounds.specs.Files.{archive_in, id_at, read_as}
+use Rattle.member_rounds.specs.declared.input.Input.{Input}
+use Rattle.input_read.specs.declared.opening.Opening.{Opening}
+use Rattle.input_read.specs.declared.opening.Opening.TheVariants as opening
+
+-- an input that is no archive, and the whole file that is loaded of it
+pub record IsObjectOf (input : Input) (file : LoadedFile) : Type 0 where
+  pub single : archive_in input ≡ None
+  pub read : read_as (id_at input 0) input.label input.bytes ≡ Ok file
+  pub whole : IsWholeFile file
+
+-- An object is the file of its input, an archive the one that its input is, and a stub library has a document.
+abbrev pub IsSound : Opening → Type 0
+IsSound (opening.Object input file) = IsObjectOf input file
+IsSound (opening.Archive input archive) = archive_in input ≡ Some archive
+IsSound (opening.Stubs named) = 0 < length named.file.docs

@@ -1,0 +1,147 @@
+-- What a file is read as: a Mach-O file's object, with atoms of low alignment.
+use Rattle.std.proofs.Common.{◌≡◌, ℕ, ◌+◌, ◌≤◌, ◌^◌, ◌==◌, ◌&&◌, ◌||◌, Bool, true, false, not, nat_le, nat_lt, List, [], ◌∷◌, All, Option, Some, None, Result, Ok, Err, length, min, inl, inr, refl, sym, ap, subst, ◌∙◌, arith, if◌then◌else◌}
+use Rattle.std.specs.Int.{w64, trailing_zeros}
+use Rattle.std.proofs.lemmas.Bool.{cases_Bool, false≢true, ltb-false}
+use Rattle.list_lemmas.proofs.Members.{In, any_from_in}
+use Rattle.mo_types.specs.Atoms.{align_at, atoms_from, atoms_of, cuts, piece, pieces, section_atoms}
+use Rattle.mo_types.specs.Gives.{◌>>=◌, guarded}
+use Rattle.mo_types.specs.Kind.{kind_of}
+use Rattle.mo_types.specs.Whole.{is_dropped}
+use Rattle.mo_types.specs.declared.atom.Atom.{Atom}
+use Rattle.mo_types.specs.declared.cause.Feature.{Feature}
+use Rattle.mo_types.specs.declared.cause.Feature.TheVariants as feature
+use Rattle.mo_types.specs.declared.cause.Feature.TheVariants.{Bitcode}
+use Rattle.mo_types.specs.declared.cause.Which.TheVariants.{Symbols}
+use Rattle.mo_types.specs.declared.key.FileId.{FileId}
+use Rattle.mo_types.specs.declared.kind.Kind.{Kind}
+use Rattle.mo_types.specs.declared.kind.Kind.TheVariants as kind
+use Rattle.mo_types.specs.declared.loaded.LoadedFile.{LoadedFile}
+use Rattle.mo_types.specs.declared.object.Object.{Object}
+use Rattle.mo_types.specs.declared.object.Section.{Section}
+use Rattle.mo_types.specs.declared.object_fault.ObjFault.{ObjFault}
+use Rattle.mo_types.specs.declared.object_fault.ObjFault.TheVariants.{Limit, Unsupported}
+use Rattle.mo_obj.specs.Features.{any_kept, any_overaligned, first_feature, is_overaligned, or_else}
+use Rattle.mo_obj.specs.Object.{accepted, described, lacks, object_of}
+use Rattle.mo_obj.specs.Relocations.{relocations_of}
+use Rattle.member_rounds.specs.Files.{HasLowAtoms, content_of, fault_of, file_of, file_with, object_read, read_as, read_by}
+use Rattle.member_rounds.specs.Form.{is_later}
+use Rattle.member_rounds.specs.declared.fault.RoundFault.{RoundFault}
+use Rattle.member_rounds.specs.declared.input.Input.{Input}
+use Rattle.member_rounds.proofs.FileLemmas.{read_formed}
+use Rattle.member_rounds.proofs.StateLemmas.{all_from}
+use Rattle.member_rounds.proofs.WorkLemmas.{in_either}
+
+-- ---- an object's sections
+
+none_on : (test : Bool) (feature : Feature) (others : Option Feature) → or_else test feature others ≡ None → (test ≡ false) × (others ≡ None)
+none_on true feature others is = absurd (let s : Some feature ≡ None = is in cc)
+none_on false feature others is = (refl, is)
+
+left_false : (a b : Bool) → (a || b) ≡ false → a ≡ false
+left_false true b is = is
+left_false false b is = refl
+
+not_over : (object : Object) (foreign : Bool) (relocs : Option Feature) → first_feature object foreign relocs ≡ None → any_kept is_overaligned object.sections ≡ false
+unfolding first_feature
+not_over object foreign relocs is = left_false (any_kept is_overaligned object.sections) _ (none_on (any_overaligned object) feature.Alignment _ (none_on _ feature.ObjcSection _ (none_on _ feature.SectionType _ is).1).1).0
+
+accepted_low : (read object : Object) (foreign : Bool) → (accepted read foreign >>= λ done. Ok read) ≡ Ok object → any_kept is_overaligned object.sections ≡ false
+unfolding accepted
+accepted_low read object foreign is = by (relocations_of read) refl
+  where
+    guard : (b : Bool) → any_kept is_overaligned read.sections ≡ false → (guarded b (Limit Symbols) (tt {0}) >>= λ done. Ok read) ≡ Ok object → any_kept is_overaligned object.sections ≡ false
+    guard true low h = let s : Ok read ≡ Ok object = h in let same : read ≡ object = cc in ap (λ (o : Object). any_kept is_overaligned o.sections) (sym same) ∙ low
+    guard false low h = absurd (let s : Err (Limit Symbols) ≡ Ok object = h in cc)
+
+    supported : (relocs f : Option Feature) → first_feature read foreign relocs ≡ f → ((lacks f >>= λ supported. guarded (nat_lt (length read.symbols) (2 ^ 24)) (Limit Symbols) (tt {0})) >>= λ done. Ok read) ≡ Ok object → any_kept is_overaligned object.sections ≡ false
+    supported relocs None e h = guard (nat_lt (length read.symbols) (2 ^ 24)) (not_over read foreign relocs e) h
+    supported relocs (Some f) e h = absurd (let s : Err (Unsupported f) ≡ Ok object = h in cc)
+
+    by : (r : Result (Option Feature) ObjFault) → relocations_of read ≡ r → any_kept is_overaligned object.sections ≡ false
+    by (Err e) r = absurd (let s : Err e ≡ Ok object = rw r at is in cc)
+    by (Ok relocs) r = supported relocs (first_feature read foreign relocs) refl (rw r at is)
+
+low_object : (bytes : List ℕ) (object : Object) → object_of bytes ≡ Ok object → any_kept is_overaligned object.sections ≡ false
+unfolding object_of
+low_object bytes object is = elim (described bytes) as (λ r. (r >>= λ read. accepted read.object read.foreign >>= λ done. Ok read.object) ≡ Ok object → any_kept is_overaligned object.sections ≡ false) [
+  | Ok read ↦ λ h. accepted_low read.object object read.foreign h
+  | Err e ↦ λ h. absurd (let s : Err e ≡ Ok object = h in cc)
+] is
+
+low_section : (sections : List Section) → any_kept is_overaligned sections ≡ false → (section : Section) → In section sections → is_dropped section ≡ false → section.align ≤ 14
+low_section sections none section there kept = elim (cases_Bool (nat_lt 14 section.align)) [
+  | inl over ↦ absurd (false≢true (sym none ∙ any_from_in (λ (s : Section). not (is_dropped s) && is_overaligned s) sections section there (rw (kept, over) refl)))
+  | inr low ↦ ltb-false 14 section.align low
+]
+
+-- ---- their atoms
+
+align_below : (align offset : ℕ) → align_at align offset ≤ align
+unfolding align_at
+align_below align offset = by (offset == 0)
+  where
+    by : (b : Bool) → (if b then align else min align (trailing_zeros w64 offset)) ≤ align
+    by true = omega arith
+    by false = omega arith
+
+low_pieces : (file : FileId) (number : ℕ) (section : Section) (at : List ℕ) (atom : Atom) → In atom (pieces file number section at) → atom.align ≤ section.align
+unfolding piece
+low_pieces file number section [] atom there = absurd there
+low_pieces file number section (from ∷ at) atom (inl e) = subst (λ (a : Atom). a.align ≤ section.align) e (align_below section.align from)
+low_pieces file number section (from ∷ at) atom (inr later) = low_pieces file number section at atom later
+
+low_in : (object : Object) (file : FileId) (number : ℕ) (section : Section) → (is_dropped section ≡ false → section.align ≤ 14) → (atom : Atom) → In atom (section_atoms object file number section) → atom.align ≤ 14
+unfolding section_atoms
+low_in object file number section low atom there = by (is_dropped section) refl there
+  where
+    by : (b : Bool) → is_dropped section ≡ b → In atom (if b then [] else pieces file number section (cuts object number section)) → atom.align ≤ 14
+    by true e h = absurd h
+    by false e h = let one : atom.align ≤ section.align = low_pieces file number section (cuts object number section) atom h in let two : section.align ≤ 14 = low e in omega (arith, one, two)
+
+low_from : (object : Object) (file : FileId) (number : ℕ) (sections : List Section) → ((section : Section) → In section sections → is_dropped section ≡ false → section.align ≤ 14) → (atom : Atom) → In atom (atoms_from object file number sections) → atom.align ≤ 14
+low_from object file number [] low atom there = absurd there
+low_from object file number (section ∷ sections) low atom there = elim (in_either (section_atoms object file number section) (atoms_from object file (number + 1) sections) atom there) [
+  | inl here ↦ low_in object file number section (low section (inl refl)) atom here
+  | inr later ↦ low_from object file (number + 1) sections (λ s at. low s (inr at)) atom later
+]
+
+low_atoms : (bytes : List ℕ) (object : Object) (file : FileId) → object_of bytes ≡ Ok object → All (λ (atom : Atom). atom.align ≤ 14) (atoms_of object file)
+unfolding atoms_of
+low_atoms bytes object file is = all_from (λ (atom : Atom). atom.align ≤ 14) (atoms_from object file 1 object.sections) (low_from object file 1 object.sections (low_section object.sections (low_object bytes object is)))
+
+-- ---- a file's object
+
+-- the object that a file is read as
+pub record IsObjectOf (id : FileId) (label bytes : List ℕ) (file : LoadedFile) : Type 0 where
+  pub object : Object
+  pub read : object_of bytes ≡ Ok object
+  pub is : file ≡ file_with id label object
+
+module _ (id : FileId) (label bytes : List ℕ) (file : LoadedFile) where
+  from_object : (r : Result Object ObjFault) → object_of bytes ≡ r → object_read id label r ≡ Ok file → IsObjectOf id label bytes file
+  from_object (Ok object) e is = record { object = object; read = e; is = (let s : Ok (file_with id label object) ≡ Ok file = is in let same : file_with id label object ≡ file = cc in sym same) }
+  from_object (Err f) e is = absurd (let s : Err (fault_of label f) ≡ Ok file = is in cc)
+
+  from_kind : (k : Kind) → read_by k id label bytes ≡ Ok file → IsObjectOf id label bytes file
+  from_kind kind.MachO is = from_object (object_of bytes) refl is
+  from_kind (kind.Refused Bitcode) is = absurd (cc)
+  from_kind _ is = absurd (cc)
+
+  pub from_read : read_as id label bytes ≡ Ok file → IsObjectOf id label bytes file
+  from_read is = from_kind (kind_of bytes) (read_formed id label bytes file is).0
+
+  pub form_is : read_as id label bytes ≡ Ok file → is_later file ≡ false
+  form_is is = (read_formed id label bytes file is).1
+
+  pub low_file : read_as id label bytes ≡ Ok file → HasLowAtoms file
+  low_file is =
+      let so = from_read is in
+      subst HasLowAtoms (sym so.is) (low_atoms bytes so.object id so.read)
+
+pub low_at : (inputs : List Input) (id : FileId) (file : LoadedFile) → file_of inputs id ≡ Ok file → HasLowAtoms file
+unfolding file_of
+low_at inputs id file is = low_file id (content_of inputs id).label (content_of inputs id).bytes file is
+
+pub object_at : (inputs : List Input) (id : FileId) (file : LoadedFile) → file_of inputs id ≡ Ok file → IsObjectOf id (content_of inputs id).label (content_of inputs id).bytes file
+unfolding file_of
+object_at inputs id file is = from_read id (content_of inputs id).label (content_of inputs id).bytes file is
