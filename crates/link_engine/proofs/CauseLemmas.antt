@@ -1,234 +1,257 @@
--- From a verdict to the cause of each refusal, and back.
-use Rattle.std.proofs.Common.{◌≡◌, ℕ, ◌<◌, ◌^◌, inl, inr, Bool, true, false, nat_le, nat_lt, List, [], ◌∷◌, length, Some, Result, Ok, Err, IfErr, refl, sym, ap, ◌∙◌, subst, arith}
+-- The verdict is a refusal just where its cause stands.
+use Rattle.std.proofs.Common.{◌≡◌, ℕ, ◌+◌, ◌<◌, ◌≤◌, ◌^◌, ◌++◌, if◌then◌else◌, Bool, true, false, nat_lt, List, [], ◌∷◌, length, Option, Some, None, Result, Ok, Err, inl, inr, refl, sym, ap, ◌∙◌, subst, arith}
+use Rattle.std.specs.List.{range_with_len}
+use Rattle.std.specs.Prelude.{IfErr}
 use Rattle.std.specs.Result.{result_err}
-use Rattle.std.proofs.lemmas.Bool.{ltb-false, ltb-true}
+use Rattle.std.proofs.lemmas.Bool.{ltb-true, ltb-false}
+use Rattle.input_fetch.specs.Contents.{content_of, contents_of, first_of, places_of}
+use Rattle.input_fetch.specs.declared.content.Content.{Content}
+use Rattle.input_fetch.specs.declared.stop.FetchStop.{FetchStop}
+use Rattle.input_fetch.specs.declared.stop.FetchStop.TheVariants as fetch
+use Rattle.input_read.specs.Opened.{Contents}
+use Rattle.input_read.specs.Opened as opened
+use Rattle.input_read.specs.Opening.{opening_of}
 use Rattle.input_read.proofs.LawLemmas.{told as told_first}
-use Rattle.input_read.specs.Form.{is_later}
-use Rattle.input_read.specs.Reading.{file_of_input, in_form, loaded_of, object_of_input, read_kind}
+use Rattle.input_read.proofs.PlaceLemmas.{input_faulty, read_faulty}
+use Rattle.lib_bind.specs.declared.bind_fault.BindFault.{BindFault}
+use Rattle.lib_bind.specs.declared.bind_fault.BindFault.TheVariants as bind
+use Rattle.lib_bind.specs.declared.library.LibraryGraph.{LibraryGraph}
 use Rattle.link_files.proofs.CauseLemmas.{cause_refuses, refusal_cause}
 use Rattle.link_files.specs.Linked.{IsLinked}
+use Rattle.link_files.specs.Names.{wanted}
 use Rattle.link_files.specs.Steps.{Then}
-use Rattle.member_rounds.specs.Files.{IsRoundFault, id_at, object_read, read_by}
+use Rattle.member_rounds.specs.Files.{IsRoundFault, all_ids, content_of as file_content, file_of}
+use Rattle.member_rounds.specs.Rounds.{files_of, loaded_ids, loaded_of, names_fault, new_ids, round, round_fault}
 use Rattle.member_rounds.specs.declared.fault.RoundFault.{RoundFault}
 use Rattle.member_rounds.specs.declared.fault.RoundFault.TheVariants as rounds
 use Rattle.member_rounds.specs.declared.input.Input.{Input}
+use Rattle.name_ids.specs.Names.{external_names, numbered}
 use Rattle.mo_cmd.specs.Command.{command_by}
 use Rattle.mo_cmd.specs.declared.command.Command.{Command}
-use Rattle.mo_cmd.specs.declared.command.CommandInput.{CommandInput}
 use Rattle.mo_cmd.specs.declared.command.UsageFault.{UsageFault}
 use Rattle.mo_cmd.specs.declared.command.UsageFault.TheVariants as usage
-use Rattle.mo_obj.proofs.WholeLemmas.{object_faulty}
-use Rattle.mo_obj.specs.Faults.{IsObjFault}
-use Rattle.mo_obj.specs.Object.{object_of}
 use Rattle.mo_outside.specs.Answers.{Answer, There, Absent, Unread}
 use Rattle.mo_outside.specs.Answers as given
 use Rattle.mo_types.specs.Gives.{◌>>=◌}
-use Rattle.mo_types.specs.Kind.{kind_of}
-use Rattle.mo_types.specs.Scan.{first_some}
+use Rattle.mo_types.specs.Scan.{first_some, option_or_else}
 use Rattle.mo_types.specs.declared.answer.Refusal.{Refusal}
 use Rattle.mo_types.specs.declared.answer.Refusal.TheVariants as refusal
-use Rattle.mo_types.specs.declared.cause.Feature.{Feature}
-use Rattle.mo_types.specs.declared.cause.Feature.TheVariants as feature
-use Rattle.mo_types.specs.declared.cause.Which.TheVariants.{Inputs}
-use Rattle.mo_types.specs.declared.kind.Kind.{Kind}
-use Rattle.mo_types.specs.declared.kind.Kind.TheVariants as kind
+use Rattle.mo_types.specs.declared.cause.Which.TheVariants.{Inputs, Names}
+use Rattle.mo_types.specs.declared.key.FileId.{FileId}
 use Rattle.mo_types.specs.declared.loaded.Loaded.{Loaded}
 use Rattle.mo_types.specs.declared.loaded.LoadedFile.{LoadedFile}
-use Rattle.mo_types.specs.declared.object.Object.{Object}
-use Rattle.mo_types.specs.declared.object_fault.ObjFault.{ObjFault}
-use Rattle.mo_types.specs.declared.object_fault.ObjFault.TheVariants as fault
 use Rattle.link_engine.specs.declared.plan.Plan.{Plan}
 use Rattle.link_engine.specs.declared.stop.Stop.{Stop}
 use Rattle.link_engine.specs.declared.stop.Stop.TheVariants as stop
-use Rattle.link_engine.specs.Causes.{Cause, IsCrowded, IsFirstAbsent}
+use Rattle.link_engine.specs.Causes.{AreBound, AreOpen, AreThere, Cause, IsCrowded}
 use Rattle.link_engine.specs.Command.{command_of, counted, linked_rows}
-use Rattle.link_engine.specs.Input.{contents_of, inputs_from}
-use Rattle.link_engine.specs.Verdict.{AsCommanded, AsFetched, AsRead, IsVerdict, no_libraries, planned_as, read_as}
-
-same_error : {A E : Type 0} {x y : E} → ◌≡◌ {A = Result A E} (Err x) (Err y) → x ≡ y
-same_error e = cc
+use Rattle.link_engine.specs.Input.{inputs_with}
+use Rattle.link_engine.specs.Told.{Told}
+use Rattle.link_engine.specs.Verdict.{AsBound, AsCommanded, AsFetched, AsLoaded, AsOpened, Early, IsBound, IsVerdict, bind_stop, fetch_stop, planned_as, round_stop, stopped}
 
 -- ---- the words
 
-crowded : (words : List (List ℕ)) (why : Refusal) → command_of words ≡ Err (stop.Refused why) → IsCrowded words why
+crowded : (words : List (List ℕ)) (told : Told) (why : Refusal) → told.more ≡ [] → command_of words ≡ Err (stop.Refused why) → IsCrowded words told why
 unfolding command_of
-crowded words why e = by (command_by linked_rows words) refl
+crowded words told why none e = by (command_by linked_rows words) refl
   where
-    count : (command : Command) → command_by linked_rows words ≡ Ok command → (b : Bool) → nat_lt (length command.inputs) (2 ^ 16) ≡ b → counted command ≡ Err (stop.Refused why) → IsCrowded words why
+    count : (command : Command) → command_by linked_rows words ≡ Ok command → (b : Bool) → nat_lt (length command.inputs) (2 ^ 16) ≡ b → counted command ≡ Err (stop.Refused why) → IsCrowded words told why
     count command read true low f = absurd (let g : Ok command ≡ Err (stop.Refused why) = rw low at f in cc)
     count command read false low f =
         let g : ◌≡◌ {A = Result Command Stop} (Err (stop.Refused (refusal.Limit Inputs))) (Err (stop.Refused why)) = rw low at f in
         let same : refusal.Limit Inputs ≡ why = cc in
-        record { command = command; read = read; many = ltb-false _ _ low; is = sym same }
+        record { command = command; read = read; many = ltb-false _ _ low; is = sym same; nothing = none }
 
-    by : (r : Result Command UsageFault) → command_by linked_rows words ≡ r → IsCrowded words why
+    by : (r : Result Command UsageFault) → command_by linked_rows words ≡ r → IsCrowded words told why
     by (Ok command) f = count command f (nat_lt (length command.inputs) (2 ^ 16)) refl (let g : counted command ≡ Err (stop.Refused why) = rw f at e in g)
     by (Err (usage.At word rule)) f = absurd (let g : Err (stop.Usage word rule) ≡ Err (stop.Refused why) = rw f at e in cc)
     by (Err usage.OutOfMemory) f = absurd (let g = rw f at e in cc)
 
-from_crowded : (words : List (List ℕ)) (why : Refusal) → IsCrowded words why → command_of words ≡ Err (stop.Refused why)
+from_crowded : (words : List (List ℕ)) (told : Told) (why : Refusal) → IsCrowded words told why → command_of words ≡ Err (stop.Refused why)
 unfolding command_of
-from_crowded words why is = by (nat_lt (length is.command.inputs) (2 ^ 16)) refl
+from_crowded words told why is = by (nat_lt (length is.command.inputs) (2 ^ 16)) refl
   where
     by : (b : Bool) → nat_lt (length is.command.inputs) (2 ^ 16) ≡ b → command_of words ≡ Err (stop.Refused why)
     by true low = let less : length is.command.inputs < 2 ^ 16 = ltb-true _ _ low in absurd (omega (arith, less, is.many))
     by false low = rw (is.read, low) (ap (λ (r : Refusal). Err (stop.Refused r)) (sym is.is))
 
--- ---- the first input that isn't there
+-- ---- no step lacks memory
 
-missing_first : (inputs : List CommandInput) (answers : List Answer) (why : Refusal) → contents_of inputs answers ≡ Err (stop.Refused why) → (path : List ℕ) × (why ≡ refusal.Missing path) × IsFirstAbsent inputs answers path
-missing_first [] answers why e = absurd cc
-missing_first (input ∷ inputs) [] why e = absurd cc
-missing_first (input ∷ inputs) (There bytes ∷ answers) why e = missing_first inputs answers why (error_after (contents_of inputs answers) e)
+-- a stop of fetching that files may lead to
+abbrev IsReal : FetchStop → Type 0
+IsReal (fetch.ReadFault path) = Unit {0}
+IsReal (fetch.Missing path) = Unit {0}
+IsReal fetch.OutOfMemory = ⊥
+
+content_real : (first : List ℕ) (paths : List (List ℕ)) (answers : List Answer) → IfErr (content_of first paths answers) IsReal
+content_real first [] answers = tt
+content_real first (path ∷ paths) [] = tt
+content_real first (path ∷ paths) (There bytes ∷ answers) = tt
+content_real first (path ∷ paths) (Absent ∷ answers) = content_real first paths answers
+content_real first (path ∷ paths) (Unread ∷ answers) = tt
+content_real first (path ∷ paths) (given.Refused ∷ answers) = tt
+
+then_real : {A B E : Type 0} (P : E → Type 0) (r : Result A E) (next : A → Result B E) → IfErr r P → ((x : A) → IfErr (next x) P) → IfErr (r >>= next) P
+then_real P (Ok x) next first rest = rest x
+then_real P (Err why) next first rest = first
+
+contents_real : (places : List (List (List ℕ))) (answers : List Answer) → IfErr (contents_of places answers) IsReal
+contents_real [] answers = tt
+contents_real (paths ∷ places) answers =
+    then_real IsReal (content_of (first_of paths) paths answers) _ (content_real (first_of paths) paths answers) (λ found.
+        then_real IsReal (contents_of places found.1) _ (contents_real places found.1) (λ more. tt))
+
+first_real : {A : Type 0} (f : A → Option RoundFault) (xs : List A) (why : RoundFault) → ((x : A) → f x ≡ Some why → IsRoundFault why) → first_some f xs ≡ Some why → IsRoundFault why
+first_real f [] why each e = absurd cc
+first_real f (x ∷ xs) why each e = by (first_real f xs why each) (f x) refl
   where
-    error_after : (r : Result (List (List ℕ)) Stop) → (r >>= λ more. Ok (bytes ∷ more)) ≡ Err (stop.Refused why) → r ≡ Err (stop.Refused why)
-    error_after (Ok more) same = absurd cc
-    error_after (Err other) same = let one : other ≡ stop.Refused why = cc in ap Err one
-missing_first (input ∷ inputs) (Absent ∷ answers) why e = let same : refusal.Missing input.value ≡ why = cc in (input.value, sym same, refl)
-missing_first (input ∷ inputs) (Unread ∷ answers) why e = absurd cc
-missing_first (input ∷ inputs) (given.Refused ∷ answers) why e = absurd cc
+    by : (first_some f xs ≡ Some why → IsRoundFault why) → (o : Option RoundFault) → f x ≡ o → IsRoundFault why
+    by rest None o = rest (rw o at e)
+    by rest (Some other) o = let same : Some other ≡ Some why = rw o at e in each x (o ∙ same)
 
-first_missing : (inputs : List CommandInput) (answers : List Answer) (path : List ℕ) → IsFirstAbsent inputs answers path → contents_of inputs answers ≡ Err (stop.Refused (refusal.Missing path))
-first_missing [] answers path first = absurd first
-first_missing (input ∷ inputs) [] path first = absurd first
-first_missing (input ∷ inputs) (There bytes ∷ answers) path first = ap (λ (r : Result (List (List ℕ)) Stop). r >>= λ more. Ok (bytes ∷ more)) (first_missing inputs answers path first)
-first_missing (input ∷ inputs) (Absent ∷ answers) path first = ap (λ (p : List ℕ). Err (stop.Refused (refusal.Missing p))) first
-first_missing (input ∷ inputs) (Unread ∷ answers) path first = absurd first
-first_missing (input ∷ inputs) (given.Refused ∷ answers) path first = absurd first
+real_err : {A : Type 0} (r : Result A RoundFault) (why : RoundFault) → IfErr r IsRoundFault → result_err r ≡ Some why → IsRoundFault why
+real_err (Ok x) why real e = absurd cc
+real_err (Err other) why real e = let same : other ≡ why = cc in subst IsRoundFault same real
 
--- ---- no input lacks memory
+opened_real : (inputs : List Input) (why : RoundFault) → opened.contents_of inputs ≡ Err why → IsRoundFault why
+opened_real inputs why e = first_real (λ input. result_err (opening_of input)) inputs why (λ input is. real_err (opening_of input) why (input_faulty input) is) ((told_first inputs why).0 e)
 
-kind_faulty : (input : Input) (k : Kind) → IfErr (read_kind k input) IsRoundFault
-kind_faulty input kind.MachO = by_kind (kind_of input.bytes)
+file_real : (inputs : List Input) (id : FileId) → IfErr (file_of inputs id) IsRoundFault
+unfolding file_of
+file_real inputs id = read_faulty id (file_content inputs id).label (file_content inputs id).bytes
+
+either_real : (a b : Option RoundFault) (why : RoundFault) → (a ≡ Some why → IsRoundFault why) → (b ≡ Some why → IsRoundFault why) → option_or_else a b ≡ Some why → IsRoundFault why
+either_real (Some x) b why p q e = p e
+either_real None b why p q e = q e
+
+names_real : (files : List LoadedFile) (names : List (List ℕ)) (why : RoundFault) → names_fault files names ≡ Some why → IsRoundFault why
+names_real files names why e = by (nat_lt (length (numbered (external_names files ++ names))) (2 ^ 24)) e
   where
-    of_object : (r : Result Object ObjFault) → IfErr r IsObjFault → IfErr (object_read (id_at input 0) input.label r) IsRoundFault
-    of_object (Ok object) is = tt
-    of_object (Err (fault.Malformed place rule)) is = tt
-    of_object (Err (fault.Unsupported feature)) is = tt
-    of_object (Err (fault.Limit which)) is = tt
-    of_object (Err fault.OutOfMemory) is = absurd is
+    by : (b : Bool) → (if b then None else Some (rounds.Refused (refusal.Limit Names))) ≡ Some why → IsRoundFault why
+    by true h = absurd (let s : None ≡ Some why = h in cc)
+    by false h = let same : Some (rounds.Refused (refusal.Limit Names)) ≡ Some why = h in let t : rounds.Refused (refusal.Limit Names) ≡ why = cc in subst IsRoundFault t tt
 
-    by_feature : (what : Feature) → IfErr (read_by (kind.Refused what) (id_at input 0) input.label input.bytes) IsRoundFault
-    by_feature feature.SectionType = tt
-    by_feature feature.ObjcSection = tt
-    by_feature feature.Alignment = tt
-    by_feature feature.CodeSegment = tt
-    by_feature feature.SegmentName = tt
-    by_feature feature.TextZerofill = tt
-    by_feature feature.SymbolKind = tt
-    by_feature feature.Absolute = tt
-    by_feature feature.PointerAuth = tt
-    by_feature feature.Machine = tt
-    by_feature feature.FileType = tt
-    by_feature feature.Fat64 = tt
-    by_feature feature.ThinArchive = tt
-    by_feature feature.GnuArchive = tt
-    by_feature feature.Archive64 = tt
-    by_feature feature.Bitcode = tt
-    by_feature feature.Tbd = tt
-    by_feature feature.Wildcard = tt
-    by_feature feature.EhFrame = tt
-    by_feature feature.Later = tt
+round_real : (inputs : List Input) (libs : LibraryGraph) (names : List (List ℕ)) (k : ℕ) (why : RoundFault) → round_fault inputs libs names k ≡ Some why → IsRoundFault why
+unfolding round_fault
+round_real inputs libs names k why e =
+    either_real _ _ why
+    (λ f. first_real (λ id. result_err (file_of inputs id)) (new_ids inputs libs names k) why (λ id is. real_err (file_of inputs id) why (file_real inputs id) is) f)
+    (names_real (files_of inputs (round inputs libs names k)) names why) e
 
-    by_kind : (k : Kind) → IfErr (read_by k (id_at input 0) input.label input.bytes) IsRoundFault
-    by_kind kind.MachO = of_object (object_of input.bytes) (object_faulty input.bytes)
-    by_kind (kind.Refused what) = by_feature what
-    by_kind kind.Archive = tt
-    by_kind kind.Universal = tt
-    by_kind kind.Stub = tt
-    by_kind kind.NotAnInput = tt
-kind_faulty input kind.Archive = tt
-kind_faulty input kind.Universal = tt
-kind_faulty input kind.Stub = tt
-kind_faulty input kind.NotAnInput = tt
-kind_faulty input (kind.Refused what) = tt
+abbrev fault_in : List Input → LibraryGraph → List (List ℕ) → Option RoundFault
+fault_in inputs libs names = first_some (round_fault inputs libs names) (range_with_len 0 (length (all_ids inputs) + 1))
 
-input_faulty : (input : Input) → IfErr (object_of_input input) IsRoundFault
-unfolding object_of_input file_of_input
-input_faulty input = by_size (nat_le (2 ^ 30) (length input.bytes)) refl
+loaded_fault : (inputs : List Input) (libs : LibraryGraph) (names : List (List ℕ)) (why : RoundFault) → loaded_of inputs libs names ≡ Err why → fault_in inputs libs names ≡ Some why
+unfolding loaded_of
+loaded_fault inputs libs names why e = by (fault_in inputs libs names) refl
   where
-    formed : (file : LoadedFile) (b : Bool) → is_later file ≡ b → IfErr (in_form file) IsRoundFault
-    formed file true e = rw e tt
-    formed file false e = rw e tt
+    by : (o : Option RoundFault) → fault_in inputs libs names ≡ o → fault_in inputs libs names ≡ Some why
+    by None o = absurd (let s : Ok (record { files = files_of inputs (loaded_ids inputs libs names) }) ≡ Err why = rw o at e in cc)
+    by (Some other) o = let s : ◌≡◌ {A = Result Loaded RoundFault} (Err other) (Err why) = rw o at e in let same : other ≡ why = cc in o ∙ ap Some same
 
-    by_file : (r : Result LoadedFile RoundFault) → IfErr r IsRoundFault → IfErr (r >>= in_form) IsRoundFault
-    by_file (Ok file) is = formed file (is_later file) refl
-    by_file (Err why) is = is
+fault_loaded : (inputs : List Input) (libs : LibraryGraph) (names : List (List ℕ)) (why : RoundFault) → fault_in inputs libs names ≡ Some why → loaded_of inputs libs names ≡ Err why
+unfolding loaded_of
+fault_loaded inputs libs names why e = rw e refl
 
-    by_size : (b : Bool) → nat_le (2 ^ 30) (length input.bytes) ≡ b → IfErr (object_of_input input) IsRoundFault
-    by_size true e = rw e tt
-    by_size false e = rw e (by_file (read_kind (kind_of input.bytes) input) (kind_faulty input (kind_of input.bytes)))
+loaded_real : (inputs : List Input) (libs : LibraryGraph) (names : List (List ℕ)) (why : RoundFault) → loaded_of inputs libs names ≡ Err why → IsRoundFault why
+loaded_real inputs libs names why e = first_real (round_fault inputs libs names) (range_with_len 0 (length (all_ids inputs) + 1)) why (λ k is. round_real inputs libs names k why is) (loaded_fault inputs libs names why e)
 
-first_real : (inputs : List Input) (why : RoundFault) → first_some (λ input. result_err (object_of_input input)) inputs ≡ Some why → IsRoundFault why
-first_real [] why e = absurd cc
-first_real (input ∷ inputs) why e = by (first_real inputs why) (object_of_input input) refl (input_faulty input)
+-- ---- what a step refused
+
+same_stop : (a b : Stop) → ◌≡◌ {A = Result Plan Stop} (Err a) (Err b) → a ≡ b
+same_stop a b e = cc
+
+-- a refusal of fetching is that an input isn't there
+fetch_refused : (other : FetchStop) (why : Refusal) → IsReal other → fetch_stop other ≡ stop.Refused why → (path : List ℕ) × (other ≡ fetch.Missing path) × (why ≡ refusal.Missing path)
+fetch_refused (fetch.ReadFault path) why real e = absurd cc
+fetch_refused (fetch.Missing path) why real e = (path, refl, (let same : refusal.Missing path ≡ why = cc in sym same))
+fetch_refused fetch.OutOfMemory why real e = absurd real
+
+-- one of reading or of the rounds is theirs
+round_refused : (other : RoundFault) (why : Refusal) → IsRoundFault other → round_stop other ≡ stop.Refused why → other ≡ rounds.Refused why
+round_refused (rounds.Refused refusal) why real e = let same : refusal ≡ why = cc in ap rounds.Refused same
+round_refused rounds.OutOfMemory why real e = absurd real
+
+linked_cause : (command : Command) (libs : LibraryGraph) (files : List LoadedFile) (why : Refusal) → AsLoaded command libs files (Err (stop.Refused why)) → IsLinked command libs files (Err why)
+linked_cause command libs files why is = by is.linked is.is_linked is.told
   where
-    by : (first_some (λ input. result_err (object_of_input input)) inputs ≡ Some why → IsRoundFault why) → (r : Result LoadedFile RoundFault) → object_of_input input ≡ r → IfErr (object_of_input input) IsRoundFault → IsRoundFault why
-    by rest (Ok file) f real = rest (let g : first_some (λ input. result_err (object_of_input input)) inputs ≡ Some why = rw f at e in g)
-    by rest (Err other) f real =
-        let g : Some other ≡ Some why = rw f at e in
-        let same : other ≡ why = cc in
-        let h : IsRoundFault other = rw f at real in
-        subst IsRoundFault same h
-
-read_refused : (inputs : List Input) (why : Refusal) → read_as (loaded_of inputs) ≡ Err (stop.Refused why) → first_some (λ input. result_err (object_of_input input)) inputs ≡ Some (rounds.Refused why)
-read_refused inputs why e = by (loaded_of inputs) refl
-  where
-    by : (r : Result Loaded RoundFault) → loaded_of inputs ≡ r → first_some (λ input. result_err (object_of_input input)) inputs ≡ Some (rounds.Refused why)
-    by (Ok loaded) f = absurd (let g : Ok loaded ≡ Err (stop.Refused why) = rw f at e in cc)
-    by (Err (rounds.Refused other)) f =
-        let g : ◌≡◌ {A = Result Loaded Stop} (Err (stop.Refused other)) (Err (stop.Refused why)) = rw f at e in
-        let same : other ≡ why = cc in
-        (told_first inputs (rounds.Refused other)).0 f ∙ ap (λ (r : Refusal). Some (rounds.Refused r)) same
-    by (Err rounds.OutOfMemory) f = absurd (first_real inputs rounds.OutOfMemory ((told_first inputs rounds.OutOfMemory).0 f))
+    by : (r : Result (List ℕ) Refusal) → IsLinked command libs files r → Err (stop.Refused why) ≡ planned_as command r → IsLinked command libs files (Err why)
+    by (Ok image) linked e = absurd cc
+    by (Err other) linked e = let same : other ≡ why = cc in subst (λ (r : Refusal). IsLinked command libs files (Err r)) same linked
 
 -- ---- all steps
 
-linked_cause : (command : Command) (files : List LoadedFile) (why : Refusal) → AsRead command files (Err (stop.Refused why)) → IsLinked command no_libraries files (Err why)
-linked_cause command files why is = by is.linked is.is_linked is.told
-  where
-    by : (r : Result (List ℕ) Refusal) → IsLinked command no_libraries files r → Err (stop.Refused why) ≡ planned_as command r → IsLinked command no_libraries files (Err why)
-    by (Ok image) linked e = absurd cc
-    by (Err other) linked e = let same : other ≡ why = cc in subst (λ (r : Refusal). IsLinked command no_libraries files (Err r)) same linked
+module _ (words : List (List ℕ)) (told : Told) (why : Refusal) where
+  abbrev refused : Result Plan Stop
+  refused = Err (stop.Refused why)
 
-pub verdict_cause : (words : List (List ℕ)) (answers : List Answer) (why : Refusal) → IsVerdict words answers (Err (stop.Refused why)) → Cause words answers why
-unfolding IsVerdict
-verdict_cause words answers why verdict = by (command_of words) refl verdict
-  where
-    with_objects : (command : Command) (contents : List (List ℕ)) → command_of words ≡ Ok command → contents_of command.inputs answers ≡ Ok contents → (r : Result Loaded Stop) → read_as (loaded_of (inputs_from 0 command.inputs contents)) ≡ r
-        → Then {B = Plan} r (Err (stop.Refused why)) (λ loaded. AsRead command loaded.files (Err (stop.Refused why))) → Cause words answers why
-    with_objects command contents read there (Ok loaded) f next =
-        inr (inr (inr (record { command = command; contents = contents; files = loaded.files; read = read; there = there; objects = was_read (loaded_of (inputs_from 0 command.inputs contents)) loaded f; cause = refusal_cause command no_libraries loaded.files why (linked_cause command loaded.files why next) })))
-      where
-        was_read : (r : Result Loaded RoundFault) (loaded : Loaded) → read_as r ≡ Ok loaded → r ≡ Ok loaded
-        was_read (Ok other) loaded e = let same : other ≡ loaded = cc in ap Ok same
-        was_read (Err (rounds.Refused why)) loaded e = absurd cc
-        was_read (Err rounds.OutOfMemory) loaded e = absurd cc
-    with_objects command contents read there (Err other) f next =
-        let same : other ≡ stop.Refused why = sym (same_error next) in
-        inr (inr (inl (record { command = command; contents = contents; read = read; there = there; first = read_refused (inputs_from 0 command.inputs contents) why (f ∙ ap Err same) })))
+  with_libraries : (at : AreOpen words told) (libs : LibraryGraph) → IsBound told.look at.inputs.command at.contents.stubs told.more (Ok libs) → AsBound at.inputs.command at.contents.inputs libs refused → Cause words told why
+  with_libraries at libs bound next = by (loaded_of at.contents.inputs libs (wanted at.inputs.command)) refl next
+    where
+      by : (r : Result Loaded RoundFault) → loaded_of at.contents.inputs libs (wanted at.inputs.command) ≡ r → Then (stopped round_stop r) refused (λ loaded. AsLoaded at.inputs.command libs loaded.files refused) → Cause words told why
+      by (Ok loaded) f n = inr (inr (inr (inr (inr (record { are_bound = record { are_open = at; libs = libs; bound = bound }; files = loaded.files; loaded = f; cause = refusal_cause at.inputs.command libs loaded.files why (linked_cause at.inputs.command libs loaded.files why n) })))))
+      by (Err other) f n =
+          let same : other ≡ rounds.Refused why = round_refused other why (loaded_real at.contents.inputs libs (wanted at.inputs.command) other f) (sym (same_stop (stop.Refused why) (round_stop other) n)) in
+          inr (inr (inr (inr (inl (record { are_bound = record { are_open = at; libs = libs; bound = bound }; first = loaded_fault at.contents.inputs libs (wanted at.inputs.command) (rounds.Refused why) (f ∙ ap Err same) })))))
 
-    with_contents : (command : Command) → command_of words ≡ Ok command → (r : Result (List (List ℕ)) Stop) → contents_of command.inputs answers ≡ r
-        → Then {B = Plan} r (Err (stop.Refused why)) (λ contents. AsFetched command contents (Err (stop.Refused why))) → Cause words answers why
-    with_contents command read (Ok contents) f next = with_objects command contents read f (read_as (loaded_of (inputs_from 0 command.inputs contents))) refl next
-    with_contents command read (Err other) f next =
-        let same : other ≡ stop.Refused why = sym (same_error next) in
-        let (path, is, first) = missing_first command.inputs answers why (f ∙ ap Err same) in
-        inr (inl (record { command = command; path = path; read = read; absent = first; is = is }))
+  with_contents : (at : AreOpen words told) → AsOpened at.inputs.command at.contents told.look told.more refused → Cause words told why
+  with_contents at is = by is.bound is.is_bound is.next
+    where
+      by : (r : Result LibraryGraph BindFault) → IsBound told.look at.inputs.command at.contents.stubs told.more r → Then (stopped bind_stop r) refused (λ libs. AsBound at.inputs.command at.contents.inputs libs refused) → Cause words told why
+      by (Ok libs) bound next = with_libraries at libs bound next
+      by (Err (bind.ReadFault path)) bound next = absurd (let s : ◌≡◌ {A = Result Plan Stop} (Err (stop.Refused why)) (Err (stop.ReadFault path)) = next in cc)
+      by (Err (bind.Refused other)) bound next =
+          let s : ◌≡◌ {A = Result Plan Stop} (Err (stop.Refused why)) (Err (stop.Refused other)) = next in
+          let same : other ≡ why = cc in
+          inr (inr (inr (inl (record { are_open = at; count = bound.count; ends = bound.binds tt ∙ ap (λ (r : Refusal). Err (record { why = bind.Refused r; asked = told.more })) same }))))
+      by (Err bind.OutOfMemory) bound next = absurd bound.fault
 
-    by : (r : Result Command Stop) → command_of words ≡ r → Then {B = Plan} r (Err (stop.Refused why)) (λ command. AsCommanded command answers (Err (stop.Refused why))) → Cause words answers why
-    by (Ok command) f next = with_contents command f (contents_of command.inputs answers) refl next
-    by (Err other) f next =
-        let same : other ≡ stop.Refused why = sym (same_error next) in
-        inl (crowded words why (f ∙ ap Err same))
+  with_found : (inputs : AreThere words told) → AsFetched inputs.command inputs.found told.look told.more refused → Cause words told why
+  with_found inputs is = by (opened.contents_of (inputs_with inputs.command inputs.found)) refl is
+    where
+      by : (r : Result Contents RoundFault) → opened.contents_of (inputs_with inputs.command inputs.found) ≡ r → Early (stopped round_stop r) told.more refused (λ contents. AsOpened inputs.command contents told.look told.more refused) → Cause words told why
+      by (Ok contents) f n = with_contents (record { inputs = inputs; contents = contents; opened_are = f }) n
+      by (Err other) f n =
+          let same : other ≡ rounds.Refused why = round_refused other why (opened_real (inputs_with inputs.command inputs.found) other f) (sym (same_stop (stop.Refused why) (round_stop other) n.0)) in
+          inr (inr (inl (record { inputs = inputs; first = (told_first (inputs_with inputs.command inputs.found) (rounds.Refused why)).0 (f ∙ ap Err same); nothing = n.1 })))
 
-pub cause_verdict : (words : List (List ℕ)) (answers : List Answer) (why : Refusal) → Cause words answers why → IsVerdict words answers (Err (stop.Refused why))
-unfolding IsVerdict
-cause_verdict words answers why (inl is) = rw (from_crowded words why is) refl
-cause_verdict words answers why (inr (inl is)) = rw (is.read, first_missing is.command.inputs answers is.path is.absent, is.is) refl
-cause_verdict words answers why (inr (inr (inl is))) =
-    let read : read_as (loaded_of (inputs_from 0 is.command.inputs is.contents)) ≡ Err (stop.Refused why) = ap read_as ((told_first (inputs_from 0 is.command.inputs is.contents) (rounds.Refused why)).1 is.first) in
-    rw (is.read, is.there, read) refl
-cause_verdict words answers why (inr (inr (inr is))) =
-    let read : read_as (loaded_of (inputs_from 0 is.command.inputs is.contents)) ≡ Ok (record { files = is.files }) = ap read_as is.objects in
-    rw (is.read, is.there, read) (record { linked = Err why; is_linked = cause_refuses is.command no_libraries is.files why is.cause; told = refl })
+  with_command : (command : Command) → command_of words ≡ Ok command → AsCommanded command told refused → Cause words told why
+  with_command command read is = by (contents_of (places_of command) told.answers) refl is
+    where
+      by : (r : Result (List Content) FetchStop) → contents_of (places_of command) told.answers ≡ r → Early (stopped fetch_stop r) told.more refused (λ found. AsFetched command found told.look told.more refused) → Cause words told why
+      by (Ok found) f n = with_found (record { command = command; found = found; read = read; there = f }) n
+      by (Err other) f n =
+          let real : IsReal other = subst (λ (r : Result (List Content) FetchStop). IfErr r IsReal) f (contents_real (places_of command) told.answers) in
+          let missing = fetch_refused other why real (sym (same_stop (stop.Refused why) (fetch_stop other) n.0)) in
+          inr (inl (record { command = command; path = missing.0; read = read; absent = f ∙ ap Err missing.1; is = missing.2; nothing = n.1 }))
+
+  pub verdict_cause : IsVerdict words told refused → Cause words told why
+  unfolding IsVerdict
+  verdict_cause verdict = by (command_of words) refl verdict
+    where
+      by : (r : Result Command Stop) → command_of words ≡ r → Early r told.more refused (λ command. AsCommanded command told refused) → Cause words told why
+      by (Ok command) f n = with_command command f n
+      by (Err other) f n = inl (crowded words told why n.1 (f ∙ ap Err (sym (same_stop (stop.Refused why) other n.0))))
+
+  from_there : (inputs : AreThere words told) → AsFetched inputs.command inputs.found told.look told.more refused → IsVerdict words told refused
+  unfolding IsVerdict
+  from_there inputs next = rw (inputs.read, inputs.there) next
+
+  from_open : (at : AreOpen words told) → AsOpened at.inputs.command at.contents told.look told.more refused → IsVerdict words told refused
+  from_open at next = from_there at.inputs (rw at.opened_are next)
+
+  from_bound : (at : AreBound words told) → AsBound at.are_open.inputs.command at.are_open.contents.inputs at.libs refused → IsVerdict words told refused
+  from_bound at next = from_open at.are_open (record { bound = Ok at.libs; is_bound = at.bound; next = next })
+
+  pub cause_verdict : Cause words told why → IsVerdict words told refused
+  unfolding IsVerdict
+  cause_verdict (inl is) = rw (from_crowded words told why is) (refl, is.nothing)
+  cause_verdict (inr (inl is)) = rw (is.read, is.absent) (ap (λ (r : Refusal). Err (stop.Refused r)) is.is, is.nothing)
+  cause_verdict (inr (inr (inl is))) =
+      let failed : opened.contents_of (inputs_with is.inputs.command is.inputs.found) ≡ Err (rounds.Refused why) = (told_first (inputs_with is.inputs.command is.inputs.found) (rounds.Refused why)).1 is.first in
+      from_there is.inputs (rw failed (refl, is.nothing))
+  cause_verdict (inr (inr (inr (inl is)))) = from_open is.are_open (record { bound = Err (bind.Refused why); is_bound = record { count = is.count; binds = λ real. is.ends; whole = tt; fault = tt }; next = refl })
+  cause_verdict (inr (inr (inr (inr (inl is))))) =
+      let failed : loaded_of is.are_bound.are_open.contents.inputs is.are_bound.libs (wanted is.are_bound.are_open.inputs.command) ≡ Err (rounds.Refused why) = fault_loaded is.are_bound.are_open.contents.inputs is.are_bound.libs (wanted is.are_bound.are_open.inputs.command) (rounds.Refused why) is.first in
+      from_bound is.are_bound (rw failed refl)
+  cause_verdict (inr (inr (inr (inr (inr is))))) = from_bound is.are_bound (rw is.loaded (record { linked = Err why; is_linked = cause_refuses is.are_bound.are_open.inputs.command is.are_bound.libs is.files why is.cause; told = refl }))

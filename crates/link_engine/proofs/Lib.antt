@@ -1,12 +1,11 @@
 pub mod CauseLemmas
-pub mod Places
-pub mod FetchLemmas
 pub mod FilesLemmas
 pub mod InputLemmas
-pub mod LibraryLemmas
 pub mod LinkLemmas
 pub mod OneLemmas
+pub mod Places
 pub mod PlanLemmas
+pub mod ReadLemmas
 pub mod SaysLemmas
 pub mod StepLemmas
 pub mod StopLemmas

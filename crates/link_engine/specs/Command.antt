@@ -15,7 +15,7 @@ use Rattle.link_engine.specs.declared.stop.Stop.TheVariants.{Refused, Usage}
 
 -- WHAT THE LINK HAS YET: the options of other forms count as unknown
 abbrev pub linked_rows : Rows
-linked_rows = rows.Objects
+linked_rows = rows.Libraries
 
 -- A fault of the words as the link answers it. No words lack memory: that row only makes the table whole.
 abbrev pub told : Result Command UsageFault → Result Command Stop

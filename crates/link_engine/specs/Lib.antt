@@ -1,9 +1,11 @@
 pub mod Asks
+pub mod Binding
 pub mod Causes
 pub mod Command
 pub mod Input
 pub mod Settles
 pub mod Steps
 pub mod Stop
+pub mod Told
 pub mod Verdict
 pub mod Writing

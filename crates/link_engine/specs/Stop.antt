@@ -1,8 +1,13 @@
 -- Why the words and the files have no image, and the answer that tells it.
 use Rattle.std.specs.Prelude.{◌≡◌, Result, Ok, Err}
+use Rattle.input_fetch.specs.declared.stop.FetchStop.{FetchStop}
+use Rattle.input_fetch.specs.declared.stop.FetchStop.TheVariants as fetch
+use Rattle.lib_bind.specs.declared.bind_fault.BindFault.{BindFault}
+use Rattle.lib_bind.specs.declared.bind_fault.BindFault.TheVariants as bind
 use Rattle.member_rounds.specs.declared.fault.RoundFault.{RoundFault}
 use Rattle.member_rounds.specs.declared.fault.RoundFault.TheVariants as rounds
 use Rattle.mo_types.specs.declared.answer.Refusal.{Refusal}
+use Rattle.mo_types.specs.declared.answer.Refusal.TheVariants as refusal
 use Rattle.mo_types.specs.declared.answer.Status.{Status}
 use Rattle.mo_types.specs.declared.answer.Status.TheVariants as answer
 use Rattle.link_engine.specs.declared.stop.StepFault.{StepFault}
@@ -29,6 +34,18 @@ abbrev pub fault_for : RoundFault → StepFault
 fault_for (rounds.Refused refusal) = refused_for refusal
 fault_for rounds.OutOfMemory = fault.OutOfMemory
 
+-- the fault of inputs that aren't fetched
+abbrev pub fetch_fault_for : FetchStop → StepFault
+fetch_fault_for (fetch.ReadFault path) = fault.Stop (ReadFault path)
+fetch_fault_for (fetch.Missing path) = refused_for (refusal.Missing path)
+fetch_fault_for fetch.OutOfMemory = fault.OutOfMemory
+
+-- the fault of libraries
+abbrev pub bind_fault_for : BindFault → StepFault
+bind_fault_for (bind.ReadFault path) = fault.Stop (ReadFault path)
+bind_fault_for (bind.Refused why) = refused_for why
+bind_fault_for bind.OutOfMemory = fault.OutOfMemory
+
 -- What a step returned is what its definition gives. Want of memory is left to the code.
 abbrev pub Answers : {A : Type 0} → Result A StepFault → Result A Stop → Type 0
 Answers (Ok x) given = given ≡ Ok x
@@ -40,3 +57,9 @@ abbrev pub Meets : {A : Type 0} → (Result A Stop → Type 0) → Result A Step
 Meets is (Ok x) = is (Ok x)
 Meets is (Err (fault.Stop why)) = is (Err why)
 Meets is (Err fault.OutOfMemory) = Unit {0}
+
+-- What a step returned is, as definitions see it, what its definition gives. Want of memory is left to the code.
+abbrev pub Shows : {A B : Type 0} → (A → B) → Result A StepFault → Result B Stop → Type 0
+Shows view (Ok x) given = given ≡ Ok (view x)
+Shows view (Err (fault.Stop why)) given = given ≡ Err why
+Shows view (Err fault.OutOfMemory) given = Unit {0}

@@ -5,19 +5,19 @@
 #![tactic(auto)]
 
 ghost use Rattle.std.specs.Prelude.{◌≡◌, ◌≢◌, ◌≤◌, ℕ, List, IfSome};
+ghost use Rattle.lib_bind.specs.Asking.{seen};
 ghost use Rattle.mo_outside.specs.Faults.{Rises};
 ghost use Rattle.mo_types.specs.declared.answer.Status.TheVariants.{OutOfMemory, ReadFault, Usage, WriteFault};
 ghost use Rattle.mo_types.specs.declared.cause.UsageRule.{UsageRule};
-ghost use Rattle.link_engine.specs.Asks.{Answered, inputs_of};
+ghost use Rattle.link_engine.specs.Asks.{Answered, places_by};
 ghost use Rattle.link_engine.specs.Command.{command_of};
 ghost use Rattle.link_engine.specs.Settles.{ExactlyWhere, Settles, Stopped};
 ghost use Rattle.link_engine.specs.Steps.{IsReadWell, IsStop};
 ghost use Rattle.link_engine.specs.declared.stop.Stop.TheVariants as stop;
 ghost use Rattle.link_engine.specs.Verdict.{IsVerdict, IsVerdictOver};
 
-mod fetch;
+mod bind;
 mod laws;
-mod libraries;
 mod plan;
 mod read;
 mod run;
@@ -33,13 +33,13 @@ use mo_types::{ArgList, Status};
 use std::alloc::Global;
 use std::thread::Threads;
 
-/// Links the objects that the words name, and writes the image.
+/// Links the inputs that the words name, and writes the image.
 ///
-/// The words are those of the command line after the program's name, as `mo_cmd` reads them (ld(1)): paths, and perhaps
-/// `-o` with the path of the image and `-threads` with the number of workers. Each file is asked for once. The whole image
-/// is in memory before the output is begun, and each write is handed all that is left of it. One line goes to `diag` for
-/// each answer but `Done`. Each worker passes the gate before each of its jobs; what is written is the same for every number
-/// of workers.
+/// The words are those of the command line after the program's name, as `mo_cmd` reads them (ld(1)). Objects, archives,
+/// universal files with such a slice, and the texts of stub libraries are inputs. The paths of each input are asked for up to
+/// one that is there, then those of re-exported libraries, each once. The whole image is in memory before the output is
+/// begun, and each write is handed all that is left of it. One line goes to `diag` for each answer but `Done`. Each worker
+/// passes the gate before each of its jobs; what is written is the same for every number of workers.
 pub fn link<R: Threads + Sync, F: Files, O: Out, D: Diag, G: Gate + Sync>(
     rt: &R,
     alloc: Global,
@@ -49,13 +49,13 @@ pub fn link<R: Threads + Sync, F: Files, O: Out, D: Diag, G: Gate + Sync>(
     diag: &mut D,
     gate: &G,
 ) -> Status
-    // The files were asked for the inputs, each once, and gave answers; the answer, and what was written and told, is the
-    // verdict's on these.
-    ensures settles { Answered F.answers (F.holds files.old) (inputs_of (command_of words.now)) (result ≢ OutOfMemory)
-        (λ answers. Settles (IsVerdict words.now answers) result (Rises (O.faults out.old) (O.faults out.new)) (¬ Rises (D.faults diag.old) (D.faults diag.new))
+    // The files were asked for the inputs' paths and for those of re-exported libraries, and gave answers; the answer, and
+    // what was written and told, is the verdict's on these.
+    ensures settles { Answered F.answers (places_by (command_of words.now)) (result ≢ OutOfMemory)
+        (λ told. Settles (IsVerdict words.now told) result (Rises (O.faults out.old) (O.faults out.new)) (¬ Rises (D.faults diag.old) (D.faults diag.new))
         (record { files = O.files out.old; calls = O.calls out.old; lines = D.lines diag.old })
         (record { files = O.files out.new; calls = O.calls out.new; lines = D.lines diag.new }))
-        (record { told = F.asked files.old; self = files.old }) (record { told = F.asked files.new; self = files.new }) }
+        (seen F.holds F.asked F.faults files.old) (seen F.holds F.asked F.faults files.new) }
     // Where the files tell what they hold, and each was read, it is the verdict on that.
     ensures told { IfSome (F.holds files.old) (λ held. IsReadWell result
         → Settles (IsVerdictOver words.now held) result (Rises (O.faults out.old) (O.faults out.new)) (¬ Rises (D.faults diag.old) (D.faults diag.new))

@@ -2,8 +2,10 @@
 
 ghost use Rattle.std.specs.Prelude.{◌≡◌, Err, Ok, Result};
 ghost use Rattle.mo_types.specs.declared.answer.Refusal.{Refusal};
-ghost use Rattle.link_engine.specs.Stop.{fault_for, refused_for, status_for};
+ghost use Rattle.link_engine.specs.Stop.{bind_fault_for, fault_for, fetch_fault_for, refused_for, status_for};
 
+use input_fetch::FetchStop;
+use lib_bind::BindFault;
 use member_rounds::RoundFault;
 use mo_types::{Bytes, OutOfMemory, Refusal, Status, UsageRule};
 use std::alloc::{AllocError, AllocFailed};
@@ -56,6 +58,28 @@ pub fn fault_of(fault: RoundFault) -> StepFault
     match fault {
         RoundFault::Refused(refusal) => refused(refusal),
         RoundFault::OutOfMemory => StepFault::OutOfMemory,
+    }
+}
+
+/// The fault of inputs that aren't fetched.
+pub fn fetch_fault(fault: FetchStop) -> StepFault
+    ensures { result ≡ fetch_fault_for fault }
+{
+    match fault {
+        FetchStop::ReadFault { path } => StepFault::Stop(Stop::ReadFault { path }),
+        FetchStop::Missing { path } => refused(Refusal::Missing { path }),
+        FetchStop::OutOfMemory => StepFault::OutOfMemory,
+    }
+}
+
+/// The fault of libraries.
+pub fn bind_fault(fault: BindFault) -> StepFault
+    ensures { result ≡ bind_fault_for fault }
+{
+    match fault {
+        BindFault::ReadFault { path } => StepFault::Stop(Stop::ReadFault { path }),
+        BindFault::Refused(refusal) => refused(refusal),
+        BindFault::OutOfMemory => StepFault::OutOfMemory,
     }
 }
 

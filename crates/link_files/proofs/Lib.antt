@@ -1,6 +1,7 @@
 mod ApartLemmas
 pub mod CauseLemmas
 pub mod ImageLemmas
+mod KeepingLemmas
 pub mod KeptLemmas
 pub mod LaterLemmas
 pub mod LostLemmas

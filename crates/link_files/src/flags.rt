@@ -5,8 +5,8 @@ ghost use Rattle.std.specs.List.Sorted.{IsStrictlySortedBy};
 ghost use Rattle.mo_types.specs.Keys.{compare_keys};
 ghost use Rattle.link_files.specs.Flags as spec;
 
-use crate::kept::is_kept;
 use lib_bind::{Libraries, Library};
+use mark_core::is_kept;
 use mo_cmd::Command;
 use mo_format::loader::{
     MH_DYLDLINK, MH_NO_REEXPORTED_DYLIBS, MH_NOUNDEFS, MH_PIE, MH_TWOLEVEL, MH_WEAK_DEFINES,

@@ -7,7 +7,7 @@ ghost use Rattle.resolve.specs.Representatives.{representatives_of};
 ghost use Rattle.resolve.specs.Roots.{roots};
 
 use kept_refs::GoalTable;
-use mark_core::kept;
+use mark_core::{KeySet, kept_from};
 use mo_cmd::Command;
 use mo_types::{KeyList, Loaded, OutOfMemory};
 use resolve::{Winners, edges, roots};
@@ -25,7 +25,8 @@ pub(crate) fn kept_keys(
     requires literals { winners.now.literals ≡ representatives_of loaded.now.files }
     ensures { IfOk result (IsKept (edges_by loaded.now.files goals.now) (supports_by loaded.now.files goals.now) (roots command.now winners.now loaded.now.files)) }
 {
-    let (edges, supports) = edges(alloc, loaded, winners, goals)?;
     let roots = roots(alloc, loaded, winners, command)?;
-    kept(alloc, &edges, &supports, &roots)
+    let roots = KeySet::from_vec(alloc, roots.into_vec())?;
+    let (edges, supports) = edges(alloc, loaded, winners, goals, &roots)?;
+    kept_from(alloc, edges, &supports, roots)
 }

@@ -7,9 +7,9 @@ ghost use Rattle.mo_types.specs.Keys.{compare_keys};
 ghost use Rattle.resolve.specs.Goals.{goal_of_name, goal_table};
 ghost use Rattle.link_files.specs.Later as spec;
 
-use crate::kept::is_kept;
 use kept_refs::GoalTable;
 use lib_bind::Libraries;
+use mark_core::is_kept;
 use mo_cmd::Command;
 use mo_types::{
     AtomKey, Bytes, Feature, Goal, KeyList, Loaded, LoadedFile, OutOfMemory, Ref, RefList, Refusal,
@@ -67,7 +67,7 @@ fn is_later_at(keys: &[AtomKey], goals: &[Goal], refs: &RefList, at: usize) -> b
     }
 }
 
-#[tactic(auto, using(input_read::proofs::FormLemmas::looks))]
+#[tactic(auto, using(member_rounds::proofs::FormLemmas::looks))]
 fn any_later(keys: &[AtomKey], goals: &[Goal], refs: &RefList) -> bool
     requires { IsStrictlySortedBy compare_keys keys.now }
     ensures { result ≡ list_any (spec.is_kept_later keys.now goals.now) refs.now }

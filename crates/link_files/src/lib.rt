@@ -5,7 +5,6 @@ mod duplicates;
 mod flags;
 mod image;
 mod keeping;
-mod kept;
 mod labels;
 mod later;
 mod laws;

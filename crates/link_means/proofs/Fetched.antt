@@ -1,114 +1,64 @@
 -- The objects of what is planned are whole.
-use Rattle.std.proofs.Common.{◌≡◌, ℕ, ◌+◌, ◌<◌, ◌^◌, false, true, Bool, nat_lt, List, [], ◌∷◌, length, get_or, Result, Ok, Err, refl, sym, subst, arith}
+use Rattle.std.proofs.Common.{◌≡◌, ℕ, ◌+◌, Bool, List, [], ◌∷◌, Ok, subst}
 use Rattle.std.specs.Prelude.{All}
 use Rattle.std.specs.List.{AllByRecursion}
-use Rattle.std.specs.Result.{IfErr}
-use Rattle.std.proofs.lemmas.Bool.{ltb-true}
-use Rattle.list_lemmas.proofs.Members.{all_at}
 use Rattle.std.proofs.lemmas.List.Elements.{recursion_from_All}
-use Rattle.input_read.proofs.FileLemmas.{IsObjectOf, from_input}
-use Rattle.input_read.proofs.LawLemmas.{all_formed, each_count, each_object}
-use Rattle.input_read.specs.Reading.{loaded_of, object_of_input}
-use Rattle.link_engine.specs.Input.{content_of, contents_of, inputs_from}
+use Rattle.input_fetch.specs.Contents.{content_of, contents_of, first_of, places_of}
+use Rattle.input_fetch.specs.declared.content.Content.{Content}
+use Rattle.link_engine.specs.Input.{inputs_from, inputs_with}
+use Rattle.link_engine.specs.Told.{Told}
 use Rattle.link_engine.specs.declared.plan.Plan.{Plan}
-use Rattle.member_rounds.specs.Files.{id_at, refs_or_none}
-use Rattle.member_rounds.specs.declared.input.Input.{Input}
+use Rattle.link_files.specs.Names.{wanted}
 use Rattle.mo_cmd.specs.declared.command.CommandInput.{CommandInput}
-use Rattle.mo_obj.proofs.WholeLemmas.{read_whole}
-use Rattle.mo_obj.specs.Object.{accepted, described, lacks, object_of}
-use Rattle.mo_obj.specs.Features.{first_feature}
-use Rattle.mo_obj.specs.Read.{AreBytes, IsRead}
-use Rattle.mo_obj.specs.Relocations.{relocations_of}
+use Rattle.mo_obj.proofs.ReadLemmas.{bind_ok}
+use Rattle.mo_obj.specs.Read.{AreBytes}
 use Rattle.mo_outside.specs.Answers.{Answer, There, Absent, Unread}
 use Rattle.mo_outside.specs.Answers as answer
-use Rattle.mo_types.specs.Gives.{◌>>=◌, guarded}
-use Rattle.mo_types.specs.Loaded.{IsWholeFile}
-use Rattle.mo_types.specs.Refs.{refs_of}
-use Rattle.mo_types.specs.declared.cause.Which.TheVariants.{Symbols}
-use Rattle.mo_types.specs.declared.loaded.Loaded.{Loaded}
-use Rattle.mo_types.specs.declared.loaded.LoadedFile.{LoadedFile}
-use Rattle.mo_types.specs.declared.object.Object.{Object}
-use Rattle.mo_types.specs.declared.object_fault.ObjFault.TheVariants.{Limit}
-use Rattle.mo_types.specs.declared.reference.Ref.{Ref}
-use Rattle.mo_types.specs.declared.reference_fault.RefFault.{RefFault}
 use Rattle.link_means.specs.Plans.{IsPlanOfImage, HasBytes}
 use Rattle.link_means.specs.Tellings.{AreInForm, AreWhole}
-
-no_value : {A E : Type 0} {Y : Type 0} (x : E) (y : A) → ◌≡◌ {A = Result A E} (Err x) (Ok y) → Y
-no_value x y e = absurd cc
-
-same_value : {A E : Type 0} (x y : A) → ◌≡◌ {A = Result A E} (Ok x) (Ok y) → x ≡ y
-same_value x y e = cc
-
--- a step that went on
-bound : {A B E : Type 0} (r : Result A E) (next : A → Result B E) (y : B) → (r >>= next) ≡ Ok y → (x : A) × (r ≡ Ok x) × (next x ≡ Ok y)
-bound (Ok x) next y e = (x, refl, e)
-bound (Err why) next y e = no_value why y e
-
--- ---- an object
-
-few_symbols : (bytes : List ℕ) (object : Object) → object_of bytes ≡ Ok object → length object.symbols < 2 ^ 24
-unfolding object_of accepted
-few_symbols bytes object e =
-    let read = bound (described bytes) _ object e in
-    let done = bound (accepted read.0.object read.0.foreign) _ object read.2 in
-    let relocs = bound (relocations_of read.0.object) _ done.0 done.1 in
-    let supported = bound (lacks (first_feature read.0.object read.0.foreign relocs.0)) _ done.0 relocs.2 in
-    subst (λ (o : Object). length o.symbols < 2 ^ 24) (same_value read.0.object object done.2) (by (nat_lt (length read.0.object.symbols) (2 ^ 24)) read.0.object done.0 refl supported.2)
-  where
-    by : (b : Bool) (o : Object) (d : Unit {0}) → nat_lt (length o.symbols) (2 ^ 24) ≡ b → guarded b (Limit Symbols) (tt {0}) ≡ Ok d → length o.symbols < 2 ^ 24
-    by true o d low f = ltb-true (length o.symbols) (2 ^ 24) low
-    by false o d low f = no_value (Limit Symbols) d f
-
-refs_there : (r : Result (List Ref) RefFault) → IfErr r (λ fault. ⊥) → r ≡ Ok (refs_or_none r)
-refs_there (Ok refs) none = refl
-refs_there (Err fault) none = absurd none
-
-whole_is : (input : Input) (file : LoadedFile) → AreBytes input.bytes → object_of_input input ≡ Ok file → IsWholeFile file
-whole_is input file bytes is =
-    let of : IsObjectOf input file = from_input input file is in
-    let object : Object = of.object in
-    let read : IsRead object = read_whole input.bytes object bytes of.read in
-    subst IsWholeFile (sym of.is) (record {
-      member = omega arith;
-      object = read.whole;
-      few_symbols = few_symbols input.bytes object of.read;
-      atoms = refl;
-      refs = refs_there (refs_of object (id_at input 0)) (read.refs (id_at input 0));
-      unwinds = tt;
-    })
+use Rattle.link_means.proofs.Going.{no_value, same_value}
+use Rattle.link_means.proofs.Parts.{HaveBytes, contents_bytes}
+use Rattle.link_means.proofs.Reading.{loaded_formed, loaded_whole}
 
 -- ---- what was fetched
 
-bytes_of : (path : List ℕ) (one : Answer) (bytes : List ℕ) → HasBytes one → content_of path one ≡ Ok bytes → AreBytes bytes
-bytes_of path (There some) bytes have e = subst (λ (bs : List ℕ). AreBytes bs) (same_value some bytes e) have
-bytes_of path Absent bytes have e = no_value _ bytes e
-bytes_of path Unread bytes have e = no_value _ bytes e
-bytes_of path answer.Refused bytes have e = no_value _ bytes e
+-- files of bytes
+abbrev AreFetched : List Content → Type 0
+AreFetched found = AllByRecursion (λ (content : Content). AreBytes content.bytes) found
 
-contents_are : (inputs : List CommandInput) (answers : List Answer) (contents : List (List ℕ)) → AllByRecursion HasBytes answers → contents_of inputs answers ≡ Ok contents → AllByRecursion AreBytes contents
-contents_are [] answers contents have e = subst (λ (cs : List (List ℕ)). AllByRecursion AreBytes cs) (same_value [] contents e) tt
-contents_are (input ∷ inputs) [] contents have e = no_value _ contents e
-contents_are (input ∷ inputs) (one ∷ answers) contents have e =
-    let first = bound (content_of input.value one) _ contents e in
-    let rest = bound (contents_of inputs answers) _ contents first.2 in
-    subst (λ (cs : List (List ℕ)). AllByRecursion AreBytes cs) (same_value _ contents rest.2)
-    (bytes_of input.value one first.0 have.0 first.1, contents_are inputs answers rest.0 have.1 rest.1)
+-- a file of bytes, and answers that are left, of bytes too
+abbrev IsFetched : Content × List Answer → Type 0
+IsFetched found = AreBytes found.0.bytes × AllByRecursion HasBytes found.1
 
-inputs_are : (at : ℕ) (inputs : List CommandInput) (contents : List (List ℕ)) → AllByRecursion AreBytes contents → AllByRecursion (λ (input : Input). AreBytes input.bytes) (inputs_from at inputs contents)
-inputs_are at [] contents are = tt
-inputs_are at (input ∷ inputs) [] are = tt
-inputs_are at (input ∷ inputs) (bytes ∷ contents) are = (are.0, inputs_are (at + 1) inputs contents are.1)
+found_bytes : (first : List ℕ) (paths : List (List ℕ)) (answers : List Answer) (found : Content × List Answer) → AllByRecursion HasBytes answers → content_of first paths answers ≡ Ok found → IsFetched found
+found_bytes first [] answers found have e = no_value _ found e
+found_bytes first (path ∷ paths) [] found have e = no_value _ found e
+found_bytes first (path ∷ paths) (There bytes ∷ answers) found have e = subst IsFetched (same_value _ found e) have
+found_bytes first (path ∷ paths) (Absent ∷ answers) found have e = found_bytes first paths answers found have.1 e
+found_bytes first (path ∷ paths) (Unread ∷ answers) found have e = no_value _ found e
+found_bytes first (path ∷ paths) (answer.Refused ∷ answers) found have e = no_value _ found e
 
-all_whole : (inputs : List Input) (loaded : Loaded) → AllByRecursion (λ (input : Input). AreBytes input.bytes) inputs → loaded_of inputs ≡ Ok loaded → AreWhole loaded.files
-all_whole inputs loaded are is = λ k d low.
-    let none : Input = record { position = 0; label = []; bytes = []; forced = false } in
-    let within : k < length inputs = omega (arith, low, each_count inputs loaded is) in
-    whole_is (get_or inputs k none) (get_or loaded.files k d) (all_at (λ (input : Input). AreBytes input.bytes) inputs k none are within) (each_object inputs loaded k none d is within)
+fetched_bytes : (places : List (List (List ℕ))) (answers : List Answer) (found : List Content) → AllByRecursion HasBytes answers → contents_of places answers ≡ Ok found → AreFetched found
+fetched_bytes [] answers found have e = subst AreFetched (same_value [] found e) tt
+fetched_bytes (paths ∷ places) answers found have e =
+    let one = bind_ok (content_of (first_of paths) paths answers) _ found e in
+    let first = found_bytes (first_of paths) paths answers one.0 have one.1 in
+    let more = bind_ok (contents_of places one.0.1) _ found one.2 in
+    subst AreFetched (same_value (one.0.0 ∷ more.0) found more.2)
+    (first.0, fetched_bytes places one.0.1 more.0 first.1 more.1)
 
-pub planned_whole : (words : List (List ℕ)) (answers : List Answer) (plan : Plan) (is : IsPlanOfImage words answers plan) → All HasBytes answers → AreWhole is.loaded.files
-planned_whole words answers plan is have =
-    all_whole (inputs_from 0 is.command.inputs is.contents) is.loaded (inputs_are 0 is.command.inputs is.contents (contents_are is.command.inputs answers is.contents (recursion_from_All HasBytes answers have) is.fetched)) is.read
+inputs_bytes : (all : Bool) (at : ℕ) (inputs : List CommandInput) (found : List Content) → AreFetched found → HaveBytes (inputs_from all at inputs found)
+inputs_bytes all at [] found are = tt
+inputs_bytes all at (input ∷ inputs) [] are = tt
+inputs_bytes all at (input ∷ inputs) (content ∷ found) are = (are.0, inputs_bytes all (at + 1) inputs found are.1)
 
-pub planned_in_form : (words : List (List ℕ)) (answers : List Answer) (plan : Plan) (is : IsPlanOfImage words answers plan) → AreInForm is.loaded.files
-planned_in_form words answers plan is = all_formed (inputs_from 0 is.command.inputs is.contents) is.loaded is.read
+-- ---- what is planned
+
+pub planned_whole : (words : List (List ℕ)) (told : Told) (plan : Plan) (is : IsPlanOfImage words told plan) → All HasBytes told.answers → AreWhole is.loaded.files
+planned_whole words told plan is have =
+    let found = fetched_bytes (places_of is.command) told.answers is.found (recursion_from_All HasBytes told.answers have) is.fetched in
+    let inputs = inputs_bytes is.command.all_load 0 is.command.inputs is.found found in
+    loaded_whole is.contents.inputs is.libs (wanted is.command) is.loaded is.read (contents_bytes (inputs_with is.command is.found) is.contents inputs is.opened_are)
+
+pub planned_in_form : (words : List (List ℕ)) (told : Told) (plan : Plan) (is : IsPlanOfImage words told plan) → AreInForm is.loaded.files
+planned_in_form words told plan is = loaded_formed is.contents.inputs is.libs (wanted is.command) is.loaded is.read

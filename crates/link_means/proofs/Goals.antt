@@ -37,7 +37,7 @@ use Rattle.resolve.specs.declared.places.Place.{Place}
 use Rattle.resolve.specs.declared.representative.Representative.{Representative}
 use Rattle.resolve.specs.declared.winner.Winner.{Winner}
 use Rattle.sect_place.proofs.Once.{from_flat}
-use Rattle.input_read.specs.Form.{is_common}
+use Rattle.member_rounds.specs.Form.{is_common}
 use Rattle.link_means.proofs.Cuts.{atom_there, key_at}
 use Rattle.link_means.proofs.Lists.{from_chosen, from_mapped, from_numbered, from_then, from_when, in_slice, no_some, some_is}
 

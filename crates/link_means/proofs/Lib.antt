@@ -1,3 +1,6 @@
+pub mod Going
+pub mod Parts
+pub mod Reading
 pub mod Linked
 pub mod Planned
 pub mod Lists

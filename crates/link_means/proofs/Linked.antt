@@ -31,12 +31,7 @@ use Rattle.link_files.specs.Refusals.{duplicate_refusal, told_as}
 use Rattle.link_files.specs.Steps.{Unless}
 use Rattle.link_files.proofs.KeptLemmas.{kept_rise}
 use Rattle.link_means.specs.Images.{AreCut, AreOrdered, IsImageOf}
-
-no_image : {A E : Type 0} {x : E} {y : A} → ◌≡◌ {A = Result A E} (Ok y) (Err x) → ⊥
-no_image e = absurd cc
-
-same_image : {A E : Type 0} {x y : A} → ◌≡◌ {A = Result A E} (Ok x) (Ok y) → x ≡ y
-same_image e = cc
+use Rattle.link_means.proofs.Going.{no_fault, same_value}
 
 -- ---- limits
 
@@ -75,7 +70,7 @@ as_made command libs files flags keys image ordered cut inside made = by made.ma
   where
     by : (r : Result (List ℕ) MakeFault) → IsMade (making command libs files flags keys) r → IsAnswer r → Ok image ≡ told_as command files r → IsImageOf command libs files image
     by (Ok other) is answer told =
-        subst (IsImageOf command libs files) (sym (same_image told)) (record {
+        subst (IsImageOf command libs files) (sym (same_value _ _ told)) (record {
           flags = flags;
           keys = keys;
           layout = is.0;
@@ -83,9 +78,9 @@ as_made command libs files flags keys image ordered cut inside made = by made.ma
           rising = rising command libs files flags keys ordered cut;
           is_image = record { laid = is.1; filled = is.2 };
         })
-    by (Err (make.Place (place.ImageSize value))) is answer told = absurd (no_image told)
+    by (Err (make.Place (place.ImageSize value))) is answer told = no_fault _ _ told
     by (Err (make.Place place.OutOfMemory)) is answer told = absurd answer
-    by (Err (make.Range key fault)) is answer told = absurd (no_image told)
+    by (Err (make.Range key fault)) is answer told = no_fault _ _ told
     by (Err make.OutOfMemory) is answer told = absurd answer
 
 as_inside : (command : Command) (libs : LibraryGraph) (files : List LoadedFile) (flags : ℕ) (keys : List AtomKey) (image : List ℕ) → AreOrdered files → AreCut files → AreFound command libs files flags keys
@@ -97,7 +92,7 @@ as_inside command libs files flags keys image ordered cut found next = by (optio
     by None e = as_made command libs files flags keys image ordered cut (record { found = found; none = e }) (rw e at next)
     by (Some file) e =
         let told : ◌≡◌ {A = Result (List ℕ) Refusal} (Ok image) (Err (refusal.Unsupported file Later)) = rw e at next in
-        absurd (no_image told)
+        no_fault _ _ told
 
 as_found : (command : Command) (libs : LibraryGraph) (files : List LoadedFile) (flags : ℕ) (keys : List AtomKey) (image : List ℕ) → AreOrdered files → AreCut files → AreKept command libs files flags keys
     → Unless {B = List ℕ} (undefined_refusal command libs files keys) (Ok image) (Unless {B = List ℕ} (later_refusal command libs files keys) (Ok image) (AsMade command libs files flags keys (Ok image))) → IsImageOf command libs files image
@@ -108,7 +103,7 @@ as_found command libs files flags keys image ordered cut kept next = by (undefin
     by None e = as_inside command libs files flags keys image ordered cut (record { kept = kept; found = e }) (rw e at next)
     by (Some (name, file)) e =
         let told : ◌≡◌ {A = Result (List ℕ) Refusal} (Ok image) (Err (refusal.Undefined name file)) = rw e at next in
-        absurd (no_image told)
+        no_fault _ _ told
 
 as_named : (command : Command) (libs : LibraryGraph) (files : List LoadedFile) (image : List ℕ) → AreOrdered files → AreCut files → AreFew command files → AsNamed command libs files (all_names command files) (Ok image) → IsImageOf command libs files image
 unfolding duplicate_refusal
@@ -118,7 +113,7 @@ as_named command libs files image ordered cut few named = by named.found named.i
     by None once next =
         as_found command libs files (header_flags command libs next.known.winners next.known.literals next.keys) next.keys image ordered cut
         (record { few = few; once = once; known = next.known; are_known = next.are_known; kept = next.kept; flagged = refl }) next.next
-    by (Some d) least next = absurd (no_image next)
+    by (Some d) least next = no_fault _ _ next
 
 pub image_linked : (command : Command) (libs : LibraryGraph) (files : List LoadedFile) (image : List ℕ) → AreOrdered files → AreCut files → IsLinked command libs files (Ok image) → IsImageOf command libs files image
 image_linked command libs files image ordered cut linked = by (nat_lt (length (all_names command files)) (2 ^ 24)) refl
@@ -130,7 +125,7 @@ image_linked command libs files image ordered cut linked = by (nat_lt (length (a
     with_atoms names next false low =
         let many : 2 ^ 24 ≤ atoms_in files = ltb-false _ _ low in
         let told : ◌≡◌ {A = Result (List ℕ) Refusal} (Ok image) (Err (refusal.Limit which.Atoms)) = rw (many_atoms files many) at next in
-        absurd (no_image told)
+        no_fault _ _ told
 
     by : (b : Bool) → nat_lt (length (all_names command files)) (2 ^ 24) ≡ b → IsImageOf command libs files image
     by true low =
@@ -139,4 +134,4 @@ image_linked command libs files image ordered cut linked = by (nat_lt (length (a
     by false low =
         let many : 2 ^ 24 ≤ length (all_names command files) = ltb-false _ _ low in
         let told : ◌≡◌ {A = Result (List ℕ) Refusal} (Ok image) (Err (refusal.Limit which.Names)) = rw (many_names command files many) at linked in
-        absurd (no_image told)
+        no_fault _ _ told

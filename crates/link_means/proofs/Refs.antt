@@ -1,5 +1,5 @@
 -- The references of an object: the atom that has each, and that its targets are there.
-use Rattle.std.proofs.Common.{◌≡◌, ℕ, zero, suc, ◌+◌, ◌-◌, ◌*◌, ◌<◌, ◌^◌, ◌==◌, ◌&&◌, not, Bool, true, false, nat_lt, List, [], ◌∷◌, length, Option, Some, None, Result, Ok, Err, inl, inr, refl, sym, ap, ◌∙◌, subst, arith, if◌then◌else◌}
+use Rattle.std.proofs.Common.{◌≡◌, ℕ, zero, suc, ◌+◌, ◌-◌, ◌*◌, ◌<◌, ◌^◌, ◌==◌, ◌&&◌, not, Bool, true, false, nat_lt, List, [], ◌∷◌, length, Option, Some, None, Result, Ok, inl, inr, refl, sym, ap, ◌∙◌, subst, arith, if◌then◌else◌}
 use Rattle.std.specs.Prelude.{slice_get}
 use Rattle.std.specs.List.{range_with_len}
 use Rattle.std.specs.Option.{option_map, option_map_or}
@@ -26,27 +26,22 @@ use Rattle.mo_types.specs.declared.reference_fault.RefFault.TheVariants.{BadPair
 use Rattle.atom_cut.proofs.TileLemmas.{greatest_cut}
 use Rattle.sect_place.proofs.Once.{from_append}
 use Rattle.link_means.proofs.Cuts.{key_at}
+use Rattle.link_means.proofs.Going.{no_value, same_value}
 use Rattle.link_means.proofs.Lists.{both_empty, from_chosen, from_mapped, from_then, from_when, neither, no_some, none_chosen, not_none, not_second, not_when, some_is}
 
 -- ---- what the rules leave
 
-no_error : {A E : Type 0} {Y : Type 0} (x : E) (y : A) → ◌≡◌ {A = Result A E} (Err x) (Ok y) → Y
-no_error x y e = absurd cc
-
-same_refs : {E : Type 0} (x y : List Ref) → ◌≡◌ {A = Result (List Ref) E} (Ok x) (Ok y) → x ≡ y
-same_refs x y e = cc
-
 no_fault : (fault : ℕ → RefFault) (found : Option ℕ) (rest : Result (List Ref) RefFault) (refs : List Ref) → or_fault fault found rest ≡ Ok refs → (found ≡ None) × (rest ≡ Ok refs)
 no_fault fault None rest refs e = (refl, e)
-no_fault fault (Some place) rest refs e = no_error (fault place) refs e
+no_fault fault (Some place) rest refs e = no_value (fault place) refs e
 
 all_supported : (object : Object) (all refs : List Ref) → or_unsupported object (Ok all) ≡ Ok refs → all ≡ refs
 all_supported object all refs e = by (has_absolute object) (has_authenticated object) refl refl
   where
     by : (a b : Bool) → has_absolute object ≡ a → has_authenticated object ≡ b → all ≡ refs
-    by true b p q = no_error _ refs (rw p at e)
-    by false true p q = no_error _ refs (rw (p, q) at e)
-    by false false p q = same_refs all refs (rw (p, q) at e)
+    by true b p q = no_value _ refs (rw p at e)
+    by false true p q = no_value _ refs (rw (p, q) at e)
+    by false false p q = same_value all refs (rw (p, q) at e)
 
 -- the references are those of the sections, and each target may be named
 pub record AreRead (object : Object) (file : FileId) (refs : List Ref) : Type 0 where

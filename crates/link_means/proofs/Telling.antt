@@ -40,7 +40,7 @@ use Rattle.image_means.specs.References.{IsDirect, IsDirectBy, IsReferenceOf, St
 use Rattle.image_means.proofs.Leading.{references_lead}
 use Rattle.image_means.proofs.Loading.{from_all}
 use Rattle.image_means.proofs.Rowed.{IsRowIn, row_in}
-use Rattle.input_read.specs.Form.{is_common, is_later, is_later_kind, is_later_section}
+use Rattle.member_rounds.specs.Form.{is_common, is_later, is_later_kind, is_later_section}
 use Rattle.link_files.specs.Linked.{making}
 use Rattle.link_means.specs.Images.{AreOrdered, IsImageOf}
 use Rattle.link_means.specs.Tellings.{AreInForm, AreWhole, IsNotBelow, made_of}

@@ -2,7 +2,7 @@
 use Rattle.std.specs.Prelude.{ℕ, ◌≡◌, false, ℤ, pos, List, All, Some}
 use Rattle.image_make.specs.Made.{Making}
 use Rattle.image_read.specs.Held.{AtomMap, target_of}
-use Rattle.input_read.specs.Form.{is_later}
+use Rattle.member_rounds.specs.Form.{is_later}
 use Rattle.lib_bind.specs.declared.library.LibraryGraph.{LibraryGraph}
 use Rattle.link_files.specs.Linked.{making}
 use Rattle.mo_cmd.specs.declared.command.Command.{Command}

@@ -6,6 +6,7 @@ ghost use Rattle.image_means.specs.Means.{addresses_of};
 ghost use Rattle.image_means.specs.References.{IsReferenceOf, TellsGoal, goal_of};
 ghost use Rattle.image_read.specs.Held.{AtomMap};
 ghost use Rattle.lib_bind.specs.declared.library.LibraryGraph.{LibraryGraph};
+ghost use Rattle.link_engine.specs.Told.{Told};
 ghost use Rattle.link_engine.specs.Verdict.{IsVerdict};
 ghost use Rattle.link_engine.specs.declared.plan.Plan.{Plan};
 ghost use Rattle.link_files.specs.Linked.{IsLinked};
@@ -13,7 +14,6 @@ ghost use Rattle.link_means.specs.Images.{AreCut, AreOrdered, IsImageOf};
 ghost use Rattle.link_means.specs.Plans.{HasBytes, IsPlanOfImage};
 ghost use Rattle.link_means.specs.Tellings.{AreInForm, AreWhole, IsNotBelow, made_of};
 ghost use Rattle.mo_cmd.specs.declared.command.Command.{Command as Commanded};
-ghost use Rattle.mo_outside.specs.Answers.{Answer};
 ghost use Rattle.mo_types.specs.declared.loaded.LoadedFile.{LoadedFile};
 ghost use Rattle.mo_types.specs.declared.reference.Ref.{Ref};
 
@@ -23,9 +23,10 @@ pub fn what_is_linked_is_an_image()
     ensures { (command : Commanded) (libs : LibraryGraph) (files : List LoadedFile) (image : List ℕ) → AreOrdered files → AreCut files → IsLinked command libs files (Ok image) → IsImageOf command libs files image }
 {}
 
-/// What is planned for words and answers is the image to which the objects of the command's inputs link.
+/// What is planned for words and what the files tell is the image to which the files link that the command's inputs load,
+/// objects and members of archives, with the libraries that its stub libraries tell.
 pub fn a_plan_is_a_linked_image()
-    ensures { (words : List (List ℕ)) (answers : List Answer) (plan : Plan) → IsVerdict words answers (Ok plan) → IsPlanOfImage words answers plan }
+    ensures { (words : List (List ℕ)) (told : Told) (plan : Plan) → IsVerdict words told (Ok plan) → IsPlanOfImage words told plan }
 {}
 
 /// The field of each reference of an atom with bytes tells the goal of the reference, which the image has, unless it is to
@@ -35,8 +36,9 @@ pub fn kept_references_tell_their_goals()
     ensures { (command : Commanded) (libs : LibraryGraph) (files : List LoadedFile) (image : List ℕ) (is : IsImageOf command libs files image) (offsets : AtomMap) (section : ℕ) (row : Row) (reference : Ref) → AreOrdered files → AreWhole files → AreInForm files → Contains (rows_of (made_of is) is.layout) row → IsReferenceOf (made_of is) row reference → IsNotBelow reference.kind image (addresses_of is.layout.placed) (goal_of (made_of is) row reference.target) reference.addend → TellsGoal (made_of is) is.layout image offsets section row reference }
 {}
 
-/// The objects of what is planned have the form, and where the files answered with bytes they are whole.
+/// The objects of what is planned have the form, and where the numbers that were answered for the inputs are bytes they are
+/// whole.
 pub fn what_is_planned_is_of_whole_objects()
-    ensures whole { (words : List (List ℕ)) (answers : List Answer) (plan : Plan) (is : IsPlanOfImage words answers plan) → All HasBytes answers → AreWhole is.loaded.files }
-    ensures form { (words : List (List ℕ)) (answers : List Answer) (plan : Plan) (is : IsPlanOfImage words answers plan) → AreInForm is.loaded.files }
+    ensures whole { (words : List (List ℕ)) (told : Told) (plan : Plan) (is : IsPlanOfImage words told plan) → All HasBytes told.answers → AreWhole is.loaded.files }
+    ensures form { (words : List (List ℕ)) (told : Told) (plan : Plan) (is : IsPlanOfImage words told plan) → AreInForm is.loaded.files }
 {}

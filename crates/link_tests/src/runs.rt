@@ -162,6 +162,26 @@ fn failing_calls(rt: HostRuntime) -> Result<(), Fail> {
             line: b"atomld: cannot read b.o\n",
             ..NOT_BEGUN
         },
+        // A library is looked for, and one of its paths isn't read, or none is there.
+        Run {
+            words: "main.o -lq",
+            failing: (2, 0, 0),
+            line: b"atomld: cannot read /usr/lib/libq.tbd\n",
+            ..NOT_BEGUN
+        },
+        Run {
+            words: "main.o -lq",
+            failing: (5, 0, 0),
+            line: b"atomld: cannot read /usr/local/lib/libq.tbd\n",
+            ..NOT_BEGUN
+        },
+        Run {
+            words: "main.o -lq",
+            failing: (0, 0, 0),
+            code: 1,
+            line: b"atomld: not found: /usr/lib/libq.tbd\n",
+            ..NOT_BEGUN
+        },
     ] {
         assert_run(&rt, run)?;
     }

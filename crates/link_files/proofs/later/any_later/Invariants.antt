@@ -1,4 +1,4 @@
-use Rattle.input_read.proofs.FormLemmas.{IsLookedTo}
+use Rattle.member_rounds.proofs.FormLemmas.{IsLookedTo}
 use Rattle.link_files.specs.Later.{is_kept_later}
 use Rattle.link_files.proofs.later.any_later.Given as goal
 

@@ -1,5 +1,0 @@
-use Rattle.link_engine.proofs.InputLemmas.{AreMade}
-use Rattle.link_engine.proofs.read.inputs_of.Given as goal
-
-abbrev pub invariant-loop-at : goal.invariant-loop-at
-invariant-loop-at l = AreMade l.inputs l.contents l.made l.at
