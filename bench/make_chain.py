@@ -15,9 +15,9 @@ import sys
 RET = b"\xc0\x03\x5f\xd6"
 
 
-def calling(name, target):
-    """An object with a function that calls another one, if there is one, and returns."""
-    text = (b"\x00\x00\x00\x94" if target else b"") + RET
+def calling(name, target, more=b""):
+    """An object with a function that calls another one, if there is one, has some instructions more, and returns."""
+    text = (b"\x00\x00\x00\x94" if target else b"") + more + RET
     relocations = struct.pack("<iI", 0, 1 | 1 << 24 | 2 << 25 | 1 << 27 | 2 << 28) if target else b""
     strings = b"\0" + name + b"\0" + (target + b"\0" if target else b"")
     symbols = struct.pack("<IBBHQ", 1, 0x0F, 1, 0, 0)
