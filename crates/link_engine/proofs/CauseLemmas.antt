@@ -99,7 +99,7 @@ contents_real : (places : List (List (List ℕ))) (answers : List Answer) → If
 contents_real [] answers = tt
 contents_real (paths ∷ places) answers =
     then_real IsReal (content_of (first_of paths) paths answers) _ (content_real (first_of paths) paths answers) (λ found.
-        then_real IsReal (contents_of places found.1) _ (contents_real places found.1) (λ more. tt))
+    then_real IsReal (contents_of places found.1) _ (contents_real places found.1) (λ more. tt))
 
 first_real : {A : Type 0} (f : A → Option RoundFault) (xs : List A) (why : RoundFault) → ((x : A) → f x ≡ Some why → IsRoundFault why) → first_some f xs ≡ Some why → IsRoundFault why
 first_real f [] why each e = absurd cc
