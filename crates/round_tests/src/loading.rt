@@ -1,7 +1,7 @@
 //! What links load, by tables of their inputs and labels that were written by hand.
 use crate::files;
 use crate::libraries::library_at;
-use input_read::{are_in_order, open_inputs};
+use input_read::{Opened, are_in_order, open_inputs};
 use member_rounds::{Input, RoundFault, load};
 use mo_outside::FreeGate;
 use mo_types::{Bytes, Loaded, NameList, OutOfMemory, Refusal};
@@ -79,7 +79,11 @@ fn said<R: Threads + Sync>(
     if !are_in_order(inputs.as_slice()) {
         return Ok(Vec::new(alloc));
     }
-    let opened = match open_inputs(rt, alloc, &FreeGate, workers, inputs.as_slice()) {
+    let Opened {
+        sources,
+        objects,
+        ..
+    } = match open_inputs(rt, alloc, &FreeGate, workers, inputs.as_slice()) {
         Ok(opened) => opened,
         Err(fault) => return told(alloc, &fault),
     };
@@ -88,8 +92,8 @@ fn said<R: Threads + Sync>(
         alloc,
         &FreeGate,
         workers,
-        opened.sources.as_slice(),
-        opened.objects,
+        sources.as_slice(),
+        objects,
         &libs,
         &wanted,
     ) {
