@@ -2,6 +2,7 @@
 -- (`loader.h`: section_64, S_ATTR_PURE_INSTRUCTIONS).
 use Rattle.std.specs.Prelude.{ℕ, ◌==◌, ◌&&◌, ◌||◌, Bool, not, bit_and, List, codes, if◌then◌else◌}
 use Rattle.std.specs.Str.{bytes_eq}
+use Rattle.mo_format.specs.declared.loader.TheConstants.{S_ATTR_PURE_INSTRUCTIONS, S_REGULAR, S_THREAD_LOCAL_REGULAR, S_THREAD_LOCAL_VARIABLES, S_THREAD_LOCAL_ZEROFILL, S_ZEROFILL}
 use Rattle.mo_types.specs.declared.object.Section.{Section}
 
 pub record Destination : Type 0 where
@@ -9,13 +10,11 @@ pub record Destination : Type 0 where
   pub name : List ℕ
   pub kind : ℕ
 
--- S_ATTR_PURE_INSTRUCTIONS
 abbrev pub is_instructions : Section → Bool
-is_instructions section = not (bit_and section.attributes 0x80000000 == 0)
+is_instructions section = not (bit_and section.attributes S_ATTR_PURE_INSTRUCTIONS == 0)
 
--- S_THREAD_LOCAL_REGULAR, S_THREAD_LOCAL_ZEROFILL and S_THREAD_LOCAL_VARIABLES
 abbrev pub is_thread_local : ℕ → Bool
-is_thread_local kind = kind == 0x11 || kind == 0x12 || kind == 0x13
+is_thread_local kind = kind == S_THREAD_LOCAL_REGULAR || kind == S_THREAD_LOCAL_ZEROFILL || kind == S_THREAD_LOCAL_VARIABLES
 
 -- data that don't change once the loader has filled them in
 unfoldable pub is_constant : Section → Bool
@@ -32,7 +31,7 @@ unfoldable pub destination_name : Section → List ℕ
 destination_name section = if is_instructions section then codes "__text" else section.name
 
 unfoldable pub destination_kind : Section → ℕ
-destination_kind section = if is_instructions section then 0 else section.kind
+destination_kind section = if is_instructions section then S_REGULAR else section.kind
 
 -- Instructions go to the image's `__TEXT,__text`, and what is constant to `__DATA_CONST`. Else a section keeps its
 -- segment, its name and its type.
@@ -43,6 +42,6 @@ destination section = record {
   kind = destination_kind section;
 }
 
--- where common symbols go (S_ZEROFILL)
+-- where common symbols go
 abbrev pub common_destination : Destination
-common_destination = record { segment = codes "__DATA"; name = codes "__common"; kind = 1 }
+common_destination = record { segment = codes "__DATA"; name = codes "__common"; kind = S_ZEROFILL }

@@ -2,30 +2,32 @@
 -- (`loader.h`: section_64; `nlist.h`: nlist_64; `reloc.h`: relocation_info).
 use Rattle.std.specs.Prelude.{ℕ, ◌+◌, ◌-◌, ◌*◌, ◌%◌, ◌^◌, ◌≡◌, ◌≤◌, ◌<◌, ◌==◌, ◌&&◌, ◌||◌, Bool, not, bit_and, List, length, slice_index, slice_index_or, codes, All, IsTrue, Option, Some, None, IfSome, if◌then◌else◌}
 use Rattle.std.specs.Str.{bytes_eq}
+use Rattle.mo_format.specs.declared.loader.TheConstants.{S_16BYTE_LITERALS, S_4BYTE_LITERALS, S_8BYTE_LITERALS, S_ATTR_DEBUG, S_CSTRING_LITERALS, S_THREAD_LOCAL_ZEROFILL, S_ZEROFILL}
 use Rattle.mo_types.specs.declared.object.Section.{Section}
 use Rattle.mo_types.specs.declared.object.SymbolKind.{SymbolKind}
 use Rattle.mo_types.specs.declared.object.SymbolKind.TheVariants.{Defined}
 use Rattle.mo_types.specs.declared.object.Object.{Object}
 
--- a section that isn't linked: one for the linker itself, of debugging data (also by S_ATTR_DEBUG,
--- 0x02000000), of bitcode, or of the frames that compact unwind stands for
+-- a section that isn't linked: one for the linker itself, of debugging data (also by an
+-- attribute), of bitcode, or of the frames that compact unwind stands for
 unfoldable pub is_dropped : Section → Bool
 is_dropped section =
     bytes_eq section.segment (codes "__LD") || bytes_eq section.segment (codes "__DWARF")
-    || bytes_eq section.segment (codes "__LLVM") || not (bit_and section.attributes 0x02000000 == 0)
+    || bytes_eq section.segment (codes "__LLVM") || not (bit_and section.attributes S_ATTR_DEBUG == 0)
     || (bytes_eq section.segment (codes "__TEXT") && bytes_eq section.name (codes "__eh_frame"))
 
--- S_ZEROFILL and S_THREAD_LOCAL_ZEROFILL, types of sections without bytes in the file
+-- the types of sections without bytes in the file
 abbrev pub is_zerofill : ℕ → Bool
-is_zerofill kind = kind == 1 || kind == 0x12
+is_zerofill kind = kind == S_ZEROFILL || kind == S_THREAD_LOCAL_ZEROFILL
 
--- S_CSTRING_LITERALS
 abbrev pub is_strings : ℕ → Bool
-is_strings kind = kind == 2
+is_strings kind = kind == S_CSTRING_LITERALS
 
--- the bytes of one literal in sections of the types S_4BYTE_LITERALS, S_8BYTE_LITERALS, S_16BYTE_LITERALS
+-- the bytes of one literal, in a section of literals of one size
 abbrev pub literal_size : ℕ → Option ℕ
-literal_size kind = if kind == 3 then Some 4 else if kind == 4 then Some 8 else if kind == 0xe then Some 16 else None
+literal_size kind =
+    if kind == S_4BYTE_LITERALS then Some 4 else if kind == S_8BYTE_LITERALS then Some 8
+    else if kind == S_16BYTE_LITERALS then Some 16 else None
 
 -- A section whose numbers have room, which has its bytes unless it is zerofill, whose strings end in NUL
 -- and whose literals are whole, and whose relocations have numbers of 24 bits.

@@ -2,11 +2,17 @@ ghost use Rattle.std.specs.Prelude.{◌≡◌};
 ghost use Rattle.mo_types.specs.Destination as destination;
 
 use crate::object::Section;
+use mo_format::loader::{
+    S_ATTR_PURE_INSTRUCTIONS, S_REGULAR, S_THREAD_LOCAL_REGULAR, S_THREAD_LOCAL_VARIABLES,
+    S_THREAD_LOCAL_ZEROFILL,
+};
 
-fn is_thread_local(kind: u8) -> bool
+fn is_thread_local(kind: u32) -> bool
     ensures { result ≡ destination.is_thread_local kind }
 {
-    kind == 0x11 || kind == 0x12 || kind == 0x13
+    kind == S_THREAD_LOCAL_REGULAR
+        || kind == S_THREAD_LOCAL_ZEROFILL
+        || kind == S_THREAD_LOCAL_VARIABLES
 }
 
 #[tactic(auto, unfolding(crate::specs::Destination::is_constant))]
@@ -16,7 +22,7 @@ fn is_constant(section: &Section) -> bool
     let name = section.name.as_slice();
     section.segment.as_slice() == b"__DATA".as_slice()
         && (name == b"__const".as_slice() || name == b"__mod_init_func".as_slice())
-        && !is_thread_local(section.kind)
+        && !is_thread_local(u32::from(section.kind))
 }
 
 impl Section {
@@ -24,7 +30,7 @@ impl Section {
     pub fn is_instructions(&self) -> bool
         ensures { result ≡ destination.is_instructions self.now }
     {
-        self.attributes & 0x8000_0000 != 0
+        self.attributes & S_ATTR_PURE_INSTRUCTIONS != 0
     }
 
     /// The segment of the image to which its atoms go.
@@ -58,6 +64,10 @@ impl Section {
     pub fn destination_kind(&self) -> u8
         ensures { result ≡ destination.destination_kind self.now }
     {
-        if self.is_instructions() { 0 } else { self.kind }
+        if self.is_instructions() {
+            S_REGULAR as u8
+        } else {
+            self.kind
+        }
     }
 }

@@ -1,4 +1,8 @@
 use crate::object::Section;
+use mo_format::loader::{
+    S_4BYTE_LITERALS, S_8BYTE_LITERALS, S_16BYTE_LITERALS, S_ATTR_DEBUG, S_CSTRING_LITERALS,
+    S_THREAD_LOCAL_ZEROFILL, S_ZEROFILL,
+};
 
 impl Section {
     ghost use Rattle.std.specs.Prelude.{◌≡◌};
@@ -14,7 +18,7 @@ impl Section {
         segment == b"__LD".as_slice()
             || segment == b"__DWARF".as_slice()
             || segment == b"__LLVM".as_slice()
-            || self.attributes & 0x0200_0000 != 0
+            || self.attributes & S_ATTR_DEBUG != 0
             || segment == b"__TEXT".as_slice() && self.name.as_slice() == b"__eh_frame".as_slice()
     }
 
@@ -22,14 +26,15 @@ impl Section {
     pub fn is_zerofill(&self) -> bool
         ensures { result ≡ whole.is_zerofill self.now.kind }
     {
-        self.kind == 1 || self.kind == 0x12
+        let kind = u32::from(self.kind);
+        kind == S_ZEROFILL || kind == S_THREAD_LOCAL_ZEROFILL
     }
 
     /// Whether the section has strings that end in NUL (`S_CSTRING_LITERALS`).
     pub fn is_strings(&self) -> bool
         ensures { result ≡ whole.is_strings self.now.kind }
     {
-        self.kind == 2
+        u32::from(self.kind) == S_CSTRING_LITERALS
     }
 
     /// The bytes of each literal, where the section has literals of one size (`S_4BYTE_LITERALS`,
@@ -37,10 +42,10 @@ impl Section {
     pub fn literal_size(&self) -> Option<u64>
         ensures { result ≡ whole.literal_size self.now.kind }
     {
-        match self.kind {
-            3 => Some(4),
-            4 => Some(8),
-            0xe => Some(16),
+        match u32::from(self.kind) {
+            S_4BYTE_LITERALS => Some(4),
+            S_8BYTE_LITERALS => Some(8),
+            S_16BYTE_LITERALS => Some(16),
             _ => None,
         }
     }

@@ -1,5 +1,4 @@
 use Rattle.std.proofs.Common.{length}
-use Rattle.mo_types.specs.declared.ref_row.Row.TheVariants.{Other}
 use Rattle.mo_types.proofs.RefRowLemmas.{push_within, push_other_within}
 use Rattle.mo_types.proofs.ref_list.RefList.push.Goals as goal
 
