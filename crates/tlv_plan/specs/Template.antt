@@ -5,15 +5,16 @@ use Rattle.std.specs.Prelude.{ℕ, ◌+◌, ◌^◌, ◌==◌, ◌||◌, Bool, L
 use Rattle.std.specs.Ordering.{is_eq}
 use Rattle.std.specs.List.{filter, filter_map, find, flat_map}
 use Rattle.mo_bytes.specs.Rounding.{least_multiple}
+use Rattle.mo_format.specs.declared.loader.TheConstants.{S_THREAD_LOCAL_REGULAR, S_THREAD_LOCAL_ZEROFILL}
 use Rattle.mo_types.specs.declared.atom.Atom.{Atom}
 use Rattle.mo_types.specs.declared.key.AtomKey.{AtomKey}
 use Rattle.mo_types.specs.declared.out_section.OutSection.{OutSection}
 use Rattle.tlv_plan.specs.declared.parts.Offset.{Offset}
 use Rattle.mo_types.specs.Keys.{compare_keys}
 
--- S_THREAD_LOCAL_REGULAR or S_THREAD_LOCAL_ZEROFILL
+-- a section of the template
 abbrev pub is_thread_local : OutSection → Bool
-is_thread_local section = section.kind == 0x11 || section.kind == 0x12
+is_thread_local section = section.kind == S_THREAD_LOCAL_REGULAR || section.kind == S_THREAD_LOCAL_ZEROFILL
 
 -- the sections of the template, in the order in which they stand
 unfoldable pub thread_local : List OutSection → List OutSection

@@ -14,5 +14,5 @@ pub use laws::{
 };
 pub use lookup::offset_of;
 pub use parts::{Offset, OffsetList, Template};
-pub use plan::template;
+pub use plan::{greatest_align, is_thread_local, template};
 pub use room::fits;

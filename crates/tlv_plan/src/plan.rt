@@ -7,6 +7,7 @@ ghost use Rattle.tlv_plan.specs.Template as spec;
 
 use crate::parts::{Offset, OffsetList, Template};
 use crate::place::place_sections;
+use mo_format::loader::{S_THREAD_LOCAL_REGULAR, S_THREAD_LOCAL_ZEROFILL};
 use mo_types::{AtomKey, AtomList, OutOfMemory, OutSection, OutSections};
 use std::alloc::Global;
 use std::cmp::Ordering;
@@ -31,7 +32,7 @@ pub fn template(
     let (places, size) = place_sections(alloc, kept.as_slice(), sections)?;
     Ok(Template {
         places: in_order(places),
-        align: align_of(sections),
+        align: greatest_align(sections),
         size,
     })
 }
@@ -52,8 +53,8 @@ pub(crate) fn compare(a: &AtomKey, b: &AtomKey) -> Ordering
     a.cmp(b)
 }
 
-// The greatest alignment of the thread-local sections among these.
-fn align_of(sections: &[OutSection]) -> u8
+/// The greatest alignment of the thread-local sections among these, as a power of two.
+pub fn greatest_align(sections: &[OutSection]) -> u8
     ensures { result ≡ spec.greatest_align (spec.thread_local sections.now) }
 {
     let mut greatest = 0;
@@ -72,9 +73,10 @@ fn larger(a: u8, b: u8) -> u8
     if a < b { b } else { a }
 }
 
-// Whether a section is part of the template.
-pub(crate) fn is_thread_local(section: &OutSection) -> bool
+/// Whether a section is part of the template (`loader.h`: S_THREAD_LOCAL_REGULAR, S_THREAD_LOCAL_ZEROFILL).
+pub fn is_thread_local(section: &OutSection) -> bool
     ensures { result ≡ spec.is_thread_local section.now }
 {
-    section.kind == 0x11 || section.kind == 0x12
+    let kind = u32::from(section.kind);
+    kind == S_THREAD_LOCAL_REGULAR || kind == S_THREAD_LOCAL_ZEROFILL
 }

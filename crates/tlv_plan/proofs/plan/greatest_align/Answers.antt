@@ -1,8 +1,8 @@
 use Rattle.std.proofs.Common.{sym, ◌∙◌}
 use Rattle.tlv_plan.specs.Template.{greatest_align, thread_local}
 use Rattle.tlv_plan.proofs.Walk.{greatest_skips, greatest_goes_on, greatest_ends}
-use Rattle.tlv_plan.proofs.plan.align_of.Goals as goal
-use Rattle.tlv_plan.proofs.plan.align_of.Goals.{then-is_thread_local, else-is_thread_local}
+use Rattle.tlv_plan.proofs.plan.greatest_align.Goals as goal
+use Rattle.tlv_plan.proofs.plan.greatest_align.Goals.{then-is_thread_local, else-is_thread_local}
 
 pub loop-section-preserved : goal.loop-section-preserved
 loop-section-preserved c =
