@@ -1,8 +1,9 @@
 -- Which sections an image has, segment by segment and in the order in which they stand (`loader.h`:
 -- segment_command_64, section_64).
-use Rattle.std.specs.Prelude.{ℕ, ◌+◌, ◌==◌, ◌&&◌, Bool, not, List, [], ◌∷◌, ◌++◌, map, length, codes, if◌then◌else◌}
+use Rattle.std.specs.Prelude.{ℕ, ◌+◌, ◌==◌, ◌&&◌, Bool, bit_or, not, List, [], ◌∷◌, ◌++◌, map, length, codes, if◌then◌else◌}
 use Rattle.std.specs.List.{filter}
 use Rattle.std.specs.Str.{bytes_eq}
+use Rattle.mo_format.specs.declared.loader.TheConstants.{S_ATTR_PURE_INSTRUCTIONS, S_ATTR_SOME_INSTRUCTIONS, S_NON_LAZY_SYMBOL_POINTERS, S_REGULAR, S_SYMBOL_STUBS, S_THREAD_LOCAL_VARIABLE_POINTERS}
 use Rattle.mo_types.specs.declared.out_section.OutSection.{OutSection}
 use Rattle.sect_place.specs.declared.part.Choice.{Choice}
 use Rattle.sect_place.specs.declared.part.Choice.TheVariants.{Code, BesideCode, Constant, Writable, Elsewhere}
@@ -18,7 +19,7 @@ is_in segment section = bytes_eq section.segment segment
 
 -- the section `__text` of instructions
 abbrev pub is_code : OutSection → Bool
-is_code section = is_in (codes "__TEXT") section && bytes_eq section.name (codes "__text") && section.kind == 0
+is_code section = is_in (codes "__TEXT") section && bytes_eq section.name (codes "__text") && section.kind == S_REGULAR
 
 unfoldable pub is_chosen : Choice → OutSection → Bool
 is_chosen Code section = is_code section
@@ -36,13 +37,26 @@ chosen choice sections = map with_atoms (filter (is_chosen choice) sections)
 
 -- ---- the linker's own sections
 
--- `__stubs` (S_SYMBOL_STUBS, of instructions), `__unwind_info`, `__got` (S_NON_LAZY_SYMBOL_POINTERS) and
--- `__thread_ptrs` (S_THREAD_LOCAL_VARIABLE_POINTERS)
+-- a section of the linker's own without bytes: its flags are its attributes and its type
+abbrev pub own_section : List ℕ → List ℕ → ℕ → ℕ → ℕ → OutSection
+own_section segment name kind attributes align = record {
+  segment = segment;
+  name = name;
+  kind = kind;
+  flags = bit_or attributes kind;
+  align = align;
+  atoms = [];
+}
+
+-- the attributes of a section of instructions
+abbrev pub instructions : ℕ
+instructions = bit_or S_ATTR_PURE_INSTRUCTIONS S_ATTR_SOME_INSTRUCTIONS
+
 abbrev pub section_of : Made → OutSection
-section_of Stubs = record { segment = codes "__TEXT"; name = codes "__stubs"; kind = 8; flags = 0x80000408; align = 2; atoms = [] }
-section_of UnwindInfo = record { segment = codes "__TEXT"; name = codes "__unwind_info"; kind = 0; flags = 0; align = 2; atoms = [] }
-section_of Got = record { segment = codes "__DATA_CONST"; name = codes "__got"; kind = 6; flags = 6; align = 3; atoms = [] }
-section_of ThreadPtrs = record { segment = codes "__DATA"; name = codes "__thread_ptrs"; kind = 0x14; flags = 0x14; align = 3; atoms = [] }
+section_of Stubs = own_section (codes "__TEXT") (codes "__stubs") S_SYMBOL_STUBS instructions 2
+section_of UnwindInfo = own_section (codes "__TEXT") (codes "__unwind_info") S_REGULAR 0 2
+section_of Got = own_section (codes "__DATA_CONST") (codes "__got") S_NON_LAZY_SYMBOL_POINTERS 0 3
+section_of ThreadPtrs = own_section (codes "__DATA") (codes "__thread_ptrs") S_THREAD_LOCAL_VARIABLE_POINTERS 0 3
 
 -- one of them, where it has bytes
 abbrev pub own : Made → ℕ → List Part

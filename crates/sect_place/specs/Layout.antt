@@ -4,6 +4,7 @@ use Rattle.std.specs.Prelude.{ℕ, ◌≡◌, ◌+◌, ◌-◌, ◌*◌, ◌^◌
 use Rattle.std.specs.List.Sorted.{IsSorted}
 use Rattle.std.specs.Ordering.{on}
 use Rattle.mo_cmd.specs.declared.command.Command.{Command}
+use Rattle.mo_format.specs.declared.loader.TheConstants.{VM_PROT_NONE, VM_PROT_READ}
 use Rattle.mo_types.specs.Keys.{compare_keys}
 use Rattle.mo_types.specs.declared.atom.Atom.{Atom}
 use Rattle.mo_types.specs.declared.key.AtomKey.{AtomKey}
@@ -68,11 +69,11 @@ abbrev pub image_size : Plan → ℕ
 image_size plan = end_of_image plan - plan.base
 
 abbrev pub pagezero : Segment
-pagezero = record { name = codes "__PAGEZERO"; address = 0; vmsize = 0x100000000; file_offset = 0; file_size = 0; protection = 0; flags = 0; sections = 0 }
+pagezero = record { name = codes "__PAGEZERO"; address = 0; vmsize = 0x100000000; file_offset = 0; file_size = 0; protection = VM_PROT_NONE; flags = 0; sections = 0 }
 
 -- what `__LINKEDIT` holds isn't known yet
 abbrev pub linkedit : ℕ → ℕ → Segment
-linkedit at file = record { name = codes "__LINKEDIT"; address = at; vmsize = 0; file_offset = file; file_size = 0; protection = 1; flags = 0; sections = 0 }
+linkedit at file = record { name = codes "__LINKEDIT"; address = at; vmsize = 0; file_offset = file; file_size = 0; protection = VM_PROT_READ; flags = 0; sections = 0 }
 
 abbrev pub first_segments : Command → List Segment
 first_segments command = if command.dylib then [] else pagezero ∷ []

@@ -1,12 +1,13 @@
 -- Where the segments of an image, its sections and its atoms stand: one behind the other, each at the least place
 -- that is a multiple of its alignment and isn't below the end of what comes before (`loader.h`: segment_command_64,
 -- section_64).
-use Rattle.std.specs.Prelude.{ℕ, ◌≡◌, ◌^◌, ◌+◌, ◌-◌, ◌*◌, ◌==◌, ◌&&◌, Bool, not, max, List, [], ◌∷◌, ◌++◌, map, length, codes, if◌then◌else◌}
+use Rattle.std.specs.Prelude.{ℕ, ◌≡◌, ◌^◌, ◌+◌, ◌-◌, ◌*◌, ◌==◌, ◌&&◌, Bool, bit_or, not, max, List, [], ◌∷◌, ◌++◌, map, length, codes, if◌then◌else◌}
 use Rattle.std.specs.List.{find}
 use Rattle.std.specs.Option.{option_map_or}
 use Rattle.std.specs.Ordering.{is_eq}
 use Rattle.std.specs.Str.{bytes_eq}
 use Rattle.mo_bytes.specs.Rounding.{IsLeastMultiple}
+use Rattle.mo_format.specs.declared.loader.TheConstants.{SG_READ_ONLY, VM_PROT_EXECUTE, VM_PROT_READ, VM_PROT_WRITE}
 use Rattle.mo_types.specs.Keys.{compare_keys}
 use Rattle.mo_types.specs.Whole.{is_zerofill}
 use Rattle.mo_types.specs.declared.atom.Atom.{Atom}
@@ -104,13 +105,13 @@ group_end atoms at lead group = parts_end atoms (at + lead) group.parts
 unfoldable pub file_bytes : (List AtomKey → List Atom) → ℕ → ℕ → Group → ℕ
 file_bytes atoms at lead group = page_up (parts_filled atoms (at + lead) (at + lead) group.parts) - at
 
--- VM_PROT_READ with VM_PROT_EXECUTE, or with VM_PROT_WRITE
+-- what memory allows: code is read and run, data are read and written
 abbrev pub protection_of : List ℕ → ℕ
-protection_of name = if bytes_eq name (codes "__TEXT") then 5 else 3
+protection_of name = if bytes_eq name (codes "__TEXT") then bit_or VM_PROT_READ VM_PROT_EXECUTE else bit_or VM_PROT_READ VM_PROT_WRITE
 
--- SG_READ_ONLY
+-- what the loader makes read-only once it is done
 abbrev pub flags_of : List ℕ → ℕ
-flags_of name = if bytes_eq name (codes "__DATA_CONST") then 0x10 else 0
+flags_of name = if bytes_eq name (codes "__DATA_CONST") then SG_READ_ONLY else 0
 
 unfoldable pub segment_of : (List AtomKey → List Atom) → ℕ → ℕ → ℕ → Group → Segment
 segment_of atoms at file lead group = record {

@@ -5,10 +5,11 @@ ghost use Rattle.std.specs.Ordering.{on};
 ghost use Rattle.mo_types.specs.Keys.{compare_files};
 ghost use Rattle.mo_types.specs.declared.loaded.LoadedFile.{LoadedFile};
 ghost use Rattle.mo_types.specs.declared.out_section.OutSection.{OutSection};
+ghost use Rattle.sect_place.specs.declared.home.TheConstants.{COMMON_SECTION};
 ghost use Rattle.sect_place.specs.OutSections as spec;
 ghost use Rattle.sect_place.specs.inner.Gathered.{AreGathered, held_home, with_atom};
 
-use crate::home::{Home, common_home, next_home};
+use crate::home::{COMMON_SECTION, Home, common_home, next_home};
 use crate::to::To;
 use indexmap::IndexSet;
 use mo_types::{Atom, AtomKey, Bytes, FileId, KeyList, LoadedFile, OutOfMemory, OutSection};
@@ -111,14 +112,14 @@ pub(crate) fn gather(
 
 // The key of a common symbol's atom.
 fn common_key() -> AtomKey
-    ensures { result.section ≡ 256 }
+    ensures { result.section ≡ COMMON_SECTION }
 {
     AtomKey {
         file: FileId {
             position: 0,
             member: 0,
         },
-        section: 256,
+        section: COMMON_SECTION,
         offset: 0,
     }
 }

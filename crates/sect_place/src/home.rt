@@ -10,11 +10,12 @@ ghost use Rattle.sect_place.specs.OutSections as spec;
 ghost use Rattle.sect_place.specs.inner.Gathered.{held_home};
 
 use crate::layout::compare;
+use mo_format::loader::{S_ATTR_PURE_INSTRUCTIONS, S_ATTR_SOME_INSTRUCTIONS, S_ZEROFILL};
 use mo_types::{AtomKey, FileId, LoadedFile, Section};
 use std::cmp::Ordering;
 
-// The section number of common symbols' atoms.
-const COMMON: u16 = 256;
+/// The section number of common symbols' atoms: one more than a section of a file can have (`nlist.h`: MAX_SECT).
+pub(crate) const COMMON_SECTION: u16 = 256;
 
 /// The section of the image to which atoms go, and the attributes that they bring there.
 #[derive(Clone, Copy)]
@@ -32,7 +33,7 @@ pub(crate) fn common_home() -> Home<'static>
     Home {
         segment: b"__DATA".as_slice(),
         name: b"__common".as_slice(),
-        kind: 1,
+        kind: S_ZEROFILL as u8,
         attributes: 0,
     }
 }
@@ -46,7 +47,7 @@ fn home_in(section: &Section) -> Home
         segment: section.destination_segment(),
         name: section.destination_name(),
         kind: section.destination_kind(),
-        attributes: section.attributes & 0x8000_0400,
+        attributes: section.attributes & (S_ATTR_PURE_INSTRUCTIONS | S_ATTR_SOME_INSTRUCTIONS),
     }
 }
 
@@ -85,7 +86,7 @@ fn home_of<'a>(files: &'a [LoadedFile], key: &AtomKey) -> Option<Home<'a>>
     requires { IsStrictlySortedBy (on (λ (file : LoadedFile). file.id) compare_files) files.now }
     ensures { option_map held_home result ≡ spec.home_of files.now key.now.file key.now.section }
 {
-    if key.section == COMMON {
+    if key.section == COMMON_SECTION {
         return Some(common_home());
     }
     let file = file_of(files, key.file)?;

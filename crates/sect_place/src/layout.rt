@@ -22,9 +22,9 @@ pub struct Segment {
     pub file_offset: u64,
     /// In bytes of the file. That of `__LINKEDIT` is 0 here.
     pub file_size: u64,
-    /// What its memory may be used for (`vm_prot.h`: 1 reading, 2 writing, 4 running).
+    /// What its memory may be used for (`vm_prot.h`: VM_PROT_READ, VM_PROT_WRITE, VM_PROT_EXECUTE).
     pub protection: u32,
-    /// 0x10 where it is read-only once the loader is done (`loader.h`: SG_READ_ONLY).
+    /// SG_READ_ONLY where it is read-only once the loader is done (`loader.h`).
     pub flags: u32,
     /// How many sections it has.
     pub sections: u32,

@@ -3,28 +3,8 @@ ghost use Rattle.mo_types.specs.declared.out_section.OutSection.{OutSection};
 ghost use Rattle.tlv_plan.specs.Template as template;
 ghost use Rattle.sect_place.specs.OutSections as spec;
 
-use crate::placing::larger;
 use mo_types::OutSection;
-
-// Whether a section is part of the template of thread-local variables.
-fn is_thread_local(section: &OutSection) -> bool
-    ensures { result ≡ template.is_thread_local section.now }
-{
-    section.kind == 0x11 || section.kind == 0x12
-}
-
-// The greatest alignment of the thread-local sections.
-fn greatest_of(sections: &[OutSection]) -> u8
-    ensures { result ≡ template.greatest_align (template.thread_local sections.now) }
-{
-    let mut greatest = 0;
-    for section in sections {
-        if is_thread_local(section) {
-            greatest = larger(greatest, section.align);
-        }
-    }
-    greatest
-}
+use tlv_plan::{greatest_align, is_thread_local};
 
 // The first thread-local section.
 fn first_of(sections: &[OutSection]) -> Option<usize>
@@ -47,7 +27,7 @@ pub(crate) fn led(sections: Vec<OutSection>) -> Vec<OutSection>
     ensures { result.items ≡ spec.led sections.items }
 {
     let mut sections = sections;
-    let greatest = greatest_of(sections.as_slice());
+    let greatest = greatest_align(sections.as_slice());
     match first_of(sections.as_slice()) {
         Some(first) => raise(&mut sections, first, greatest),
         None => {}

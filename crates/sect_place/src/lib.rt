@@ -33,3 +33,4 @@ pub use lookup::{address, address_near};
 pub use placing::place;
 pub use shift::{IslandShifts, address_with};
 pub use size::{PlaceFault, PlaceSizes};
+pub use walk::is_zerofill;

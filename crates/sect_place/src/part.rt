@@ -1,6 +1,10 @@
-ghost use Rattle.std.specs.Prelude.{◌≡◌, []};
+ghost use Rattle.std.specs.Prelude.{◌≡◌, bit_or, []};
 ghost use Rattle.sect_place.specs.Arrangement as arrangement;
 
+use mo_format::loader::{
+    S_ATTR_PURE_INSTRUCTIONS, S_ATTR_SOME_INSTRUCTIONS, S_NON_LAZY_SYMBOL_POINTERS, S_REGULAR,
+    S_SYMBOL_STUBS, S_THREAD_LOCAL_VARIABLE_POINTERS,
+};
 use mo_types::{Bytes, Items, KeyList, OutSection};
 use std::alloc::Global;
 
@@ -52,10 +56,28 @@ impl Made {
         ensures { result ≡ arrangement.section_of self }
     {
         match self {
-            Made::Stubs => own_section(alloc, b"__TEXT", b"__stubs", 8, 0x8000_0408, 2),
-            Made::UnwindInfo => own_section(alloc, b"__TEXT", b"__unwind_info", 0, 0, 2),
-            Made::Got => own_section(alloc, b"__DATA_CONST", b"__got", 6, 6, 3),
-            Made::ThreadPtrs => own_section(alloc, b"__DATA", b"__thread_ptrs", 0x14, 0x14, 3),
+            Made::Stubs => {
+                let attributes = S_ATTR_PURE_INSTRUCTIONS | S_ATTR_SOME_INSTRUCTIONS;
+                own_section(
+                    alloc,
+                    b"__TEXT",
+                    b"__stubs",
+                    S_SYMBOL_STUBS as u8,
+                    attributes,
+                    2,
+                )
+            }
+            Made::UnwindInfo => {
+                own_section(alloc, b"__TEXT", b"__unwind_info", S_REGULAR as u8, 0, 2)
+            }
+            Made::Got => {
+                let kind = S_NON_LAZY_SYMBOL_POINTERS as u8;
+                own_section(alloc, b"__DATA_CONST", b"__got", kind, 0, 3)
+            }
+            Made::ThreadPtrs => {
+                let kind = S_THREAD_LOCAL_VARIABLE_POINTERS as u8;
+                own_section(alloc, b"__DATA", b"__thread_ptrs", kind, 0, 3)
+            }
         }
     }
 }
@@ -65,16 +87,16 @@ fn own_section(
     segment: &'static [u8],
     name: &'static [u8],
     kind: u8,
-    flags: u32,
+    attributes: u32,
     align: u8,
 ) -> OutSection
-    ensures { result ≡ record { segment = segment.now; name = name.now; kind = kind; flags = flags; align = align; atoms = [] } }
+    ensures { result ≡ record { segment = segment.now; name = name.now; kind = kind; flags = bit_or attributes kind; align = align; atoms = [] } }
 {
     OutSection {
         segment: Bytes::from_static(segment),
         name: Bytes::from_static(name),
         kind,
-        flags,
+        flags: attributes | u32::from(kind),
         align,
         atoms: KeyList::new(alloc),
     }
@@ -112,5 +134,5 @@ pub(crate) fn is_code(section: &OutSection) -> bool
 {
     is_in(section, b"__TEXT")
         && section.name.as_slice() == b"__text".as_slice()
-        && section.kind == 0
+        && u32::from(section.kind) == S_REGULAR
 }

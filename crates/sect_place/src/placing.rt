@@ -19,6 +19,7 @@ use crate::size::{PlaceFault, PlaceSizes};
 use crate::walk::{Laid, Room, place_groups};
 use crate::wide::{cap, sum_of};
 use mo_cmd::Command;
+use mo_format::loader::{VM_PROT_NONE, VM_PROT_READ};
 use mo_types::{AtomList, Bytes, OutOfMemory, OutSection, OutSections};
 use slot_plan::Slots;
 use std::alloc::Global;
@@ -138,7 +139,7 @@ fn first_segments(alloc: Global, dylib: bool) -> Result<Vec<Segment>, OutOfMemor
             vmsize: 0x1_0000_0000,
             file_offset: 0,
             file_size: 0,
-            protection: 0,
+            protection: VM_PROT_NONE,
             flags: 0,
             sections: 0,
         })?;
@@ -178,7 +179,7 @@ fn finished(alloc: Global, laid: Laid, base: u128) -> Result<Layout, PlaceFault>
         vmsize: 0,
         file_offset: cap(file),
         file_size: 0,
-        protection: 1,
+        protection: VM_PROT_READ,
         flags: 0,
         sections: 0,
     })?;

@@ -19,6 +19,9 @@ use crate::layout::{Placed, PlacedSection, Segment, compare};
 use crate::lookup::is_same;
 use crate::part::{Group, Part};
 use crate::wide::{cap, cap_count, sum_of, up};
+use mo_format::loader::{
+    S_THREAD_LOCAL_ZEROFILL, S_ZEROFILL, SG_READ_ONLY, VM_PROT_EXECUTE, VM_PROT_READ, VM_PROT_WRITE,
+};
 use mo_types::{Atom, AtomKey, Bytes, OutOfMemory, OutSection};
 use std::alloc::Global;
 
@@ -199,11 +202,12 @@ fn offset_of(kind: u8, at: u128) -> u128
     if is_zerofill(kind) { 0 } else { at }
 }
 
-// S_ZEROFILL and S_THREAD_LOCAL_ZEROFILL
-fn is_zerofill(kind: u8) -> bool
+/// Whether sections of a type have no bytes in the file (`loader.h`: S_ZEROFILL, S_THREAD_LOCAL_ZEROFILL).
+pub fn is_zerofill(kind: u8) -> bool
     ensures { result ≡ whole.is_zerofill kind }
 {
-    kind == 1 || kind == 0x12
+    let kind = u32::from(kind);
+    kind == S_ZEROFILL || kind == S_THREAD_LOCAL_ZEROFILL
 }
 
 /// Where everything stands, and where it ends in memory and in the file.
@@ -269,12 +273,12 @@ fn segment_at(name: Bytes, at: u128, next: u128, file: u128, bytes: u128, count:
     ensures { result ≡ capped_segment (record { name = name; address = at; vmsize = next - at; file_offset = file; file_size = bytes; protection = spec.protection_of name; flags = spec.flags_of name; sections = count }) }
 {
     let protection = if name.as_slice() == b"__TEXT".as_slice() {
-        5
+        VM_PROT_READ | VM_PROT_EXECUTE
     } else {
-        3
+        VM_PROT_READ | VM_PROT_WRITE
     };
     let flags = if name.as_slice() == b"__DATA_CONST".as_slice() {
-        0x10
+        SG_READ_ONLY
     } else {
         0
     };

@@ -9,7 +9,7 @@ raise-requires c = within_place c.args.sections.items c.in-Some.first (c.in-Some
 
 pub returns-in-Some : goal.returns-in-Some
 returns-in-Some c =
-    leads_one c.args.sections.items c.raise.new.sections.items c.greatest_of-greatest.result c.in-Some.first
-    (c.greatest_of-greatest.ensures ∙ ap (λ (xs : List OutSection). greatest_align (thread_local xs)) c.as_slice.ensures.value)
+    leads_one c.args.sections.items c.raise.new.sections.items c.greatest_align-greatest.result c.in-Some.first
+    (c.greatest_align-greatest.ensures ∙ ap (λ (xs : List OutSection). greatest_align (thread_local xs)) c.as_slice.ensures.value)
     (c.in-Some.ensures ∙ ap (λ (xs : List OutSection). position is_thread_local xs) c.as_slice-2.ensures.value)
     c.raise.ensures
