@@ -32,7 +32,7 @@ use Rattle.sect_place.specs.declared.part.Group.{Group}
 use Rattle.sect_place.specs.declared.part.Part.{Part}
 use Rattle.sect_place.proofs.Once.{Apart, apart_flat, listed_once}
 use Rattle.sect_place.proofs.Positions.{all_group_keys, choices, filter_keys_apart, flat_join, from_pairs, group_keys, keys_chosen, one_choice, part_keys}
-use Rattle.tlv_plan.proofs.Keys.{same_key}
+use Rattle.key_hints.proofs.Keys.{same_key}
 use Rattle.tlv_plan.specs.Template.{keys_of}
 
 -- ---- the keys of a layout's sections

@@ -30,7 +30,7 @@ use Rattle.mo_types.specs.declared.reference.Target.TheVariants.{Name, Local}
 use Rattle.kept_refs.specs.Undefined.{is_nobody, kept_refs, least, lesser, name_if, lost, lost_at, lost_in, lost_name, lost_names, targets_of, undefined, wanted}
 use Rattle.lib_bind.specs.declared.library.LibraryGraph.{LibraryGraph}
 use Rattle.mark_core.specs.Kept.{has}
-use Rattle.mark_core.proofs.KeyLemmas.{same_key}
+use Rattle.key_hints.proofs.Keys.{same_key}
 use Rattle.image_read.specs.Reaches as reaches
 use Rattle.image_read.specs.Held.{goal_address}
 use Rattle.mo_types.specs.Loaded.{IsWholeFile}

@@ -17,7 +17,7 @@ use Rattle.mo_types.specs.declared.key.AtomKey.{AtomKey}
 use Rattle.mo_types.specs.declared.out_section.OutSection.{OutSection}
 use Rattle.slot_plan.specs.declared.list.Slots.{Slots}
 use Rattle.tlv_plan.specs.Template.{aligned, atoms_of, keys_of, stand}
-use Rattle.tlv_plan.proofs.Keys.{same_key}
+use Rattle.key_hints.proofs.Keys.{same_key}
 use Rattle.sect_place.specs.Arrangement.{is_in, is_code, is_chosen, with_atoms, chosen, section_of, own, group_named, runs_from, runs, MadeBytes, text_parts, constant_parts, writable_parts, groups_of}
 use Rattle.sect_place.specs.Layout.{plan_of, made_bytes, image_places}
 use Rattle.sect_place.specs.Places.{with_area, spaced, places, part_from, part_end, parts_places, page_up, group_end, groups_places, area_unit}

@@ -16,9 +16,9 @@ ghost use Rattle.sect_place.specs.inner.Room.{IsRoom, capped_place, capped_secti
 
 use crate::island::IslandArea;
 use crate::layout::{Placed, PlacedSection, Segment, compare};
-use crate::lookup::is_same;
 use crate::part::{Group, Part};
 use crate::wide::{cap, cap_count, sum_of, up};
+use key_hints::is_same;
 use mo_types::{Atom, AtomKey, Bytes, OutOfMemory, OutSection};
 use std::alloc::Global;
 
