@@ -387,7 +387,8 @@ choices_apart = (first, (second, (third, (fourth, ((λ h. h), tt)))))
     first (inr (inr (inr (inl e)))) = cc
     first (inr (inr (inr (inr h)))) = h
 
-all_apart : (sections : List OutSection) → Apart (keys_of sections) → Apart (flat_map (keys_chosen sections) choices)
+-- what sections list once is placed once, whatever their choice
+pub all_apart : (sections : List OutSection) → Apart (keys_of sections) → Apart (flat_map (keys_chosen sections) choices)
 unfolding keys_chosen
 all_apart sections a =
     apart_flat (λ (choice : Choice). keys_of (filter (is_chosen choice) sections)) choices choices_apart (λ choice h. filter_keys_apart (is_chosen choice) sections a) (λ c d key p q h k. one_choice sections key c d a h k)
