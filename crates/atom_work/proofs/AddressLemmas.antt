@@ -14,7 +14,7 @@ use Rattle.mo_types.specs.declared.key.AtomKey.{AtomKey}
 use Rattle.mo_types.proofs.KeyOrder.{compare_keys_total}
 use Rattle.sect_place.specs.declared.layout.Placed.{Placed}
 use Rattle.patch.proofs.LeastLemmas.{element_at}
-use Rattle.tlv_plan.proofs.Keys.{same_key}
+use Rattle.key_hints.proofs.Keys.{same_key}
 use Rattle.atom_work.specs.Addresses.{AreOnce, address_in}
 
 -- an entry of the atom

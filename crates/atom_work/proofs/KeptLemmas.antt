@@ -7,9 +7,9 @@ use Rattle.mo_types.specs.declared.atom.Atom.{Atom}
 use Rattle.mo_types.specs.declared.key.AtomKey.{AtomKey}
 use Rattle.mo_types.specs.declared.loaded.LoadedFile.{LoadedFile}
 use Rattle.resolve.specs.declared.representative.Representative.{Representative}
+use Rattle.resolve.proofs.GrowLemmas.{IsGrowing, grow_end, grow_item, grow_start}
 use Rattle.atom_work.specs.Atoms.{kept_as, kept_atoms, kept_in}
 use Rattle.atom_work.specs.declared.kept.KeptAtom.{KeptAtom}
-use Rattle.atom_work.proofs.GrowLemmas.{IsGrowing, grow_end, grow_item, grow_start}
 
 -- an atom, if it is kept
 abbrev pub kept_if : List Representative → List AtomKey → ℕ → Atom → List KeptAtom

@@ -124,7 +124,7 @@ fn with_met(
 }
 
 // References, and those at some places of a file's list.
-#[tactic(auto, using(crate::proofs::GrowLemmas::grow_start, crate::proofs::GrowLemmas::grow_end))]
+#[tactic(auto, using(resolve::proofs::GrowLemmas::grow_start, resolve::proofs::GrowLemmas::grow_end))]
 fn with_spots(
     before: Vec<Met>,
     winners: &Winners,

@@ -1,6 +1,6 @@
 -- Each kept atom that has a section stands in one of the image's.
-use Rattle.std.proofs.Common.{◌≡◌, ℕ, ◌+◌, ◌⊎◌, inl, inr, true, false, not, List, [], ◌∷◌, ◌++◌, map, Option, Some, None, Contains, refl, sym, ap, ◌∙◌, subst}
-use Rattle.std.specs.List.{filter, filter_map}
+use Rattle.std.proofs.Common.{◌≡◌, ℕ, ◌+◌, ◌⊎◌, inl, inr, true, false, not, List, [], ◌∷◌, ◌++◌, map, Some, Contains, refl, sym, ap, subst}
+use Rattle.std.specs.List.{filter}
 use Rattle.std.proofs.lemmas.Bool.{cases_Bool}
 use Rattle.std.proofs.lemmas.List.Sorted.{Contains-permutation}
 use Rattle.list_lemmas.proofs.Members.{Contains_from_in, In, from_map, in_filter, in_from_Contains, in_map}
@@ -19,7 +19,7 @@ use Rattle.sect_place.specs.declared.layout.Placed.{Placed}
 use Rattle.sect_place.specs.declared.layout.PlacedSection.{PlacedSection}
 use Rattle.sect_place.specs.declared.part.Group.{Group}
 use Rattle.sect_place.specs.declared.part.Part.{Part}
-use Rattle.sect_place.proofs.Listed.{in_flat, in_left, in_right, kept_are_listed}
+use Rattle.sect_place.proofs.Listed.{in_chosen, in_flat, in_left, in_right, kept_are_listed}
 use Rattle.sect_place.proofs.Once.{from_append}
 use Rattle.sect_place.proofs.Positions.{keys_listed, placed_there}
 use Rattle.atom_work.specs.Addresses.{Scene, address_in}
@@ -122,15 +122,6 @@ seated m layout kept home rising laid keeps is =
       address = placed.0;
       stood = sym (address_is layout.placed key (Some placed.0) (placed_once m layout rising laid) there);
     }
-
-in_chosen : {X Y : Type 0} (f : X → Option Y) (xs : List X) (x : X) (y : Y) → In x xs → f x ≡ Some y → In y (filter_map f xs)
-in_chosen f [] x y h is = absurd h
-in_chosen f (z ∷ xs) x y (inl e) is = let here : f z ≡ Some y = ap f e ∙ is in rw here (inl refl)
-in_chosen {Y = Y} f (z ∷ xs) x y (inr h) is = by (f z) refl (in_chosen f xs x y h is)
-  where
-    by : (o : Option Y) → f z ≡ o → In y (filter_map f xs) → In y (filter_map f (z ∷ xs))
-    by None e rest = rw e rest
-    by (Some w) e rest = rw e (inr rest)
 
 row_is : (scene : Scene) (files : List LoadedFile) (goals : List (List Goal)) (atoms : List KeptAtom) (section : PlacedSection) (key : AtomKey) (kept : KeptAtom) (address : ℕ) → kept_at atoms key ≡ Some kept → address_in scene.placed key ≡ Some address → row_of scene files goals atoms section key ≡ Some (row_at scene files goals section kept address)
 unfolding row_of

@@ -16,7 +16,7 @@ use Rattle.mo_types.specs.declared.atom.Atom.{Atom}
 use Rattle.mo_types.specs.declared.key.AtomKey.{AtomKey}
 use Rattle.mo_types.specs.declared.goal.Goal.{Goal}
 use Rattle.mo_types.specs.declared.loaded.LoadedFile.{LoadedFile}
-use Rattle.tlv_plan.proofs.Keys.{find_found}
+use Rattle.key_hints.proofs.Keys.{find_found}
 use Rattle.sect_place.specs.Layout.{image_places, image_sections, plan_of}
 use Rattle.sect_place.specs.OutSections.{out_sections}
 use Rattle.sect_place.specs.Places.{area_unit, spaced, with_area}

@@ -3,18 +3,18 @@ use Rattle.std.proofs.Common.{◌≡◌, ℕ, ◌+◌, ◌<◌, ◌≤◌, ◌++
 use Rattle.std.proofs.Math.Seq.{take-add}
 use Rattle.std.proofs.lemmas.List.{append-nil, take_all}
 use Rattle.std.proofs.lemmas.Option.{slice_get-get_or}
+use Rattle.link_files.proofs.LostLemmas.{from_here}
 use Rattle.mo_outside.specs.Log.{OutCall}
 use Rattle.mo_outside.specs.Tells.{Tells}
 use Rattle.mo_outside.specs.Written.{Written}
 use Rattle.link_engine.specs.Writing.{AreCallsUpTo, AreFileCalls, AreFilesCalls, ArePartCalls, Hands, WritesAll, WritesPart, WritesUpTo, WritesWhole, whole_file}
-use Rattle.link_engine.proofs.Places.{from_place}
 use Rattle.link_engine.proofs.WritingLemmas.{tells_both}
 
 abbrev Files : Type 0
 Files = List (List ℕ × List ℕ)
 
 pub one_more : {A : Type 0} (xs : List A) (at : ℕ) (x : A) → at < length xs → x ≡ get_or xs at x → take at xs ++ x ∷ [] ≡ take (at + 1) xs
-one_more xs at x within is = sym (take-add at 1 xs ∙ ap (λ rest. take at xs ++ take 1 rest) (from_place xs at x within is))
+one_more xs at x within is = sym (take-add at 1 xs ∙ ap (λ rest. take at xs ++ take 1 rest) (from_here xs at x within is))
 
 pub map-append : {A B : Type 0} (f : A → B) (xs ys : List A) → map f (xs ++ ys) ≡ map f xs ++ map f ys
 map-append f [] ys = refl

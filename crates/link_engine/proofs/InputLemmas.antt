@@ -8,13 +8,13 @@ use Rattle.std.specs.declared.cmp.Ordering.TheVariants.{Less}
 use Rattle.std.proofs.lemmas.List.{append-nil, drop_all}
 use Rattle.list_lemmas.proofs.Members.{In}
 use Rattle.input_fetch.specs.declared.content.Content.{Content}
+use Rattle.link_files.proofs.LostLemmas.{from_here}
 use Rattle.member_rounds.specs.Sources.{AreInOrder}
 use Rattle.member_rounds.specs.declared.input.Input.{Input}
 use Rattle.member_rounds.proofs.StateLemmas.{all_from}
 use Rattle.mo_cmd.specs.declared.command.Command.{Command}
 use Rattle.mo_cmd.specs.declared.command.CommandInput.{CommandInput}
 use Rattle.link_engine.specs.Input.{input_at, inputs_from, inputs_with}
-use Rattle.link_engine.proofs.Places.{from_place}
 
 -- ---- they rise
 
@@ -63,8 +63,8 @@ make_more command contents made new at input content one are low size is here sa
     let all : Bool = command.all_load in
     let inputs : List CommandInput = command.inputs in
     let front : inputs_from all at (drop at inputs) (drop at contents) ≡ one ∷ inputs_from all (at + 1) (drop (at + 1) inputs) (drop (at + 1) contents) =
-    ap (λ (xs : List CommandInput). inputs_from all at xs (drop at contents)) (from_place inputs at input low is)
-    ∙ ap (λ (xs : List Content). inputs_from all at (input ∷ drop (at + 1) inputs) xs) (from_place contents at content (omega (arith, low, size)) here)
+    ap (λ (xs : List CommandInput). inputs_from all at xs (drop at contents)) (from_here inputs at input low is)
+    ∙ ap (λ (xs : List Content). inputs_from all at (input ∷ drop (at + 1) inputs) xs) (from_here contents at content (omega (arith, low, size)) here)
     ∙ ap (λ (x : Input). x ∷ inputs_from all (at + 1) (drop (at + 1) inputs) (drop (at + 1) contents)) (sym same) in
     record {
       same =

@@ -3,7 +3,6 @@ pub mod FilesLemmas
 pub mod InputLemmas
 pub mod LinkLemmas
 pub mod OneLemmas
-pub mod Places
 pub mod PlanLemmas
 pub mod ReadLemmas
 pub mod SaysLemmas

@@ -20,53 +20,19 @@ use Rattle.mo_types.specs.declared.key.AtomKey.{AtomKey}
 use Rattle.mo_types.specs.declared.loaded.LoadedFile.{LoadedFile}
 use Rattle.mo_types.specs.declared.out_section.OutSection.{OutSection}
 use Rattle.patch.specs.declared.range.PlacedWork.{PlacedWork}
-use Rattle.sect_place.specs.Arrangement.{is_chosen}
 use Rattle.sect_place.specs.Layout.{IsLayoutOf, image_sections, plan_of}
 use Rattle.sect_place.specs.OutSections.{out_sections}
 use Rattle.sect_place.specs.Places.{file_bytes, group_end, groups_sections, page_up, part_end, parts_sections, placed_section}
 use Rattle.sect_place.specs.declared.layout.Layout.{Layout}
 use Rattle.sect_place.specs.declared.layout.PlacedSection.{PlacedSection}
-use Rattle.sect_place.specs.declared.part.Choice.{Choice}
-use Rattle.sect_place.specs.declared.part.Choice.TheVariants.{BesideCode, Code, Constant, Elsewhere, Writable}
 use Rattle.sect_place.specs.declared.part.Group.{Group}
 use Rattle.sect_place.specs.declared.part.Part.{Part}
-use Rattle.sect_place.proofs.Once.{Apart, apart_flat, listed_once}
-use Rattle.sect_place.proofs.Positions.{all_group_keys, choices, filter_keys_apart, flat_join, from_pairs, group_keys, keys_chosen, one_choice, part_keys}
-use Rattle.tlv_plan.proofs.Keys.{same_key}
+use Rattle.sect_place.proofs.Once.{Apart, listed_once}
+use Rattle.sect_place.proofs.Positions.{all_apart, all_group_keys, flat_join, from_pairs, group_keys, part_keys}
+use Rattle.key_hints.proofs.Keys.{same_key}
 use Rattle.tlv_plan.specs.Template.{keys_of}
 
 -- ---- the keys of a layout's sections
-
-choices_apart : Apart choices
-unfolding choices
-choices_apart = (first, (second, (third, (fourth, ((λ h. h), tt)))))
-  where
-    fourth : In Writable (Elsewhere ∷ []) → ⊥
-    fourth (inl e) = cc
-    fourth (inr h) = h
-
-    third : In Constant (Writable ∷ Elsewhere ∷ []) → ⊥
-    third (inl e) = cc
-    third (inr (inl e)) = cc
-    third (inr (inr h)) = h
-
-    second : In BesideCode (Constant ∷ Writable ∷ Elsewhere ∷ []) → ⊥
-    second (inl e) = cc
-    second (inr (inl e)) = cc
-    second (inr (inr (inl e))) = cc
-    second (inr (inr (inr h))) = h
-
-    first : In Code (BesideCode ∷ Constant ∷ Writable ∷ Elsewhere ∷ []) → ⊥
-    first (inl e) = cc
-    first (inr (inl e)) = cc
-    first (inr (inr (inl e))) = cc
-    first (inr (inr (inr (inl e)))) = cc
-    first (inr (inr (inr (inr h)))) = h
-
-all_apart : (sections : List OutSection) → Apart (keys_of sections) → Apart (flat_map (keys_chosen sections) choices)
-unfolding keys_chosen
-all_apart sections a =
-    apart_flat (λ (choice : Choice). keys_of (filter (is_chosen choice) sections)) choices choices_apart (λ choice h. filter_keys_apart (is_chosen choice) sections a) (λ c d key p q h k. one_choice sections key c d a h k)
 
 -- the keys that sections list
 abbrev section_keys : List PlacedSection → List AtomKey

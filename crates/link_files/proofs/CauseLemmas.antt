@@ -42,11 +42,11 @@ no_error e = absurd cc
 
 -- ---- limits
 
-few_names : (command : Command) (files : List LoadedFile) → length (all_names command files) < 2 ^ 24 → names_of command files ≡ Ok (all_names command files)
+pub few_names : (command : Command) (files : List LoadedFile) → length (all_names command files) < 2 ^ 24 → names_of command files ≡ Ok (all_names command files)
 unfolding names_of gathered
 few_names command files few = rw (lt-ltb _ _ few) refl
 
-many_names : (command : Command) (files : List LoadedFile) → 2 ^ 24 ≤ length (all_names command files) → names_of command files ≡ Err (refusal.Limit which.Names)
+pub many_names : (command : Command) (files : List LoadedFile) → 2 ^ 24 ≤ length (all_names command files) → names_of command files ≡ Err (refusal.Limit which.Names)
 unfolding names_of gathered
 many_names command files many = by (nat_lt (length (all_names command files)) (2 ^ 24)) refl
   where
@@ -54,11 +54,11 @@ many_names command files many = by (nat_lt (length (all_names command files)) (2
     by true low = let less : length (all_names command files) < 2 ^ 24 = ltb-true _ _ low in absurd (omega (arith, less, many))
     by false low = rw low refl
 
-few_atoms : (files : List LoadedFile) → atoms_in files < 2 ^ 24 → atoms_refusal files ≡ None
+pub few_atoms : (files : List LoadedFile) → atoms_in files < 2 ^ 24 → atoms_refusal files ≡ None
 unfolding atoms_refusal
 few_atoms files few = rw (lt-ltb _ _ few) refl
 
-many_atoms : (files : List LoadedFile) → 2 ^ 24 ≤ atoms_in files → atoms_refusal files ≡ Some (refusal.Limit which.Atoms)
+pub many_atoms : (files : List LoadedFile) → 2 ^ 24 ≤ atoms_in files → atoms_refusal files ≡ Some (refusal.Limit which.Atoms)
 unfolding atoms_refusal
 many_atoms files many = by (nat_lt (atoms_in files) (2 ^ 24)) refl
   where

@@ -1,14 +1,12 @@
 -- The atoms of whole files that are kept rise, and none is aligned to more than a page.
-use Rattle.std.proofs.Common.{◌≡◌, ℕ, suc, ◌+◌, ◌<◌, ◌≤◌, Bool, true, false, List, [], ◌∷◌, ◌++◌, map, max, Option, Some, None, inl, inr, refl, sym, ap, subst, ◌∙◌, arith}
+use Rattle.std.proofs.Common.{◌≡◌, ℕ, ◌+◌, ◌≤◌, Bool, true, false, List, [], ◌∷◌, ◌++◌, map, max, Option, Some, None, inl, inr, refl, sym, ap, subst, ◌∙◌, arith}
 use Rattle.std.specs.Prelude.{All}
-use Rattle.std.specs.List.{AllByRecursion, AllPairs, enumerate_from, filter, filter_map, find, flat_map, fold}
+use Rattle.std.specs.List.{AllByRecursion, AllPairs, enumerate_from, filter, find, flat_map, fold}
 use Rattle.std.specs.List.Sorted.{IsStrictlySortedBy}
 use Rattle.std.specs.Option.{option_map_or}
-use Rattle.std.specs.Ordering.{is_eq, nat_cmp, on, ordering_then}
-use Rattle.std.specs.Cmp.{nat_cmp_is}
-use Rattle.std.specs.declared.cmp.Ordering.TheVariants.{Less, Equal}
+use Rattle.std.specs.Ordering.{is_eq, on}
+use Rattle.std.specs.declared.cmp.Ordering.TheVariants.{Less}
 use Rattle.std.proofs.Math.Nat.{max-le}
-use Rattle.std.proofs.lemmas.Cmp.{tied_itself}
 use Rattle.std.proofs.lemmas.List.Elements.{recursion_from_All}
 use Rattle.list_lemmas.proofs.Members.{In, all_at, all_from_in, all_in, find_some, from_filter, from_map}
 use Rattle.mark_core.specs.Kept.{has}
@@ -17,65 +15,18 @@ use Rattle.mo_types.specs.declared.key.AtomKey.{AtomKey}
 use Rattle.mo_types.specs.declared.key.FileId.{FileId}
 use Rattle.mo_types.specs.declared.loaded.Loaded.{Loaded}
 use Rattle.mo_types.specs.declared.loaded.LoadedFile.{LoadedFile}
-use Rattle.mo_types.specs.declared.object.Object.{Object}
-use Rattle.mo_types.specs.declared.object.Section.{Section}
-use Rattle.mo_types.specs.Atoms.{atoms_from, atoms_of, cuts, piece, pieces, section_atoms}
+use Rattle.mo_types.specs.Atoms.{atoms_of}
 use Rattle.mo_types.specs.Keys.{compare_files, compare_keys}
 use Rattle.mo_types.specs.Loaded.{IsBefore, IsWholeLoaded}
-use Rattle.mo_types.specs.RelocationRules.{section_numbered}
-use Rattle.mo_types.specs.Whole.{is_dropped}
-use Rattle.mo_types.proofs.KeyOrder.{compare_files_total}
 use Rattle.atom_cut.specs.Laws as cut_laws
 use Rattle.atom_cut.proofs.KeyLemmas.{atoms_rise}
 use Rattle.atom_work.specs.Atoms.{kept_as, kept_atoms, kept_in, raised}
 use Rattle.atom_work.specs.declared.kept.KeptAtom.{KeptAtom}
-use Rattle.resolve.specs.Representatives.{Literal, greatest_align, is_literal, is_same, literal_at as as_literal, literals, literals_in, representative_among, representative_of, representatives_of}
+use Rattle.resolve.specs.Representatives.{Literal, greatest_align, is_same, literals, literals_in, representative_among, representative_of, representatives_of}
 use Rattle.resolve.specs.declared.representative.Representative.{Representative}
+use Rattle.resolve.proofs.RepresentativeLemmas.{atoms_of_file, keys_before, literal_of, pairs_head, pairs_tail}
 use Rattle.sect_place.proofs.Once.{from_append, from_flat}
 use Rattle.link_files.specs.Linked.{AreLow}
-
--- ---- atoms of a file have its id
-
-pieces_of_file : (file : FileId) (number : ℕ) (section : Section) (cs : List ℕ) (atom : Atom) → In atom (pieces file number section cs) → atom.key.file ≡ file
-unfolding piece
-pieces_of_file file number section [] atom h = absurd h
-pieces_of_file file number section (c ∷ cs) atom (inl e) = sym (ap (λ (a : Atom). a.key.file) e)
-pieces_of_file file number section (c ∷ cs) atom (inr h) = pieces_of_file file number section cs atom h
-
-section_of_file : (object : Object) (file : FileId) (number : ℕ) (section : Section) (atom : Atom) → In atom (section_atoms object file number section) → atom.key.file ≡ file
-unfolding section_atoms
-section_of_file object file number section atom h = by (is_dropped section) refl
-  where
-    by : (t : Bool) → is_dropped section ≡ t → atom.key.file ≡ file
-    by true e = absurd (rw e at h)
-    by false e = pieces_of_file file number section (cuts object number section) atom (rw e at h)
-
-sections_of_file : (object : Object) (file : FileId) (number : ℕ) (sections : List Section) (atom : Atom) → In atom (atoms_from object file number sections) → atom.key.file ≡ file
-sections_of_file object file number [] atom h = absurd h
-sections_of_file object file number (section ∷ sections) atom h = elim (from_append (section_atoms object file number section) (atoms_from object file (number + 1) sections) atom h) [
-  | inl here ↦ section_of_file object file number section atom here
-  | inr later ↦ sections_of_file object file (number + 1) sections atom later
-]
-
-atoms_of_file : (object : Object) (file : FileId) (atom : Atom) → In atom (atoms_of object file) → atom.key.file ≡ file
-unfolding atoms_of
-atoms_of_file object file atom h = sections_of_file object file 1 object.sections atom h
-
--- ---- they rise
-
-less_than : (a b : ℕ) → a < b → nat_cmp a b ≡ Less
-less_than a b low = sym (nat_cmp_is a b Less low)
-
-keys_before : (a b : AtomKey) → a.file ≡ b.file → cut_laws.IsBefore a b → compare_keys a b ≡ Less
-keys_before a b file before =
-    let tie : compare_files a.file b.file ≡ Equal = subst (λ (f : FileId). compare_files a.file f ≡ Equal) file (tied_itself compare_files_total a.file) in
-    rw tie (by before)
-  where
-    by : cut_laws.IsBefore a b → ordering_then (nat_cmp a.section b.section) (nat_cmp a.offset b.offset) ≡ Less
-    by (inl low) = rw (less_than a.section b.section low) refl
-    by (inr same) =
-        let e : nat_cmp a.section b.section ≡ Equal = sym (nat_cmp_is a.section b.section Equal same.0) in
-        rw (e, less_than a.offset b.offset same.1) refl
 
 -- a file whose pieces are those of its object
 abbrev pub IsCut : LoadedFile → Type 0
@@ -95,25 +46,16 @@ from_kept literals keys at atoms one h =
     let m = from_map (kept_as literals at) (filter (λ (atom : Atom). has keys atom.key) atoms) one h in
     (m.0, (from_filter (λ (atom : Atom). has keys atom.key) atoms m.0 m.1).0, ap (λ (k : KeptAtom). k.atom.key) m.2, ap (λ (k : KeptAtom). k.atom) m.2)
 
-pairs_tail : {X : Type 0} (P : X → X → Type 0) (x : X) (xs : List X) → AllPairs P (x ∷ xs) → AllPairs P xs
-pairs_tail P x xs h = λ i j d less within. h (suc i) (suc j) d (omega (arith, less)) (omega (arith, within))
-
-pairs_head : {X : Type 0} (P : X → X → Type 0) (x : X) (xs : List X) → AllPairs P (x ∷ xs) → All (P x) xs
-pairs_head P x xs h = λ k d low. h 0 (suc k) d (omega arith) (omega (arith, low))
-
 atoms_in_order : (literals : List Representative) (keys : List AtomKey) (at : ℕ) (file : FileId) (atoms : List Atom) → AllPairs (λ a b. cut_laws.IsBefore a.key b.key) atoms → ((atom : Atom) → In atom atoms → atom.key.file ≡ file)
     → IsStrictlySortedBy (on by_key compare_keys) (kept_of literals keys at atoms)
 unfolding IsStrictlySortedBy kept_of raised
 atoms_in_order literals keys at file [] pairs own = tt
 atoms_in_order literals keys at file (atom ∷ atoms) pairs own = by (atoms_in_order literals keys at file atoms (pairs_tail (λ (a : Atom) (b : Atom). cut_laws.IsBefore a.key b.key) atom atoms pairs) (λ a h. own a (inr h))) (has keys atom.key) refl
   where
-    behind : AllByRecursion (λ b. cut_laws.IsBefore atom.key b.key) atoms
-    behind = recursion_from_All (λ (b : Atom). cut_laws.IsBefore atom.key b.key) atoms (pairs_head (λ (a : Atom) (b : Atom). cut_laws.IsBefore a.key b.key) atom atoms pairs)
-
     less : (one : KeptAtom) → In one (kept_of literals keys at atoms) → compare_keys atom.key one.atom.key ≡ Less
     less one h =
         let m = from_kept literals keys at atoms one h in
-        let before : compare_keys atom.key m.0.key ≡ Less = keys_before atom.key m.0.key (own atom (inl refl) ∙ sym (own m.0 (inr m.1))) (all_in (λ (b : Atom). cut_laws.IsBefore atom.key b.key) atoms m.0 behind m.1) in
+        let before : compare_keys atom.key m.0.key ≡ Less = keys_before atom.key m.0.key (own atom (inl refl) ∙ sym (own m.0 (inr m.1))) (pairs_head (λ (a : Atom) (b : Atom). cut_laws.IsBefore a.key b.key) atom atoms m.0 pairs m.1) in
         subst (λ (k : AtomKey). compare_keys atom.key k ≡ Less) m.2 before
 
     by : IsStrictlySortedBy (on by_key compare_keys) (kept_of literals keys at atoms) → (t : Bool) → has keys atom.key ≡ t → IsStrictlySortedBy (on by_key compare_keys) (kept_of literals keys at (atom ∷ atoms))
@@ -157,13 +99,10 @@ files_in_order literals keys at (file ∷ files) pairs cut =
     (files_in_order literals keys (at + 1) files (pairs_tail (λ (a : LoadedFile) (b : LoadedFile). IsBefore a.id b.id) file files pairs) cut.1)
     across
   where
-    behind : AllByRecursion (λ b. IsBefore file.id b.id) files
-    behind = recursion_from_All (λ (b : LoadedFile). IsBefore file.id b.id) files (pairs_head (λ (a : LoadedFile) (b : LoadedFile). IsBefore a.id b.id) file files pairs)
-
     across : (a b : KeptAtom) → In a (kept_of literals keys at file.atoms) → In b (flat_map (kept_in literals keys) (enumerate_from (at + 1) files)) → compare_keys a.atom.key b.atom.key ≡ Less
     across a b h k =
         let m = later_file literals keys (at + 1) files cut.1 b k in
-        let before : compare_files file.id m.0.id ≡ Less = all_in (λ (c : LoadedFile). IsBefore file.id c.id) files m.0 behind m.1 in
+        let before : compare_files file.id m.0.id ≡ Less = pairs_head (λ (a : LoadedFile) (c : LoadedFile). IsBefore a.id c.id) file files m.0 pairs m.1 in
         let first : compare_files a.atom.key.file b.atom.key.file ≡ Less = rw (own_file literals keys at file cut.0 a h, m.2) before in
         rw first refl
 
@@ -180,23 +119,6 @@ folded : (most : ℕ) (numbers : List ℕ) (first : ℕ) → first ≤ most → 
 folded most [] first low all = low
 folded most (n ∷ numbers) first low all = folded most numbers (max first n) (max-le low (all n (inl refl))) (λ m h. all m (inr h))
 
--- a literal of some atoms is aligned as one of them
-align_of : (object : Object) (atoms : List Atom) (l : Literal) → In l (filter_map (as_literal object) atoms) → (atom : Atom) × In atom atoms × (l.align ≡ atom.align)
-unfolding as_literal
-align_of object [] l h = absurd h
-align_of object (atom ∷ atoms) l h = by (λ m. align_of object atoms l m) (section_numbered object.sections atom.key.section) refl
-  where
-    by : (In l (filter_map (as_literal object) atoms) → (a : Atom) × In a atoms × (l.align ≡ a.align)) → (s : Option Section) → section_numbered object.sections atom.key.section ≡ s → (a : Atom) × In a (atom ∷ atoms) × (l.align ≡ a.align)
-    by later None e = let m = later (rw e at h) in (m.0, inr m.1, m.2)
-    by later (Some section) e = test (is_literal section.kind) refl
-      where
-        test : (t : Bool) → is_literal section.kind ≡ t → (a : Atom) × In a (atom ∷ atoms) × (l.align ≡ a.align)
-        test true f = elim (rw (e, f) at h) [
-          | inl same ↦ (atom, inl refl, sym (ap (λ (x : Literal). x.align) same))
-          | inr rest ↦ let m = later rest in (m.0, inr m.1, m.2)
-        ]
-        test false f = let m = later (rw (e, f) at h) in (m.0, inr m.1, m.2)
-
 low_atom : (files : List LoadedFile) → AreLow files → (file : LoadedFile) → In file files → (atom : Atom) → In atom file.atoms → atom.align ≤ 14
 low_atom files low file h atom k =
     let here : All (λ a. a.align ≤ 14) file.atoms = all_in (λ (f : LoadedFile). All (λ a. a.align ≤ 14) f.atoms) files file (recursion_from_All (λ (f : LoadedFile). All (λ a. a.align ≤ 14) f.atoms) files low) h in
@@ -206,8 +128,8 @@ low_literal : (files : List LoadedFile) → AreLow files → (l : Literal) → I
 unfolding literals literals_in
 low_literal files low l h =
     let of = from_flat literals_in files l h in
-    let m = align_of of.0.object of.0.atoms l of.2 in
-    subst (λ n. n ≤ 14) (sym m.2) (low_atom files low of.0 of.1 m.0 m.1)
+    let m = literal_of of.0.object of.0.atoms l of.2 in
+    subst (λ n. n ≤ 14) (sym m.align) (low_atom files low of.0 of.1 m.atom m.among)
 
 low_representative : (files : List LoadedFile) → AreLow files → (l : Literal) → In l (literals files) → (representative_of (literals files) l).align ≤ 14
 unfolding representative_of representative_among greatest_align

@@ -24,7 +24,8 @@ pub record IsSifted {X : Type 0} (test : X → Bool) (kept xs : List X) (at : �
 pub sift_starts : {X : Type 0} (test : X → Bool) (xs : List X) → IsSifted test [] xs 0
 sift_starts test xs = record { same = refl }
 
-from_here : {X : Type 0} (xs : List X) (at : ℕ) (x : X) → at < length xs → x ≡ get_or xs at x → drop at xs ≡ x ∷ drop (at + 1) xs
+-- a list from a place on, where the element there is known
+pub from_here : {X : Type 0} (xs : List X) (at : ℕ) (x : X) → at < length xs → x ≡ get_or xs at x → drop at xs ≡ x ∷ drop (at + 1) xs
 from_here xs at x within is = rw (drop-cons xs at x within, ← is, add-one) refl
 
 passing : {X : Type 0} (test : X → Bool) (x : X) (rest : List X) → test x ≡ true → filter test (x ∷ rest) ≡ x ∷ filter test rest

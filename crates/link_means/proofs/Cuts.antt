@@ -17,7 +17,6 @@ use Rattle.atom_cut.proofs.OwnBytes.{atoms_have_bytes}
 use Rattle.atom_cut.proofs.TileLemmas.{greatest_cut}
 use Rattle.image_means.proofs.Loading.{from_all}
 use Rattle.sect_place.proofs.Listed.{in_left, in_right}
-use Rattle.sect_place.proofs.Once.{from_append}
 use Rattle.link_means.proofs.Lists.{in_range, in_slice, no_some, some_is}
 
 abbrev pub key_at : FileId → ℕ → ℕ → AtomKey
@@ -78,35 +77,6 @@ atom_there object file number section at is linked =
     let place = at_place object.sections number section is in
     numbered_there object file 1 object.sections place.0 section (key_at file number (cut_of object number section at)) place.2
     (subst (λ (n : ℕ). HasKey (section_atoms object file n section) (key_at file number (cut_of object number section at))) (sym place.1) (section_there object file number section at linked))
-
--- ---- an atom is of its file
-
-pieces_of_file : (file : FileId) (number : ℕ) (section : Section) (cs : List ℕ) (atom : Atom) → In atom (pieces file number section cs) → atom.key.file ≡ file
-unfolding piece
-pieces_of_file file number section [] atom h = absurd h
-pieces_of_file file number section (c ∷ cs) atom (inl e) = sym (ap (λ (a : Atom). a.key.file) e)
-pieces_of_file file number section (c ∷ cs) atom (inr h) = pieces_of_file file number section cs atom h
-
-section_of_file : (object : Object) (file : FileId) (number : ℕ) (section : Section) (atom : Atom) → In atom (section_atoms object file number section) → atom.key.file ≡ file
-unfolding section_atoms
-section_of_file object file number section atom h = by (is_dropped section) refl
-  where
-    by : (t : Bool) → is_dropped section ≡ t → atom.key.file ≡ file
-    by true e = absurd (rw e at h)
-    by false e = pieces_of_file file number section (cuts object number section) atom (rw e at h)
-
-sections_of_file : (object : Object) (file : FileId) (number : ℕ) (sections : List Section) (atom : Atom) → In atom (atoms_from object file number sections) → atom.key.file ≡ file
-sections_of_file object file number [] atom h = absurd h
-sections_of_file object file number (section ∷ sections) atom h = elim (from_append (section_atoms object file number section) (atoms_from object file (number + 1) sections) atom h) [
-  | inl here ↦ section_of_file object file number section atom here
-  | inr later ↦ sections_of_file object file (number + 1) sections atom later
-]
-
-pub atom_of_file : (object : Object) (file : FileId) (atom : Atom) → In atom (atoms_of object file) → atom.key.file ≡ file
-unfolding atoms_of
-atom_of_file object file atom h = sections_of_file object file 1 object.sections atom h
-
--- ---- an atom is within a section
 
 pub record IsPiece (object : Object) (atom : Atom) : Type 0 where
   pub section : Section

@@ -1,6 +1,6 @@
 -- What files link to is an image: none of the steps refused.
-use Rattle.std.proofs.Common.{◌≡◌, ℕ, ◌<◌, ◌≤◌, ◌^◌, Bool, true, false, nat_lt, List, length, Option, Some, None, Result, Ok, Err, refl, sym, subst, arith}
-use Rattle.std.proofs.lemmas.Bool.{ltb-false, ltb-true, lt-ltb}
+use Rattle.std.proofs.Common.{◌≡◌, ℕ, ◌<◌, ◌≤◌, ◌^◌, Bool, true, false, nat_lt, List, length, Option, Some, None, Result, Ok, Err, refl, sym, subst}
+use Rattle.std.proofs.lemmas.Bool.{ltb-false, ltb-true}
 use Rattle.image_make.specs.Made.{IsMade}
 use Rattle.image_make.specs.declared.fault.MakeFault.{MakeFault}
 use Rattle.image_make.specs.declared.fault.MakeFault.TheVariants as make
@@ -16,7 +16,6 @@ use Rattle.mo_types.specs.declared.cause.Which.TheVariants as which
 use Rattle.mo_types.specs.declared.key.AtomKey.{AtomKey}
 use Rattle.mo_types.specs.declared.key.FileId.{FileId}
 use Rattle.mo_types.specs.declared.loaded.LoadedFile.{LoadedFile}
-use Rattle.name_ids.specs.Names.{gathered}
 use Rattle.resolve.specs.Duplicates.{IsDuplicate}
 use Rattle.resolve.specs.Goals.{goal_table}
 use Rattle.resolve.specs.Representatives.{representatives_of}
@@ -26,38 +25,13 @@ use Rattle.link_files.specs.Flags.{header_flags}
 use Rattle.link_files.specs.Later.{later_entry, later_file, later_refusal}
 use Rattle.link_files.specs.Linked.{AsKept, AsMade, AsNamed, IsAnswer, IsLinked, making}
 use Rattle.link_files.specs.Lost.{lost_wanted, undefined_refusal}
-use Rattle.link_files.specs.Names.{atoms_in, atoms_refusal, names_of}
+use Rattle.link_files.specs.Names.{atoms_in, atoms_refusal}
 use Rattle.link_files.specs.Refusals.{duplicate_refusal, told_as}
 use Rattle.link_files.specs.Steps.{Unless}
+use Rattle.link_files.proofs.CauseLemmas.{few_atoms, few_names, many_atoms, many_names}
 use Rattle.link_files.proofs.KeptLemmas.{kept_rise}
 use Rattle.link_means.specs.Images.{AreCut, AreOrdered, IsImageOf}
 use Rattle.link_means.proofs.Going.{no_fault, same_value}
-
--- ---- limits
-
-few_names : (command : Command) (files : List LoadedFile) → length (all_names command files) < 2 ^ 24 → names_of command files ≡ Ok (all_names command files)
-unfolding names_of gathered
-few_names command files few = rw (lt-ltb _ _ few) refl
-
-many_names : (command : Command) (files : List LoadedFile) → 2 ^ 24 ≤ length (all_names command files) → names_of command files ≡ Err (refusal.Limit which.Names)
-unfolding names_of gathered
-many_names command files many = by (nat_lt (length (all_names command files)) (2 ^ 24)) refl
-  where
-    by : (b : Bool) → nat_lt (length (all_names command files)) (2 ^ 24) ≡ b → names_of command files ≡ Err (refusal.Limit which.Names)
-    by true low = let less : length (all_names command files) < 2 ^ 24 = ltb-true _ _ low in absurd (omega (arith, less, many))
-    by false low = rw low refl
-
-few_atoms : (files : List LoadedFile) → atoms_in files < 2 ^ 24 → atoms_refusal files ≡ None
-unfolding atoms_refusal
-few_atoms files few = rw (lt-ltb _ _ few) refl
-
-many_atoms : (files : List LoadedFile) → 2 ^ 24 ≤ atoms_in files → atoms_refusal files ≡ Some (refusal.Limit which.Atoms)
-unfolding atoms_refusal
-many_atoms files many = by (nat_lt (atoms_in files) (2 ^ 24)) refl
-  where
-    by : (b : Bool) → nat_lt (atoms_in files) (2 ^ 24) ≡ b → atoms_refusal files ≡ Some (refusal.Limit which.Atoms)
-    by true low = let less : atoms_in files < 2 ^ 24 = ltb-true _ _ low in absurd (omega (arith, less, many))
-    by false low = rw low refl
 
 -- ---- step by step
 

@@ -7,6 +7,7 @@ use Rattle.std.proofs.lemmas.Bool.{cases_Bool, false≢true, ltb-false, ltb-true
 use Rattle.list_lemmas.proofs.Members.{In, any_from_in}
 use Rattle.mo_types.specs.Rows.{when}
 use Rattle.mo_types.specs.Scan.{first_some}
+use Rattle.sect_place.proofs.Listed.{in_chosen}
 
 pub some_is : {X : Type 0} (x y : X) → Some x ≡ Some y → x ≡ y
 some_is x y e = cc
@@ -100,15 +101,6 @@ from_chosen {X = X} {Y = Y} f (x ∷ xs) y h = by (f x) refl (from_chosen f xs y
       | inl same ↦ (x, inl refl, e ∙ ap Some same)
       | inr there ↦ let later = rest there in (later.0, inr later.1, later.2)
     ]
-
-pub in_chosen : {X Y : Type 0} (f : X → Option Y) (xs : List X) (x : X) (y : Y) → In x xs → f x ≡ Some y → In y (filter_map f xs)
-in_chosen f [] x y h is = absurd h
-in_chosen f (z ∷ xs) x y (inl e) is = let here : f z ≡ Some y = ap f e ∙ is in rw here (inl refl)
-in_chosen {Y = Y} f (z ∷ xs) x y (inr h) is = by (f z) refl (in_chosen f xs x y h is)
-  where
-    by : (o : Option Y) → f z ≡ o → In y (filter_map f xs) → In y (filter_map f (z ∷ xs))
-    by None e rest = rw e rest
-    by (Some w) e rest = rw e (inr rest)
 
 pub none_chosen : {X Y : Type 0} (f : X → Option Y) (xs : List X) (x : X) → filter_map f xs ≡ [] → In x xs → f x ≡ None
 none_chosen {Y = Y} f xs x none h = by (f x) refl

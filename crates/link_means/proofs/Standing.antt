@@ -30,7 +30,7 @@ use Rattle.mo_types.specs.declared.reference.Target.TheVariants.{Name, Local}
 use Rattle.kept_refs.specs.Undefined.{is_nobody, kept_refs, least, lesser, name_if, lost, lost_at, lost_in, lost_name, lost_names, targets_of, undefined, wanted}
 use Rattle.lib_bind.specs.declared.library.LibraryGraph.{LibraryGraph}
 use Rattle.mark_core.specs.Kept.{has}
-use Rattle.mark_core.proofs.KeyLemmas.{same_key}
+use Rattle.key_hints.proofs.Keys.{same_key}
 use Rattle.image_read.specs.Reaches as reaches
 use Rattle.image_read.specs.Held.{goal_address}
 use Rattle.mo_types.specs.Loaded.{IsWholeFile}
@@ -39,10 +39,11 @@ use Rattle.mo_cmd.specs.declared.command.Command.{Command}
 use Rattle.resolve.specs.Edges.{goal_atom, edge_from, edge_to, edges, edges_at, edges_by, file_edges, ref_edges, target_atom, unwind_edges}
 use Rattle.resolve.specs.Goals.{goal_of_symbol, goal_table, goals_of_symbols, stands_for}
 use Rattle.resolve.specs.Representatives.{representatives_of}
+use Rattle.resolve.proofs.RepresentativeLemmas.{atoms_of_file}
 use Rattle.sect_place.specs.Layout.{base_of}
 use Rattle.sect_place.specs.OutSections.{Home, common_home, home_in, home_of}
 use Rattle.sect_place.specs.declared.layout.Layout.{Layout}
-use Rattle.sect_place.proofs.Listed.{in_flat, in_left, in_right}
+use Rattle.sect_place.proofs.Listed.{in_chosen, in_flat, in_left, in_right}
 use Rattle.atom_work.specs.Addresses.{target_goal}
 use Rattle.atom_work.specs.Atoms.{kept_as, kept_atoms, kept_in, raised}
 use Rattle.atom_work.specs.Rows.{Row, goals_at}
@@ -58,9 +59,9 @@ use Rattle.link_files.specs.Later.{is_kept_later, is_later_ref, is_later_target,
 use Rattle.link_files.specs.Linked.{making}
 use Rattle.link_files.specs.Lost.{lost_wanted}
 use Rattle.link_means.specs.Images.{AreOrdered}
-use Rattle.link_means.proofs.Cuts.{atom_of_file, is_piece}
+use Rattle.link_means.proofs.Cuts.{is_piece}
 use Rattle.link_means.proofs.Goals.{AreSolid, HasAtom, IsAtomIn, cut_in, goal_there, stand_in, symbol_atom}
-use Rattle.link_means.proofs.Lists.{in_chosen, in_numbered, in_slice, no_some, none_first, none_passes, not_none, not_first, some_is, both_empty}
+use Rattle.link_means.proofs.Lists.{in_numbered, in_slice, no_some, none_first, none_passes, not_none, not_first, some_is, both_empty}
 use Rattle.link_means.proofs.Refs.{IsTargetOf}
 
 -- ---- files by their ids
@@ -165,7 +166,7 @@ stands_at command libs files flags keys layout image key linked is kept =
     let named : one.atom.key ≡ atom.key = kept_key files place.0 atom in
     let cut : In atom (Rattle.mo_types.specs.Atoms.atoms_of file.object file.id) = subst (λ (xs : List Atom). In atom xs) (linked.solid.cut file is.among) is.of_file in
     let piece = is_piece file.object file.id atom (from_all IsWholeFile files file linked.whole is.among).object cut in
-    let home = has_home files file atom.key piece.section linked.ordered is.among (sym (atom_of_file file.object file.id atom cut)) piece.numbered in
+    let home = has_home files file atom.key piece.section linked.ordered is.among (sym (atoms_of_file file.object file.id atom cut)) piece.numbered in
     let at_home : Some home.0 ≡ home_of m.files one.atom.key.file one.atom.key.section =
     home.1 ∙ ap (λ (k : AtomKey). home_of files k.file k.section) (sym named) ∙ ap (λ (fs : List LoadedFile). home_of fs one.atom.key.file one.atom.key.section) (sym (files_made command libs files flags keys)) in
     let has_one : has keys atom.key ≡ true = ap (has keys) is.named ∙ kept in

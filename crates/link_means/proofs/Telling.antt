@@ -25,6 +25,7 @@ use Rattle.mark_core.specs.Kept.{has}
 use Rattle.mo_cmd.specs.declared.command.Command.{Command}
 use Rattle.resolve.specs.Goals.{goal_table}
 use Rattle.resolve.specs.Representatives.{representatives_of}
+use Rattle.resolve.proofs.RepresentativeLemmas.{atoms_of_file}
 use Rattle.sect_place.specs.declared.layout.Layout.{Layout}
 use Rattle.sect_place.proofs.Once.{from_flat}
 use Rattle.atom_work.specs.Addresses.{target_goal}
@@ -44,7 +45,7 @@ use Rattle.member_rounds.specs.Form.{is_common, is_later, is_later_kind, is_late
 use Rattle.link_files.specs.Linked.{making}
 use Rattle.link_means.specs.Images.{AreOrdered, IsImageOf}
 use Rattle.link_means.specs.Tellings.{AreInForm, AreWhole, IsNotBelow, made_of}
-use Rattle.link_means.proofs.Cuts.{IsPiece, atom_of_file, is_piece, key_at}
+use Rattle.link_means.proofs.Cuts.{IsPiece, is_piece, key_at}
 use Rattle.link_means.proofs.Goals.{AreSolid}
 use Rattle.link_means.proofs.Lists.{from_numbered, in_slice, neither, none_passes, some_is}
 use Rattle.link_means.proofs.Refs.{HasMinusBy, IsRead, IsTargetOf, is_read}
@@ -124,7 +125,7 @@ ref_key files keys row file r kept whole is h own =
     let place : r.atom.section * 2 ^ 64 + r.atom.offset ≡ row.atom.key.section * 2 ^ 64 + row.atom.key.offset = eqb-true _ _ own in
     let at : r.atom ≡ key_at file.id number offset = read.atom in
     let named : atom.key ≡ row.atom.key = kept.named in
-    let of_file : atom.key.file ≡ file.id = atom_of_file file.object file.id atom cut in
+    let of_file : atom.key.file ≡ file.id = atoms_of_file file.object file.id atom cut in
     let low : r.atom.offset < 2 ^ 64 = subst (λ (k : AtomKey). k.offset < 2 ^ 64) (sym at) (let l : offset < 2 ^ 31 = read.low in omega (arith, l)) in
     let high : row.atom.key.offset < 2 ^ 64 = subst (λ (k : AtomKey). k.offset < 2 ^ 64) named (let l : atom.key.offset < 2 ^ 63 = piece.low in omega (arith, l)) in
     let equal = same_place r.atom.section r.atom.offset row.atom.key.section row.atom.key.offset low high place in

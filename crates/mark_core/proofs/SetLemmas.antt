@@ -1,24 +1,24 @@
 -- Whether an atom is one of a list.
-use Rattle.std.proofs.Common.{◌≡◌, ℕ, ◌<◌, ◌≤◌, ◌⊎◌, Bool, true, false, List, length, get_or, refl, sym, ap, subst, ◌∙◌, inl, inr, arith, Contains}
-use Rattle.std.specs.List.{HoldsAt, dedup}
-use Rattle.std.specs.List.Sorted.{IsNonDecreasingBy, IsPartitionPoint, IsPermutation, IsSorted, IsStrictlySortedBy}
+use Rattle.std.proofs.Common.{◌≡◌, ℕ, Bool, true, false, List, refl, sym, ap, subst, ◌∙◌, inl, inr, Contains}
+use Rattle.std.specs.Prelude.{◌≢◌, All, MatchOption, Option, Some, None, is_some}
+use Rattle.std.specs.List.{dedup}
+use Rattle.std.specs.List.Sorted.{IsPermutation, IsSorted, IsStrictlySortedBy}
 use Rattle.std.specs.Cmp.{IsEquivalence}
-use Rattle.std.specs.Ordering.{eq_by_cmp, is_eq, ordering_index}
-use Rattle.std.specs.declared.cmp.Ordering.{Ordering}
-use Rattle.std.specs.declared.cmp.Ordering.TheVariants.{Less, Equal, Greater}
-use Rattle.std.proofs.lemmas.Bool.{cases_Bool, cases_lt}
+use Rattle.std.specs.Ordering.{eq_by_cmp, is_eq, on}
+use Rattle.std.proofs.lemmas.Bool.{cases_Bool}
 use Rattle.std.proofs.lemmas.Cmp.{tied_itself}
-use Rattle.std.proofs.lemmas.List.{get_or_default}
 use Rattle.std.proofs.lemmas.List.Kept.{Contains-dedup, Contains-from_dedup, IsStrictlySortedBy-dedup}
-use Rattle.std.proofs.lemmas.List.Sorted.{Contains-permutation, IsPermutation-sym, searchable_from_sorted}
+use Rattle.std.proofs.lemmas.List.Sorted.{Contains-permutation, IsPermutation-sym}
 use Rattle.list_lemmas.proofs.Members.{In, Contains_from_in, any_from_in, any_true, in_from_Contains}
 use Rattle.list_lemmas.proofs.Rising.{sorted_from_rising}
 use Rattle.mo_types.specs.declared.key.AtomKey.{AtomKey}
 use Rattle.mo_types.specs.Keys.{compare_keys}
 use Rattle.mo_types.proofs.KeyOrder.{compare_keys_total}
+use Rattle.key_hints.specs.Stands.{StandsAt}
+use Rattle.key_hints.proofs.Keys.{is_equal, same_key}
 use Rattle.mark_core.specs.Kept.{has}
 use Rattle.mark_core.specs.inner.Reached.{same_atom}
-use Rattle.mark_core.proofs.KeyLemmas.{is_equal, itself, same_atoms, same_key}
+use Rattle.mark_core.proofs.KeyLemmas.{itself, same_atoms}
 
 pub in_from_has : (atoms : List AtomKey) (atom : AtomKey) → has atoms atom ≡ true → In atom atoms
 in_from_has atoms atom e =
@@ -41,38 +41,23 @@ same_has xs ys atom f g =
     (λ e. has_from_in ys atom (in_from_Contains ys atom (f (Contains_from_in xs atom (in_from_has xs atom e)))))
     (λ e. has_from_in xs atom (in_from_Contains xs atom (g (Contains_from_in ys atom (in_from_has ys atom e)))))
 
--- ---- a search among keys that rise
+-- ---- what a search among keys that rise found
 
-pub has_at : (keys : List AtomKey) (key : AtomKey) (at : ℕ) (d : AtomKey) → at < length keys → get_or keys at d ≡ key → has keys key ≡ true
-has_at keys key at d low is = has_from_in keys key (in_from_Contains keys key (at, low, get_or_default keys at key d low ∙ is))
+pub in_order : (keys : List AtomKey) → IsStrictlySortedBy compare_keys keys → IsSorted (on (λ (key : AtomKey). key) compare_keys) keys
+in_order keys rises = sorted_from_rising compare_keys_total keys rises
 
-pub has_found : (keys : List AtomKey) (key : AtomKey) (at : ℕ) → at < length keys → HoldsAt (λ k. compare_keys k key ≡ Equal) keys at → true ≡ has keys key
-has_found keys key at low holds = sym (has_from_in keys key (in_from_Contains keys key (at, low, same_key (get_or keys at key) key (holds key))))
+pub stands_has : (keys : List AtomKey) (key : AtomKey) (at : ℕ) → StandsAt (λ (key : AtomKey). key) keys key at → true ≡ has keys key
+stands_has keys key at stands = sym (has_from_in keys key (in_from_Contains keys key (at, stands.within, stands.of_atom key)))
 
-not_less : (r : Ordering) → r ≡ Equal → r ≡ Less → ⊥
-not_less r e f = let g : Less ≡ Equal = sym f ∙ e in cc
-
-not_greater : (r : Ordering) → r ≡ Equal → r ≡ Greater → ⊥
-not_greater r e f = let g : Greater ≡ Equal = sym f ∙ e in cc
-
-missing : (keys : List AtomKey) (key : AtomKey) (at : ℕ) → IsStrictlySortedBy compare_keys keys → (IsNonDecreasingBy (λ k. ordering_index (compare_keys k key)) keys → IsPartitionPoint (λ k. compare_keys k key ≡ Less) (λ k. compare_keys k key ≡ Greater) keys at) → Contains keys key → ⊥
-missing keys key at rise parted (j, low, is) = by (cases_lt j at)
-  where
-    parts : IsPartitionPoint (λ (k : AtomKey). compare_keys k key ≡ Less) (λ (k : AtomKey). compare_keys k key ≡ Greater) keys at
-    parts = parted (searchable_from_sorted compare_keys_total (λ (k : AtomKey). k) keys key (sorted_from_rising compare_keys_total keys rise))
-
-    tied : compare_keys (get_or keys j key) key ≡ Equal
-    tied = ap (λ (k : AtomKey). compare_keys k key) is ∙ tied_itself compare_keys_total key
-
-    by : (j < at) ⊎ (at ≤ j) → ⊥
-    by (inl down) = not_less (compare_keys (get_or keys j key) key) tied (parts.0 j key (omega arith) down)
-    by (inr up) = not_greater (compare_keys (get_or keys j key) key) tied (parts.1 j key up low)
-
-pub has_none : (keys : List AtomKey) (key : AtomKey) (at : ℕ) → IsStrictlySortedBy compare_keys keys → (IsNonDecreasingBy (λ k. ordering_index (compare_keys k key)) keys → IsPartitionPoint (λ k. compare_keys k key ≡ Less) (λ k. compare_keys k key ≡ Greater) keys at) → false ≡ has keys key
-has_none keys key at rise parted = elim (cases_Bool (has keys key)) [
-  | inl here ↦ absurd (missing keys key at rise parted (Contains_from_in keys key (in_from_has keys key here)))
+pub none_has : (keys : List AtomKey) (key : AtomKey) → All (λ other. other ≢ key) keys → false ≡ has keys key
+none_has keys key none = elim (cases_Bool (has keys key)) [
+  | inl here ↦ let there : Contains keys key = Contains_from_in keys key (in_from_has keys key here) in absurd (none there.0 key there.1 there.2)
   | inr away ↦ sym away
 ]
+
+pub found_has : (keys : List AtomKey) (key : AtomKey) (found : Option ℕ) → MatchOption found (All (λ other. other ≢ key) keys) (StandsAt (λ key. key) keys key) → is_some found ≡ has keys key
+found_has keys key None none = none_has keys key none
+found_has keys key (Some at) stands = stands_has keys key at stands
 
 -- ---- atoms in order, each once
 

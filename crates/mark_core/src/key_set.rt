@@ -5,7 +5,8 @@ ghost use Rattle.mo_types.specs.Keys.{compare_keys};
 ghost use Rattle.mo_types.specs.declared.key.AtomKey.{AtomKey as Key};
 ghost use Rattle.mark_core.specs.Kept.{has};
 
-use crate::lookup::{hints_of, is_hinted, is_kept};
+use crate::lookup::is_hinted;
+use key_hints::Hints;
 use mo_types::{AtomKey, OutOfMemory};
 use std::alloc::Global;
 use std::marker::Model;
@@ -15,8 +16,7 @@ use std::marker::Model;
 #[derive(Debug, Drop)]
 pub struct KeySet {
     keys: Vec<AtomKey>,
-    // Where atoms are to be looked for. Nothing is proved of it: what it misses is searched for.
-    hints: Vec<u32>,
+    hints: Hints,
 }
 
 impl Model for KeySet {
@@ -38,7 +38,7 @@ impl KeySet {
         ensures { IfOk result (λ set. (atom : Key) → has set atom ≡ has atoms.items atom) }
     {
         let keys = in_order(atoms)?;
-        let hints = hints_of(alloc, keys.as_slice())?;
+        let hints = Hints::of(alloc, keys.as_slice())?;
         Ok(KeySet { keys, hints })
     }
 
@@ -62,8 +62,7 @@ impl KeySet {
     pub fn contains(&self, atom: &AtomKey) -> bool
         ensures { result ≡ has self.now atom.now }
     {
-        let keys = self.keys.as_slice();
-        is_hinted(keys, self.hints.as_slice(), atom) || is_kept(keys, *atom)
+        is_hinted(self.keys.as_slice(), &self.hints, atom)
     }
 }
 

@@ -119,47 +119,37 @@ first_least test (l ∷ ls) f rest b order e h = by (λ k m. first_least test ls
 
 -- ---- keys of atoms and literals
 
-all_of_file : (file : FileId) (atoms : List Atom) → Type 0
-all_of_file file atoms = (atom : Atom) → In atom atoms → atom.key.file ≡ file
-
-in_atoms : (x : Atom) (xs ys : List Atom) → In x (xs ++ ys) → In x xs ⊎ In x ys
-in_atoms x [] ys h = inr h
-in_atoms x (z ∷ xs) ys (inl e) = inl (inl e)
-in_atoms x (z ∷ xs) ys (inr h) = elim (in_atoms x xs ys h) [
-  | inl a ↦ inl (inr a)
-  | inr b ↦ inr b
-]
-
-pieces_of_file : (file : FileId) (number : ℕ) (section : Section) (cs : List ℕ) → all_of_file file (pieces file number section cs)
-unfolding all_of_file piece
+pieces_of_file : (file : FileId) (number : ℕ) (section : Section) (cs : List ℕ) (atom : Atom) → In atom (pieces file number section cs) → atom.key.file ≡ file
+unfolding piece
 pieces_of_file file number section [] atom h = absurd h
 pieces_of_file file number section (c ∷ cs) atom (inl e) = sym (ap (λ (a : Atom). a.key.file) e)
 pieces_of_file file number section (c ∷ cs) atom (inr h) = pieces_of_file file number section cs atom h
 
-section_of_file : (object : Object) (file : FileId) (number : ℕ) (section : Section) → all_of_file file (section_atoms object file number section)
-unfolding all_of_file section_atoms
+section_of_file : (object : Object) (file : FileId) (number : ℕ) (section : Section) (atom : Atom) → In atom (section_atoms object file number section) → atom.key.file ≡ file
+unfolding section_atoms
 section_of_file object file number section atom h = by (is_dropped section) refl
   where
     by : (t : Bool) → is_dropped section ≡ t → atom.key.file ≡ file
     by true e = absurd (rw e at h)
     by false e = pieces_of_file file number section (cuts object number section) atom (rw e at h)
 
-sections_of_file : (object : Object) (file : FileId) (number : ℕ) (sections : List Section) → all_of_file file (atoms_from object file number sections)
-unfolding all_of_file
+sections_of_file : (object : Object) (file : FileId) (number : ℕ) (sections : List Section) (atom : Atom) → In atom (atoms_from object file number sections) → atom.key.file ≡ file
 sections_of_file object file number [] atom h = absurd h
-sections_of_file object file number (section ∷ sections) atom h = elim (in_atoms atom (section_atoms object file number section) (atoms_from object file (number + 1) sections) h) [
+sections_of_file object file number (section ∷ sections) atom h = elim (in_either atom (section_atoms object file number section) (atoms_from object file (number + 1) sections) h) [
   | inl here ↦ section_of_file object file number section atom here
   | inr later ↦ sections_of_file object file (number + 1) sections atom later
 ]
 
-atoms_of_file : (object : Object) (file : FileId) → all_of_file file (atoms_of object file)
-unfolding all_of_file atoms_of
+-- atoms of a file have its id
+pub atoms_of_file : (object : Object) (file : FileId) (atom : Atom) → In atom (atoms_of object file) → atom.key.file ≡ file
+unfolding atoms_of
 atoms_of_file object file atom h = sections_of_file object file 1 object.sections atom h
 
 less_than : (a b : ℕ) → a < b → nat_cmp a b ≡ Less
 less_than a b low = sym (nat_cmp_is a b Less low)
 
-keys_before : (a b : AtomKey) → a.file ≡ b.file → cut_laws.IsBefore a b → compare_keys a b ≡ Less
+-- what comes first in its file has the lesser key
+pub keys_before : (a b : AtomKey) → a.file ≡ b.file → cut_laws.IsBefore a b → compare_keys a b ≡ Less
 keys_before a b file before =
     let tie : compare_files a.file b.file ≡ Equal = subst (λ (f : FileId). compare_files a.file f ≡ Equal) file (tied_itself compare_files_total a.file) in
     rw tie (by before)
@@ -170,22 +160,31 @@ keys_before a b file before =
         let e : nat_cmp a.section b.section ≡ Equal = sym (nat_cmp_is a.section b.section Equal same.0) in
         rw (e, less_than a.offset b.offset same.1) refl
 
--- a literal of some atoms has the key of one of them
-key_of : (object : Object) (atoms : List Atom) (l : Literal) → In l (filter_map (literal_at object) atoms) → (atom : Atom) × In atom atoms × (l.key ≡ atom.key)
+-- a literal of some atoms has the key and the alignment of one of them
+pub record IsOfAtom (atoms : List Atom) (l : Literal) : Type 0 where
+  pub atom : Atom
+  pub among : In atom atoms
+  pub key : l.key ≡ atom.key
+  pub align : l.align ≡ atom.align
+
+pub literal_of : (object : Object) (atoms : List Atom) (l : Literal) → In l (filter_map (literal_at object) atoms) → IsOfAtom atoms l
 unfolding literal_at
-key_of object [] l h = absurd h
-key_of object (atom ∷ atoms) l h = by (λ m. key_of object atoms l m) (section_numbered object.sections atom.key.section) refl
+literal_of object [] l h = absurd h
+literal_of object (atom ∷ atoms) l h = by (λ m. behind (literal_of object atoms l m)) (section_numbered object.sections atom.key.section) refl
   where
-    by : (In l (filter_map (literal_at object) atoms) → (a : Atom) × In a atoms × (l.key ≡ a.key)) → (s : Option Section) → section_numbered object.sections atom.key.section ≡ s → (a : Atom) × In a (atom ∷ atoms) × (l.key ≡ a.key)
-    by later None e = let m = later (rw e at h) in (m.0, inr m.1, m.2)
+    behind : IsOfAtom atoms l → IsOfAtom (atom ∷ atoms) l
+    behind m = record { atom = m.atom; among = inr m.among; key = m.key; align = m.align }
+
+    by : (In l (filter_map (literal_at object) atoms) → IsOfAtom (atom ∷ atoms) l) → (s : Option Section) → section_numbered object.sections atom.key.section ≡ s → IsOfAtom (atom ∷ atoms) l
+    by later None e = later (rw e at h)
     by later (Some section) e = test (is_literal section.kind) refl
       where
-        test : (t : Bool) → is_literal section.kind ≡ t → (a : Atom) × In a (atom ∷ atoms) × (l.key ≡ a.key)
+        test : (t : Bool) → is_literal section.kind ≡ t → IsOfAtom (atom ∷ atoms) l
         test true f = elim (rw (e, f) at h) [
-          | inl same ↦ (atom, inl refl, sym (ap (λ (x : Literal). x.key) same))
-          | inr rest ↦ let m = later rest in (m.0, inr m.1, m.2)
+          | inl same ↦ record { atom = atom; among = inl refl; key = sym (ap (λ (x : Literal). x.key) same); align = sym (ap (λ (x : Literal). x.align) same) }
+          | inr rest ↦ later rest
         ]
-        test false f = let m = later (rw (e, f) at h) in (m.0, inr m.1, m.2)
+        test false f = later (rw (e, f) at h)
 
 literal_key : (object : Object) (atom : Atom) (l : Literal) → literal_at object atom ≡ Some l → l.key ≡ atom.key
 unfolding literal_at
@@ -202,16 +201,16 @@ literal_key object atom l e = by (section_numbered object.sections atom.key.sect
         test true g = some_key _ (rw (f, g) at e)
         test false g = absurd (let k : None ≡ Some l = rw (f, g) at e in cc)
 
-pairs_tail : {X : Type 0} (P : X → X → Type 0) (x : X) (xs : List X) → AllPairs P (x ∷ xs) → AllPairs P xs
+pub pairs_tail : {X : Type 0} (P : X → X → Type 0) (x : X) (xs : List X) → AllPairs P (x ∷ xs) → AllPairs P xs
 pairs_tail P x xs h = λ i j d less within. h (suc i) (suc j) d (omega (arith, less)) (omega (arith, within))
 
-pairs_head : {X : Type 0} (P : X → X → Type 0) (x : X) (xs : List X) (y : X) → AllPairs P (x ∷ xs) → In y xs → P x y
+pub pairs_head : {X : Type 0} (P : X → X → Type 0) (x : X) (xs : List X) (y : X) → AllPairs P (x ∷ xs) → In y xs → P x y
 pairs_head {X = X} P x xs y h there =
     let c : Contains xs y = Contains_from_in xs y there in
     subst (λ (z : X). P x z) c.2 (h 0 (suc c.0) y (omega arith) (let low : c.0 < length xs = c.1 in omega (arith, low)))
 
-file_order : (object : Object) (file : FileId) (atoms : List Atom) → AllPairs (λ a b. cut_laws.IsBefore a.key b.key) atoms → all_of_file file atoms → InOrder (filter_map (literal_at object) atoms)
-unfolding InOrder all_of_file
+file_order : (object : Object) (file : FileId) (atoms : List Atom) → AllPairs (λ a b. cut_laws.IsBefore a.key b.key) atoms → ((atom : Atom) → In atom atoms → atom.key.file ≡ file) → InOrder (filter_map (literal_at object) atoms)
+unfolding InOrder
 file_order object file [] pairs own = tt
 file_order object file (atom ∷ atoms) pairs own = by (file_order object file atoms (pairs_tail (λ (a : Atom) (b : Atom). cut_laws.IsBefore a.key b.key) atom atoms pairs) (λ a h. own a (inr h))) (literal_at object atom) refl
   where
@@ -221,19 +220,19 @@ file_order object file (atom ∷ atoms) pairs own = by (file_order object file a
       where
         after : (b : Literal) → In b (filter_map (literal_at object) atoms) → Precedes l b
         after b there =
-            let m = key_of object atoms b there in
-            let before : compare_keys atom.key m.0.key ≡ Less = keys_before atom.key m.0.key (own atom (inl refl) ∙ sym (own m.0 (inr m.1))) (pairs_head (λ (a : Atom) (c : Atom). cut_laws.IsBefore a.key c.key) atom atoms m.0 pairs m.1) in
-            rw (literal_key object atom l e, m.2) before
+            let m = literal_of object atoms b there in
+            let before : compare_keys atom.key m.atom.key ≡ Less = keys_before atom.key m.atom.key (own atom (inl refl) ∙ sym (own m.atom (inr m.among))) (pairs_head (λ (a : Atom) (c : Atom). cut_laws.IsBefore a.key c.key) atom atoms m.atom pairs m.among) in
+            rw (literal_key object atom l e, m.key) before
 
 whole_order : (file : LoadedFile) → IsWholeFile file → InOrder (literals_in file)
 unfolding literals_in
 whole_order file whole = rw whole.atoms (file_order file.object file.id (atoms_of file.object file.id) (atoms_rise file.object file.id) (atoms_of_file file.object file.id))
 
 file_of_literal : (file : LoadedFile) (l : Literal) → IsWholeFile file → In l (literals_in file) → l.key.file ≡ file.id
-unfolding literals_in all_of_file
+unfolding literals_in
 file_of_literal file l whole h =
-    let m = key_of file.object file.atoms l h in
-    ap (λ (k : AtomKey). k.file) m.2 ∙ atoms_of_file file.object file.id m.0 (subst (λ (xs : List Atom). In m.0 xs) whole.atoms m.1)
+    let m = literal_of file.object file.atoms l h in
+    ap (λ (k : AtomKey). k.file) m.key ∙ atoms_of_file file.object file.id m.atom (subst (λ (xs : List Atom). In m.atom xs) whole.atoms m.among)
 
 in_files : (files : List LoadedFile) (l : Literal) → AllByRecursion IsWholeFile files → In l (literals files) → (file : LoadedFile) × In file files × (l.key.file ≡ file.id)
 unfolding literals

@@ -10,7 +10,7 @@ use Rattle.list_lemmas.proofs.Rising.{rising_at}
 use Rattle.mo_types.specs.Keys.{compare_keys}
 use Rattle.mo_types.specs.declared.key.AtomKey.{AtomKey}
 use Rattle.mo_types.proofs.KeyOrder.{compare_keys_total}
-use Rattle.tlv_plan.proofs.Keys.{found_key, no_key, sorted_from_rising}
+use Rattle.key_hints.proofs.Keys.{found_key, no_key, sorted_from_rising}
 use Rattle.resolve.specs.Goals.{literal_at}
 use Rattle.resolve.specs.declared.representative.Representative.{Representative}
 use Rattle.resolve.specs.inner.Literals.{AreInOrder, literal_key}

@@ -15,7 +15,7 @@ use Rattle.mo_types.specs.declared.key.AtomKey.{AtomKey}
 use Rattle.mo_types.specs.declared.key.FileId.{FileId}
 use Rattle.mo_types.specs.declared.loaded.LoadedFile.{LoadedFile}
 use Rattle.mo_types.specs.declared.object.Section.{Section}
-use Rattle.tlv_plan.proofs.Keys.{find_found, find_missing}
+use Rattle.key_hints.proofs.Keys.{find_found, find_missing}
 use Rattle.sect_place.specs.OutSections.{Home, home_in, home_of, common_home}
 
 -- the first place of a file

@@ -31,7 +31,7 @@ in_flat f [] x y h there = absurd h
 in_flat f (z ∷ xs) x y (inl e) there = in_left (f z) (flat_map f xs) y (subst (λ q. In y (f q)) (sym e) there)
 in_flat f (z ∷ xs) x y (inr h) there = in_right (f z) (flat_map f xs) y (in_flat f xs x y h there)
 
-in_chosen : {X Y : Type 0} (f : X → Option Y) (xs : List X) (x : X) (y : Y) → In x xs → f x ≡ Some y → In y (filter_map f xs)
+pub in_chosen : {X Y : Type 0} (f : X → Option Y) (xs : List X) (x : X) (y : Y) → In x xs → f x ≡ Some y → In y (filter_map f xs)
 in_chosen f [] x y h is = absurd h
 in_chosen f (z ∷ xs) x y (inl e) is = let here : f z ≡ Some y = ap f e ∙ is in rw here (inl refl)
 in_chosen {Y = Y} f (z ∷ xs) x y (inr h) is = by (f z) refl (in_chosen f xs x y h is)

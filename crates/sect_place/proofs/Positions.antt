@@ -17,7 +17,7 @@ use Rattle.mo_types.specs.declared.key.AtomKey.{AtomKey}
 use Rattle.mo_types.specs.declared.out_section.OutSection.{OutSection}
 use Rattle.slot_plan.specs.declared.list.Slots.{Slots}
 use Rattle.tlv_plan.specs.Template.{aligned, atoms_of, keys_of, stand}
-use Rattle.tlv_plan.proofs.Keys.{same_key}
+use Rattle.key_hints.proofs.Keys.{same_key}
 use Rattle.sect_place.specs.Arrangement.{is_in, is_code, is_chosen, with_atoms, chosen, section_of, own, group_named, runs_from, runs, MadeBytes, text_parts, constant_parts, writable_parts, groups_of}
 use Rattle.sect_place.specs.Layout.{plan_of, made_bytes, image_places}
 use Rattle.sect_place.specs.Places.{with_area, spaced, places, part_from, part_end, parts_places, page_up, group_end, groups_places, area_unit}
@@ -387,7 +387,8 @@ choices_apart = (first, (second, (third, (fourth, ((λ h. h), tt)))))
     first (inr (inr (inr (inl e)))) = cc
     first (inr (inr (inr (inr h)))) = h
 
-all_apart : (sections : List OutSection) → Apart (keys_of sections) → Apart (flat_map (keys_chosen sections) choices)
+-- what sections list once is placed once, whatever their choice
+pub all_apart : (sections : List OutSection) → Apart (keys_of sections) → Apart (flat_map (keys_chosen sections) choices)
 unfolding keys_chosen
 all_apart sections a =
     apart_flat (λ (choice : Choice). keys_of (filter (is_chosen choice) sections)) choices choices_apart (λ choice h. filter_keys_apart (is_chosen choice) sections a) (λ c d key p q h k. one_choice sections key c d a h k)

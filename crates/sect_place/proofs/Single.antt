@@ -19,7 +19,7 @@ use Rattle.mo_types.specs.declared.key.AtomKey.{AtomKey}
 use Rattle.mo_types.specs.declared.out_section.OutSection.{OutSection}
 use Rattle.slot_plan.specs.declared.list.Slots.{Slots}
 use Rattle.tlv_plan.specs.Template.{keys_of}
-use Rattle.tlv_plan.proofs.Keys.{same_key}
+use Rattle.key_hints.proofs.Keys.{same_key}
 use Rattle.sect_place.specs.Layout.{IsLayoutOf, image_places, plan_of}
 use Rattle.sect_place.specs.declared.island.IslandPlan.{IslandPlan}
 use Rattle.sect_place.specs.declared.layout.Layout.{Layout}

@@ -4,7 +4,8 @@ ghost use Rattle.std.specs.Ordering.{on};
 ghost use Rattle.mo_types.specs.Keys.{compare_keys};
 ghost use Rattle.sect_place.specs.declared.layout.Placed.{Placed};
 
-use crate::lookup::{address_at, find, hinted, hints_of};
+use crate::lookup::{address_at, find};
+use key_hints::{Hints, Keyed};
 use mo_types::{AtomKey, Bytes, Items, OutOfMemory, OutSection};
 use std::alloc::Global;
 use std::cmp::Ordering;
@@ -55,12 +56,19 @@ pub struct Placed {
     pub address: u64,
 }
 
+impl Keyed for Placed {
+    ghost key_of = { λ placed. placed.atom };
+
+    fn key(&self) -> &AtomKey {
+        &self.atom
+    }
+}
+
 /// Addresses in the order of their atoms. Contracts see the list of them.
 #[derive(Debug, Drop)]
 pub struct PlacedList {
     placed: Vec<Placed>,
-    // Where atoms are to be looked for. Nothing is proved of it: what it misses is searched for.
-    hints: Vec<u32>,
+    hints: Hints,
 }
 
 impl Model for PlacedList {
@@ -84,7 +92,7 @@ impl PlacedList {
         ensures order { IfOk result (IsSorted (on (λ (p : Placed). p.atom) compare_keys)) }
     {
         let placed = in_order(placed);
-        let hints = hints_of(alloc, placed.as_slice())?;
+        let hints = Hints::of(alloc, placed.as_slice())?;
         Ok(PlacedList { placed, hints })
     }
 
@@ -100,10 +108,7 @@ impl PlacedList {
     pub(crate) fn address_of(&self, atom: &AtomKey) -> Option<u64>
         ensures { MatchOption result ((address : ℕ) → ¬ Contains self.now (record { atom = atom.now; address = address })) (λ address. Contains self.now (record { atom = atom.now; address = address })) }
     {
-        match hinted(self.placed.as_slice(), self.hints.as_slice(), atom) {
-            Some(address) => Some(address),
-            None => find(self.placed.as_slice(), atom),
-        }
+        find(self.placed.as_slice(), &self.hints, atom)
     }
 
     // The same, of an atom that mostly stands at a place.

@@ -16,9 +16,9 @@ ghost use Rattle.sect_place.specs.inner.Room.{IsRoom, capped_place, capped_secti
 
 use crate::island::IslandArea;
 use crate::layout::{Placed, PlacedSection, Segment, compare};
-use crate::lookup::is_same;
 use crate::part::{Group, Part};
 use crate::wide::{cap, cap_count, sum_of, up};
+use key_hints::is_same;
 use mo_format::loader::{
     S_THREAD_LOCAL_ZEROFILL, S_ZEROFILL, SG_READ_ONLY, VM_PROT_EXECUTE, VM_PROT_READ, VM_PROT_WRITE,
 };

@@ -11,7 +11,7 @@ use Rattle.mo_types.specs.Keys.{compare_files}
 use Rattle.mo_types.specs.Loaded.{IsBefore}
 use Rattle.mo_types.specs.declared.key.FileId.{FileId}
 use Rattle.mo_types.specs.declared.loaded.LoadedFile.{LoadedFile}
-use Rattle.tlv_plan.proofs.Keys.{rises}
+use Rattle.key_hints.proofs.Keys.{rises}
 
 pub apart : {X : Type 0} (R : X → X → Ordering) (xs : List X) (i : ℕ) (a b d : X) → 1 ≤ i → i < length xs → Less ≡ R (get_or xs (i - 1) a) (get_or xs i b) → R (get_or xs (i - 1) d) (get_or xs i d) ≡ Less
 apart {X = X} R xs i a b d low high less =

@@ -1,7 +1,7 @@
 use Rattle.std.proofs.Common.{[]}
 use Rattle.std.specs.List.{enumerate_from}
 use Rattle.atom_work.specs.Atoms.{kept_in}
-use Rattle.atom_work.proofs.GrowLemmas.{IsGrowing}
+use Rattle.resolve.proofs.GrowLemmas.{IsGrowing}
 use Rattle.atom_work.proofs.kept.kept_of.Given as goal
 
 abbrev pub invariant-loop-at : goal.invariant-loop-at

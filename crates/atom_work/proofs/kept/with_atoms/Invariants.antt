@@ -1,4 +1,4 @@
-use Rattle.atom_work.proofs.GrowLemmas.{IsGrowing}
+use Rattle.resolve.proofs.GrowLemmas.{IsGrowing}
 use Rattle.atom_work.proofs.KeptLemmas.{kept_if}
 use Rattle.atom_work.proofs.kept.with_atoms.Given as goal
 

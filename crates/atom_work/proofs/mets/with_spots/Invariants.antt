@@ -1,6 +1,6 @@
 use Rattle.atom_work.specs.inner.Spots.{mets_at}
 use Rattle.atom_work.specs.inner.Told.{IsTold}
-use Rattle.atom_work.proofs.GrowLemmas.{IsGrowing}
+use Rattle.resolve.proofs.GrowLemmas.{IsGrowing}
 use Rattle.atom_work.proofs.mets.with_spots.Given as goal
 
 abbrev pub invariant-loop-spot : goal.invariant-loop-spot

@@ -3,7 +3,7 @@ use Rattle.std.proofs.lemmas.Cmp.{on_total}
 use Rattle.std.proofs.lemmas.Fn.{always_returns_same}
 use Rattle.mo_types.specs.Keys.{compare_keys}
 use Rattle.mo_types.proofs.KeyOrder.{compare_keys_total}
-use Rattle.tlv_plan.proofs.Keys.{find_found, find_missing, found_key, no_key, sorted_from_rising}
+use Rattle.key_hints.proofs.Keys.{find_found, find_missing, found_key, no_key, sorted_from_rising}
 use Rattle.atom_work.specs.declared.kept.KeptAtom.{KeptAtom}
 use Rattle.atom_work.proofs.rows.find_kept.Goals as goal
 

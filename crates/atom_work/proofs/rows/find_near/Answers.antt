@@ -1,5 +1,5 @@
 use Rattle.std.proofs.Common.{sym}
-use Rattle.tlv_plan.proofs.Keys.{find_found}
+use Rattle.key_hints.proofs.Keys.{find_found}
 use Rattle.atom_work.specs.declared.kept.KeptAtom.{KeptAtom}
 use Rattle.atom_work.proofs.rows.find_near.Goals as goal
 

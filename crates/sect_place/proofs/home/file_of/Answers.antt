@@ -4,7 +4,7 @@ use Rattle.std.proofs.lemmas.Fn.{always_returns_same}
 use Rattle.mo_types.proofs.KeyOrder.{compare_keys_total}
 use Rattle.mo_types.specs.Keys.{compare_keys}
 use Rattle.mo_types.specs.declared.loaded.LoadedFile.{LoadedFile}
-use Rattle.tlv_plan.proofs.Keys.{found_key, no_key, sorted_from_rising}
+use Rattle.key_hints.proofs.Keys.{found_key, no_key, sorted_from_rising}
 use Rattle.sect_place.proofs.Homes.{start, starts_rise, file_found, file_missing}
 use Rattle.sect_place.proofs.home.file_of.Goals as goal
 

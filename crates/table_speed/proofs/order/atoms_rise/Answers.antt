@@ -3,7 +3,7 @@ use Rattle.std.specs.declared.cmp.Ordering.TheVariants.{Less}
 use Rattle.std.proofs.lemmas.List.Sorted.{all_adjacent_more}
 use Rattle.mo_types.specs.Keys.{compare_keys}
 use Rattle.mo_types.specs.declared.atom.Atom.{Atom}
-use Rattle.tlv_plan.proofs.Keys.{rises_from}
+use Rattle.key_hints.proofs.Keys.{rises_from}
 use Rattle.table_speed.proofs.Rise.{apart}
 use Rattle.table_speed.proofs.order.atoms_rise.Goals as goal
 

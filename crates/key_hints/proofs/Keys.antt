@@ -16,8 +16,11 @@ use Rattle.mo_types.specs.declared.key.AtomKey.{AtomKey}
 use Rattle.mo_types.specs.Keys.{compare_files, compare_keys}
 use Rattle.mo_types.proofs.KeyOrder.{compare_keys_total}
 
-abbrev key_of : ℕ → ℕ → ℕ → ℕ → AtomKey
+abbrev pub key_of : ℕ → ℕ → ℕ → ℕ → AtomKey
 key_of p m s o = record { file = record { position = p; member = m }; section = s; offset = o }
+
+pub same_fields : (p m s o p' m' s' o' : ℕ) → p ≡ p' → m ≡ m' → s ≡ s' → o ≡ o' → key_of p m s o ≡ key_of p' m' s' o'
+same_fields p m s o p' m' s' o' e f g h = rw (e, f, g, h) refl
 
 -- atoms that tie are the same one
 pub same_key : (a b : AtomKey) → compare_keys a b ≡ Equal → a ≡ b
@@ -28,10 +31,7 @@ same_key a b e =
     let m = same_number a.file.member b.file.member (tied_second (nat_cmp a.file.position b.file.position) (nat_cmp a.file.member b.file.member) files) in
     let s = same_number a.section b.section (tied_first (nat_cmp a.section b.section) (nat_cmp a.offset b.offset) rest) in
     let o = same_number a.offset b.offset (tied_second (nat_cmp a.section b.section) (nat_cmp a.offset b.offset) rest) in
-    joined a.file.position a.file.member a.section a.offset b.file.position b.file.member b.section b.offset p m s o
-  where
-    joined : (p m s o p' m' s' o' : ℕ) → p ≡ p' → m ≡ m' → s ≡ s' → o ≡ o' → key_of p m s o ≡ key_of p' m' s' o'
-    joined p m s o p' m' s' o' e f g h = rw (e, f, g, h) refl
+    same_fields a.file.position a.file.member a.section a.offset b.file.position b.file.member b.section b.offset p m s o
 
 -- ---- searches
 
@@ -82,7 +82,7 @@ find_missing key (x ∷ xs) k none =
     let away : is_eq (compare_keys (key x) k) ≡ false = not_equal (compare_keys (key x) k) (none 0 x (omega arith)) in
     rw away (find_missing key xs k (λ j d within. none (suc j) d (omega arith)))
 
-is_equal : (r : Ordering) → is_eq r ≡ true → r ≡ Equal
+pub is_equal : (r : Ordering) → is_eq r ≡ true → r ≡ Equal
 is_equal Less e = cc
 is_equal Equal e = refl
 is_equal Greater e = cc
