@@ -1,9 +1,8 @@
 -- The objects, which were read, and the members of forced archives are the files of the first round.
 use Rattle.std.proofs.Common.{◌≡◌, ℕ, zero, suc, ◌+◌, ◌<◌, ◌≤◌, ◌^◌, ◌==◌, ◌&&◌, ◌||◌, ◌++◌, Bool, true, false, not, List, [], ◌∷◌, All, Option, Some, None, Result, Ok, Err, length, map, filter, refl, sym, ap, ◌∙◌, subst, inl, inr, arith, eqb-true, if◌then◌else◌}
-use Rattle.std.specs.List.{AllByRecursion, filter_map, flat_map, list_any, range_with_len}
+use Rattle.std.specs.List.{AllByRecursion, filter_map, flat_map, range_with_len}
 use Rattle.std.specs.List.Sorted.{IsPermutation, IsSortedBy, IsStrictlySortedBy}
 use Rattle.std.specs.Ordering.{is_lt, nat_cmp}
-use Rattle.std.specs.Prelude.{unwrap_or}
 use Rattle.std.specs.Result.{result_ok}
 use Rattle.std.specs.declared.cmp.Ordering.TheVariants.{Less}
 use Rattle.std.proofs.lemmas.Bool.{cases_Bool}
@@ -12,7 +11,7 @@ use Rattle.std.proofs.lemmas.List.{map-append}
 use Rattle.std.proofs.lemmas.List.Elements.{filter-append}
 use Rattle.std.proofs.lemmas.List.Kept.{IsStrictlySortedBy-filter}
 use Rattle.std.proofs.lemmas.List.Sorted.{All-permutation, IsPermutation-filter_both}
-use Rattle.list_lemmas.proofs.Members.{In, all_from_in, all_in, any_from_in, from_filter, from_map, in_filter, in_map}
+use Rattle.list_lemmas.proofs.Members.{In, all_in, any_from_in, from_filter, from_map, in_filter, in_map}
 use Rattle.mo_types.specs.Gives.{◌>>=◌}
 use Rattle.mo_types.specs.Keys.{compare_files}
 use Rattle.mo_types.specs.Loaded.{IsWholeFile}
@@ -20,7 +19,7 @@ use Rattle.mo_types.specs.Scan.{first_some, option_or_else}
 use Rattle.mo_types.specs.declared.key.FileId.{FileId}
 use Rattle.mo_types.specs.declared.loaded.LoadedFile.{LoadedFile}
 use Rattle.mo_ar.specs.declared.archive.Archive.{Archive}
-use Rattle.member_rounds.specs.Files.{Content, all_ids, archive_in, content_in, content_of, file_of, id_at, ids_as, ids_in, read_as}
+use Rattle.member_rounds.specs.Files.{all_ids, archive_in, content_in, content_of, file_of, id_at, ids_as, ids_in, read_as}
 use Rattle.member_rounds.specs.Rounds.{files_of, is_first}
 use Rattle.member_rounds.specs.Sources.{AreInOrder, AreObjects, inputs_of, object_as, object_reads}
 use Rattle.member_rounds.specs.declared.fault.RoundFault.{RoundFault}

@@ -1,22 +1,15 @@
 -- What loops gather, element by element.
-use Rattle.std.proofs.Common.{◌≡◌, ℕ, ◌+◌, ◌<◌, ◌≤◌, ◌++◌, Bool, true, false, not, List, [], ◌∷◌, Some, None, length, map, filter, take, get_or, refl, sym, ap, ◌∙◌, append-nil, append_assoc, arith}
-use Rattle.std.specs.List.{filter_map, flat_map, range_with_len}
+use Rattle.std.proofs.Common.{◌≡◌, ℕ, ◌+◌, ◌<◌, ◌≤◌, ◌++◌, List, [], ◌∷◌, length, map, take, get_or, sym, ap, ◌∙◌, append-nil, append_assoc, arith}
+use Rattle.std.specs.List.{flat_map, range_with_len}
 use Rattle.std.proofs.lemmas.List.{take_all, take_more}
 use Rattle.std.proofs.lemmas.List.Concat.{flat_map-append}
-use Rattle.std.proofs.lemmas.List.Elements.{filter_map-append}
 use Rattle.std.proofs.lemmas.List.Folds.{flat_map-map}
 use Rattle.std.proofs.lemmas.List.FromFn.{map-range_with_len_more}
 use Rattle.mo_types.specs.declared.key.FileId.{FileId}
-use Rattle.mo_types.specs.declared.loaded.LoadedFile.{LoadedFile}
-use Rattle.mo_types.specs.declared.object.Symbol.{Symbol}
-use Rattle.lib_bind.specs.declared.library.LibraryGraph.{LibraryGraph}
 use Rattle.member_rounds.specs.Files.{all_ids, ids_in}
-use Rattle.member_rounds.specs.Rounds.{asked_by, is_undefined, undefined_in}
 use Rattle.member_rounds.specs.Sources.{inputs_of}
-use Rattle.member_rounds.specs.declared.input.Input.{Input}
 use Rattle.member_rounds.specs.declared.sources.Source.{Source}
 use Rattle.member_rounds.specs.inner.Holding.{member_at}
-use Rattle.member_rounds.specs.inner.Working.{asked_of, undefined_name, undefined_of}
 
 -- what was gathered of the elements before a place
 pub record IsGathering {X Y : Type 0} (before now : List Y) (f : X → List Y) (xs : List X) (i : ℕ) : Type 0 where

@@ -11,7 +11,6 @@ use Rattle.std.proofs.lemmas.Map.Made.{length-le_from_is_member}
 use Rattle.std.proofs.lemmas.Slice.Eq.{bytes_eq-Decides}
 use Rattle.list_lemmas.proofs.Members.{In, any_from_in}
 use Rattle.list_lemmas.proofs.Rising.{rising_at}
-use Rattle.mo_types.specs.Candidates.{candidates}
 use Rattle.mo_types.specs.Keys.{compare_files}
 use Rattle.mo_types.specs.Loaded.{IsWholeFile, IsWholeLoaded}
 use Rattle.mo_types.specs.declared.key.FileId.{FileId}
@@ -22,7 +21,7 @@ use Rattle.name_ids.specs.Names.{external_names, numbered}
 use Rattle.name_ids.proofs.Once.{distinct}
 use Rattle.member_rounds.specs.Growth.{after, is_in}
 use Rattle.member_rounds.specs.Files.{HasLowAtoms, all_ids, file_of}
-use Rattle.member_rounds.specs.Rounds.{asks, files_of, has_candidate, is_first, loaded_ids, loaded_of, names_fault, new_ids, undefined_in}
+use Rattle.member_rounds.specs.Rounds.{asked_by, asks, files_of, has_candidate, is_first, loaded_ids, loaded_of, names_fault, new_ids, undefined_in}
 use Rattle.member_rounds.specs.Sources.{AreInOrder, inputs_of}
 use Rattle.member_rounds.specs.declared.fault.RoundFault.{RoundFault}
 use Rattle.member_rounds.specs.declared.input.Input.{Input}
@@ -131,7 +130,7 @@ pub link_goes_on : (inputs : List Input) (libs : LibraryGraph) (wanted : List (L
     → All IsWholeFile files
     → next.rounds ≡ link.rounds + 1
     → next.kept.files ≡ link.kept.files ++ files
-    → ((name : List ℕ) → lists noted name ≡ (lists link.settled name || has_candidate files name))
+    → ((name : List ℕ) (id : FileId) → asked_by inputs libs name ≡ Some id → lists noted name ≡ (lists link.settled name || has_candidate files name))
     → names_fault next.kept.files wanted ≡ None
     → HaveAsked inputs libs [] noted asked next.settled (flat_map undefined_in files ++ first_names wanted link.rounds)
     → ((id : FileId) → is_in next.left id ≡ (is_in link.left id && not (is_in asked id)))

@@ -1,5 +1,5 @@
 -- What a file is read as: a Mach-O file's object, with atoms of low alignment.
-use Rattle.std.proofs.Common.{◌≡◌, ℕ, ◌+◌, ◌≤◌, ◌^◌, ◌==◌, ◌&&◌, ◌||◌, Bool, true, false, not, nat_le, nat_lt, List, [], ◌∷◌, All, Option, Some, None, Result, Ok, Err, length, min, inl, inr, refl, sym, ap, subst, ◌∙◌, arith, if◌then◌else◌}
+use Rattle.std.proofs.Common.{◌≡◌, ℕ, ◌+◌, ◌≤◌, ◌^◌, ◌==◌, ◌&&◌, ◌||◌, Bool, true, false, not, nat_lt, List, [], ◌∷◌, All, Option, Some, None, Result, Ok, Err, length, min, inl, inr, refl, sym, ap, subst, ◌∙◌, arith, if◌then◌else◌}
 use Rattle.std.specs.Int.{w64, trailing_zeros}
 use Rattle.std.proofs.lemmas.Bool.{cases_Bool, false≢true, ltb-false}
 use Rattle.list_lemmas.proofs.Members.{In, any_from_in}
@@ -25,7 +25,6 @@ use Rattle.mo_obj.specs.Object.{accepted, described, lacks, object_of}
 use Rattle.mo_obj.specs.Relocations.{relocations_of}
 use Rattle.member_rounds.specs.Files.{HasLowAtoms, content_of, fault_of, file_of, file_with, object_read, read_as, read_by}
 use Rattle.member_rounds.specs.Form.{is_later}
-use Rattle.member_rounds.specs.declared.fault.RoundFault.{RoundFault}
 use Rattle.member_rounds.specs.declared.input.Input.{Input}
 use Rattle.member_rounds.proofs.FileLemmas.{read_formed}
 use Rattle.member_rounds.proofs.StateLemmas.{all_from}

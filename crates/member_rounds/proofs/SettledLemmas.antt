@@ -1,7 +1,7 @@
 -- The names that needn't ask, and what the others ask for.
-use Rattle.std.proofs.Common.{◌≡◌, ℕ, ◌+◌, ◌<◌, ◌≤◌, ◌⊎◌, ◌&&◌, ◌||◌, ◌++◌, Bool, true, false, not, List, [], ◌∷◌, Some, None, length, map, filter, take, get_or, refl, sym, ap, ◌∙◌, subst, inl, inr, append-nil}
+use Rattle.std.proofs.Common.{◌≡◌, ℕ, ◌+◌, ◌<◌, ◌≤◌, ◌&&◌, ◌||◌, ◌++◌, Bool, true, false, not, List, [], ◌∷◌, Some, None, length, filter, take, get_or, refl, sym, ap, ◌∙◌, subst, inl, inr, append-nil}
 use Rattle.std.specs.Prelude.{if◌then◌else◌}
-use Rattle.std.specs.List.{flat_map, list_any}
+use Rattle.std.specs.List.{flat_map}
 use Rattle.std.specs.Str.{bytes_eq}
 use Rattle.std.proofs.lemmas.List.{take_all, take_more}
 use Rattle.std.proofs.lemmas.List.Concat.{flat_map-append}
@@ -9,14 +9,16 @@ use Rattle.std.proofs.lemmas.List.Folds.{list_any-append}
 use Rattle.std.proofs.lemmas.Slice.Eq.{bytes_eq-Decides}
 use Rattle.list_lemmas.proofs.Members.{In, any_from_in, any_true, from_filter, in_filter}
 use Rattle.mo_types.specs.Candidates.{candidates}
+use Rattle.mo_types.specs.Scan.{first_some}
 use Rattle.mo_types.specs.declared.key.FileId.{FileId}
 use Rattle.mo_types.specs.declared.loaded.LoadedFile.{LoadedFile}
 use Rattle.mo_types.specs.declared.object.Symbol.{Symbol}
 use Rattle.lib_bind.specs.declared.library.LibraryGraph.{LibraryGraph}
 use Rattle.member_rounds.specs.Growth.{is_in, same_file}
-use Rattle.member_rounds.specs.Rounds.{asked_by, has_candidate, is_undefined, undefined_in}
+use Rattle.member_rounds.specs.Rounds.{asked_by, has_candidate, is_undefined, offer_in, undefined_in}
 use Rattle.member_rounds.specs.declared.input.Input.{Input}
 use Rattle.member_rounds.specs.inner.Working.{AreSettled, HaveAsked, asked_of, lists, undefined_name, undefined_of}
+use Rattle.member_rounds.proofs.AskLemmas.{asks_none}
 use Rattle.member_rounds.proofs.GrowthLemmas.{has_from_in, in_from_has}
 use Rattle.member_rounds.proofs.RoundLemmas.{from_filter_map, in_filter_map}
 use Rattle.member_rounds.proofs.SetLemmas.{if_or, turned}
@@ -72,7 +74,7 @@ alone name = name ∷ []
 module _ (inputs : List Input) (libs : LibraryGraph) where
   nothing_asked : (before : List FileId) (settled : List (List ℕ)) → HaveAsked inputs libs before settled before settled []
   nothing_asked before settled = record {
-    settled_are = λ name. sym (or_false (lists settled name));
+    settled_are = λ name id is. sym (or_false (lists settled name));
     kept = λ id has. has;
     came = λ id has. inl has;
     asks = λ name id there missing is. absurd (let s : false ≡ true = there in let t : true ≡ false = sym s in cc);
@@ -80,14 +82,14 @@ module _ (inputs : List Input) (libs : LibraryGraph) where
 
   one_after_other : (before mid asked : List FileId) (settled middle after xs ys : List (List ℕ)) → HaveAsked inputs libs before settled mid middle xs → HaveAsked inputs libs mid middle asked after ys → HaveAsked inputs libs before settled asked after (xs ++ ys)
   one_after_other before mid asked settled middle after xs ys one two = record {
-    settled_are = λ name. two.settled_are name ∙ ap (λ (b : Bool). b || lists ys name) (one.settled_are name) ∙ or_grouped (lists settled name) (lists xs name) (lists ys name) ∙ ap (λ (b : Bool). lists settled name || b) (sym (both_lists xs ys name));
+    settled_are = λ name id is. two.settled_are name id is ∙ ap (λ (b : Bool). b || lists ys name) (one.settled_are name id is) ∙ or_grouped (lists settled name) (lists xs name) (lists ys name) ∙ ap (λ (b : Bool). lists settled name || b) (sym (both_lists xs ys name));
     kept = λ id has. two.kept id (one.kept id has);
     came = λ id has. elim (two.came id has) [
       | inl in_mid ↦ elim (one.came id in_mid) [
         | inl old ↦ inl old
         | inr r ↦ inr (r.0, both_lists xs ys r.0 ∙ or_left (lists xs r.0) (lists ys r.0) r.1, r.2, r.3)
       ]
-      | inr r ↦ inr (r.0, both_lists xs ys r.0 ∙ or_right (lists xs r.0) (lists ys r.0) r.1, neither_left (lists settled r.0) (lists xs r.0) (sym (one.settled_are r.0) ∙ r.2), r.3)
+      | inr r ↦ inr (r.0, both_lists xs ys r.0 ∙ or_right (lists xs r.0) (lists ys r.0) r.1, neither_left (lists settled r.0) (lists xs r.0) (sym (one.settled_are r.0 id r.3) ∙ r.2), r.3)
     ];
     asks = λ name id there missing is. elim (or_cases (lists xs name) (lists ys name) (sym (both_lists xs ys name) ∙ there)) [
       | inl first ↦ two.kept id (one.asks name id first missing is)
@@ -98,7 +100,7 @@ module _ (inputs : List Input) (libs : LibraryGraph) where
       by : (name : List ℕ) (id : FileId) → lists ys name ≡ true → lists settled name ≡ false → asked_by inputs libs name ≡ Some id → (b : Bool) → lists middle name ≡ b → is_in asked id ≡ true
       by name id second missing is false e = two.asks name id second e is
       by name id second missing is true e =
-          let either : (lists settled name || lists xs name) ≡ true = sym (one.settled_are name) ∙ e in
+          let either : (lists settled name || lists xs name) ≡ true = sym (one.settled_are name id is) ∙ e in
           let first : lists xs name ≡ true = rw missing at either in
           two.kept id (one.asks name id first missing is)
 
@@ -109,7 +111,7 @@ module _ (inputs : List Input) (libs : LibraryGraph) where
 
   pub already : (before : List FileId) (settled : List (List ℕ)) (name : List ℕ) → lists settled name ≡ true → HaveAsked inputs libs before settled before settled (name ∷ [])
   already before settled name has = record {
-    settled_are = λ other. by other (lists (name ∷ []) other) refl;
+    settled_are = λ other id is. by other (lists (name ∷ []) other) refl;
     kept = λ id there. there;
     came = λ id there. inl there;
     asks = λ other id there missing is. absurd (opposed (lists settled other) (subst (λ (n : List ℕ). lists settled n ≡ true) (sym (alone_is name other there)) has) missing);
@@ -130,7 +132,7 @@ module _ (inputs : List Input) (libs : LibraryGraph) where
 
   pub some_asked : (before asked : List FileId) (settled after : List (List ℕ)) (name : List ℕ) (id : FileId) → lists settled name ≡ false → ((other : List ℕ) → lists after other ≡ (if bytes_eq name other then true else lists settled other)) → Some id ≡ asked_by inputs libs name → asked ≡ before ++ id ∷ [] → HaveAsked inputs libs before settled asked after (name ∷ [])
   some_asked before asked settled after name id missing more is are = record {
-    settled_are = with_alone settled after name more;
+    settled_are = λ other id is. with_alone settled after name more other;
     kept = λ other has. of_both other ∙ or_left (is_in before other) (is_in (id ∷ []) other) has;
     came = λ other has. elim (or_cases (is_in before other) (is_in (id ∷ []) other) (sym (of_both other) ∙ has)) [
       | inl old ↦ inl old
@@ -147,7 +149,7 @@ module _ (inputs : List Input) (libs : LibraryGraph) where
 
   pub nobody_asked : (before : List FileId) (settled after : List (List ℕ)) (name : List ℕ) → ((other : List ℕ) → lists after other ≡ (if bytes_eq name other then true else lists settled other)) → None ≡ asked_by inputs libs name → HaveAsked inputs libs before settled before after (name ∷ [])
   nobody_asked before settled after name more is = record {
-    settled_are = with_alone settled after name more;
+    settled_are = λ other id is. with_alone settled after name more other;
     kept = λ other has. has;
     came = λ other has. inl has;
     asks = λ other_name other there other_missing asked_is. absurd (let s : None ≡ Some other = is ∙ ap (asked_by inputs libs) (sym (alone_is name other_name there)) ∙ asked_is in cc);
@@ -204,6 +206,22 @@ module _ (inputs : List Input) (libs : LibraryGraph) where
   pub files_then_names : (none mid asked : List FileId) (settled middle after : List (List ℕ)) (files : List LoadedFile) (names : List (List ℕ)) → none ≡ [] → HaveAsked inputs libs none settled mid middle (flat_map undefined_in files) → HaveAsked inputs libs mid middle asked after names → HaveAsked inputs libs [] settled asked after (flat_map undefined_in files ++ names)
   files_then_names none mid asked settled middle after files names nothing one two = subst (λ (ids : List FileId). HaveAsked inputs libs ids settled asked after (flat_map undefined_in files ++ names)) nothing (one_after_other none mid asked settled middle after (flat_map undefined_in files) names one two)
 
+  -- where no archive offers anything, nothing is asked for
+  pub nothing_offered : (none : List FileId) (settled names : List (List ℕ)) → none ≡ [] → ((name : List ℕ) → first_some (offer_in name) inputs ≡ None) → HaveAsked inputs libs [] settled none settled names
+  nothing_offered none settled names nothing offers = record {
+    settled_are = λ name id is. absurd (never name id is);
+    kept = λ id has. absurd (let s : false ≡ true = has in let t : true ≡ false = sym s in cc);
+    came = λ id has. absurd (let s : false ≡ true = subst (λ (ids : List FileId). is_in ids id ≡ true) nothing has in let t : true ≡ false = sym s in cc);
+    asks = λ name id there missing is. absurd (never name id is);
+  }
+    where
+      never : (name : List ℕ) (id : FileId) → asked_by inputs libs name ≡ Some id → ⊥
+      never name id is = let s : None ≡ Some id = asks_none inputs libs name (offers name) ∙ is in cc
+
+  -- and the candidates of files settle nothing
+  pub nothing_noted : (settled : List (List ℕ)) (files : List LoadedFile) → ((name : List ℕ) → first_some (offer_in name) inputs ≡ None) → (name : List ℕ) (id : FileId) → asked_by inputs libs name ≡ Some id → lists settled name ≡ (lists settled name || has_candidate files name)
+  nothing_noted settled files offers name id is = absurd (let s : None ≡ Some id = asks_none inputs libs name (offers name) ∙ is in cc)
+
 pub ruleset one_name = (some_asked, nobody_asked)
 
 pub ruleset asked_before = (already)
@@ -216,7 +234,9 @@ pub ruleset files = (asking_start, asking_step, files_end)
 
 pub ruleset names = (asking_start, asking_step, names_end)
 
-pub ruleset both = (files_then_names)
+pub ruleset both = (files_then_names, nothing_offered)
+
+pub ruleset unless_offered = (nothing_noted)
 
 -- ---- settled names
 
@@ -224,18 +244,18 @@ module _ (inputs : List Input) (libs : LibraryGraph) where
   pub none_settled : (kept : List LoadedFile) (settled : List (List ℕ)) (left : List FileId) → kept ≡ [] → settled ≡ [] → AreSettled inputs libs kept settled left
   unfolding has_candidate candidates
   none_settled kept settled left none nothing = record {
-    all = λ name has. absurd (let s : false ≡ true = subst (λ (fs : List LoadedFile). has_candidate fs name ≡ true) none has in let t : true ≡ false = sym s in cc);
+    all = λ name id asks has. absurd (let s : false ≡ true = subst (λ (fs : List LoadedFile). has_candidate fs name ≡ true) none has in let t : true ≡ false = sym s in cc);
     only = λ name id has asks there. absurd (let s : false ≡ true = subst (λ (ns : List (List ℕ)). lists ns name ≡ true) nothing has in let t : true ≡ false = sym s in cc);
   }
 
   -- the candidates of new files settle their names
-  pub noted_settled : (kept files more : List LoadedFile) (settled noted : List (List ℕ)) (left : List FileId) → AreSettled inputs libs kept settled left → ((name : List ℕ) → lists noted name ≡ (lists settled name || has_candidate files name)) → ((name : List ℕ) → has_candidate more name ≡ (has_candidate kept name || has_candidate files name)) → AreSettled inputs libs more noted left
+  pub noted_settled : (kept files more : List LoadedFile) (settled noted : List (List ℕ)) (left : List FileId) → AreSettled inputs libs kept settled left → ((name : List ℕ) (id : FileId) → asked_by inputs libs name ≡ Some id → lists noted name ≡ (lists settled name || has_candidate files name)) → ((name : List ℕ) → has_candidate more name ≡ (has_candidate kept name || has_candidate files name)) → AreSettled inputs libs more noted left
   noted_settled kept files more settled noted left so learnt grown = record {
-    all = λ name has. learnt name ∙ elim (or_cases (has_candidate kept name) (has_candidate files name) (sym (grown name) ∙ has)) [
-      | inl old ↦ or_left (lists settled name) (has_candidate files name) (so.all name old)
+    all = λ name id asks has. learnt name id asks ∙ elim (or_cases (has_candidate kept name) (has_candidate files name) (sym (grown name) ∙ has)) [
+      | inl old ↦ or_left (lists settled name) (has_candidate files name) (so.all name id asks old)
       | inr new ↦ or_right (lists settled name) (has_candidate files name) new
     ];
-    only = λ name id has asks there. grown name ∙ elim (or_cases (lists settled name) (has_candidate files name) (sym (learnt name) ∙ has)) [
+    only = λ name id has asks there. grown name ∙ elim (or_cases (lists settled name) (has_candidate files name) (sym (learnt name id asks) ∙ has)) [
       | inl old ↦ or_left (has_candidate kept name) (has_candidate files name) (so.only name id old asks there)
       | inr new ↦ or_right (has_candidate kept name) (has_candidate files name) new
     ];
@@ -244,10 +264,10 @@ module _ (inputs : List Input) (libs : LibraryGraph) where
   -- names that have asked are settled where what they asked for isn't left
   pub after_settled : (kept : List LoadedFile) (noted after names : List (List ℕ)) (asked left rest : List FileId) → AreSettled inputs libs kept noted left → HaveAsked inputs libs [] noted asked after names → ((id : FileId) → is_in rest id ≡ (is_in left id && not (is_in asked id))) → AreSettled inputs libs kept after rest
   after_settled kept noted after names asked left rest so have rest_are = record {
-    all = λ name has. have.settled_are name ∙ or_left (lists noted name) (lists names name) (so.all name has);
+    all = λ name id asks has. have.settled_are name id asks ∙ or_left (lists noted name) (lists names name) (so.all name id asks has);
     only = λ name id has asks there.
         let parts = and_true (is_in left id) (not (is_in asked id)) (sym (rest_are id) ∙ there) in
-        by name id asks parts.0 parts.1 (lists noted name) refl (sym (have.settled_are name) ∙ has);
+        by name id asks parts.0 parts.1 (lists noted name) refl (sym (have.settled_are name id asks) ∙ has);
   }
     where
       by : (name : List ℕ) (id : FileId) → asked_by inputs libs name ≡ Some id → is_in left id ≡ true → not (is_in asked id) ≡ true → (b : Bool) → lists noted name ≡ b → (lists noted name || lists names name) ≡ true → has_candidate kept name ≡ true
@@ -263,7 +283,7 @@ module _ (inputs : List Input) (libs : LibraryGraph) where
         | inl never ↦ absurd (let s : false ≡ true = never in let t : true ≡ false = sym s in cc)
         | inr r ↦ has_from_in (asked_of (has_candidate kept) inputs libs names) id
             (in_filter_map (asked_by inputs libs) (filter (λ name. not (has_candidate kept name)) names) r.0 id
-            (in_filter (λ name. not (has_candidate kept name)) names r.0 (in_names names r.0 r.1) (not_from (has_candidate kept r.0) (λ candidate. opposed (lists noted r.0) (so.all r.0 candidate) r.2))) r.3)
+            (in_filter (λ name. not (has_candidate kept name)) names r.0 (in_names names r.0 r.1) (not_from (has_candidate kept r.0) (λ candidate. opposed (lists noted r.0) (so.all r.0 id r.3 candidate) r.2))) r.3)
       ])
       (λ has.
       let from = from_filter_map (asked_by inputs libs) (filter (λ name. not (has_candidate kept name)) names) id (in_from_has (asked_of (has_candidate kept) inputs libs names) id has) in

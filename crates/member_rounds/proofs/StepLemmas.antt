@@ -183,7 +183,7 @@ module _ (inputs : List Input) (libs : LibraryGraph) (wanted : List (List ℕ)) 
       → IsBetween inputs libs wanted k kept settled left new
       → read_each inputs new ≡ Ok files
       → more ≡ kept ++ files
-      → ((name : List ℕ) → lists noted name ≡ (lists settled name || has_candidate files name))
+      → ((name : List ℕ) (id : FileId) → asked_by inputs libs name ≡ Some id → lists noted name ≡ (lists settled name || has_candidate files name))
       → names_fault more wanted ≡ None
       → HaveAsked inputs libs [] noted asked after (flat_map undefined_in files ++ first_names wanted k)
       → ((id : FileId) → is_in rest id ≡ (is_in left id && not (is_in asked id)))

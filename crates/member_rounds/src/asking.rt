@@ -146,7 +146,8 @@ fn ask_names(
     Ok(asked)
 }
 
-/// What the names ask for that new files want, and some further names, where they aren't settled. Each name asks once.
+/// What the names ask for that new files want, and some further names, where they aren't settled. Each name asks once, and
+/// none where no archive offers anything.
 #[tactic(auto, using(crate::proofs::SettledLemmas::both))]
 pub(crate) fn ask_all(
     alloc: Global,
@@ -159,6 +160,9 @@ pub(crate) fn ask_all(
     ensures { IfOk result (λ after. HaveAsked offers.now libs.now [] settled after.ids.items after.settled (flat_map undefined_in files.now ++ names.now)) }
 {
     let ids = Vec::new(alloc);
+    if offers.is_empty() {
+        return Ok(Asked { ids, settled });
+    }
     let asked = ask_files(Asked { ids, settled }, offers, libs, files)?;
     ask_names(asked, offers, libs, names)
 }

@@ -1,5 +1,5 @@
 //! Files by names.
-ghost use Rattle.std.specs.Prelude.{◌≡◌, ℕ, List, None, Some, IfOk, if◌then◌else◌};
+ghost use Rattle.std.specs.Prelude.{◌≡◌, ℕ, List, None, Some, IfOk, IsTrue, if◌then◌else◌};
 ghost use Rattle.std.specs.Str.{bytes_eq};
 ghost use Rattle.member_rounds.specs.inner.Offered.{file_named};
 
@@ -22,6 +22,13 @@ impl<'a> FilesByName<'a> {
         FilesByName {
             files: HashMap::new(alloc),
         }
+    }
+
+    /// Whether no name has a file.
+    pub(crate) fn is_empty(&self) -> bool
+        ensures { IsTrue result → (name : List ℕ) → file_named self.now name ≡ None }
+    {
+        self.files.is_empty()
     }
 
     /// The file of a name. Takes no memory.

@@ -1,5 +1,5 @@
 //! The files that a link loads, round by round.
-ghost use Rattle.std.specs.Prelude.{◌≡◌, ℕ, ◌+◌, ◌^◌, ◌<◌, ◌≤◌, ◌++◌, ◌&&◌, ◌||◌, List, [], length, not, true, All, IfErr, IfOk, Err, Ok};
+ghost use Rattle.std.specs.Prelude.{◌≡◌, ℕ, ◌+◌, ◌^◌, ◌<◌, ◌≤◌, ◌++◌, ◌&&◌, ◌||◌, List, [], length, not, true, All, IfErr, IfOk, Err, Ok, Some};
 ghost use Rattle.std.specs.List.{flat_map};
 ghost use Rattle.std.specs.List.Sorted.{IsStrictlySortedBy};
 ghost use Rattle.mo_types.specs.Gives.{Gives};
@@ -10,7 +10,7 @@ ghost use Rattle.name_ids.specs.Names.{external_names};
 ghost use Rattle.lib_bind.specs.declared.library.LibraryGraph.{LibraryGraph};
 ghost use Rattle.member_rounds.specs.Files as files;
 ghost use Rattle.member_rounds.specs.Files.{HasLowAtoms, IsRoundFault};
-ghost use Rattle.member_rounds.specs.Rounds.{has_candidate, loaded_of, undefined_in};
+ghost use Rattle.member_rounds.specs.Rounds.{asked_by, has_candidate, loaded_of, undefined_in};
 ghost use Rattle.member_rounds.specs.Growth.{is_in};
 ghost use Rattle.member_rounds.specs.Sources.{AreInOrder, AreObjects, inputs_of};
 ghost use Rattle.member_rounds.specs.inner.Linking.{IsLinkAt, IsReadAt};
@@ -95,10 +95,18 @@ fn begin(
     })
 }
 
-// Names, and those of the candidates of new files.
-fn note_new(settled: NameSet, read: &LoadedList) -> Result<NameSet, OutOfMemory>
-    ensures { IfOk result (λ new. (name : List ℕ) → working.lists new name ≡ (working.lists settled name || has_candidate read.now name)) }
+// Names, and those of the candidates of new files: of all names that ask for something.
+#[tactic(auto, using(crate::proofs::SettledLemmas::unless_offered))]
+fn note_new(
+    offers: &OfferIndex,
+    settled: NameSet,
+    read: &LoadedList,
+) -> Result<NameSet, OutOfMemory>
+    ensures { IfOk result (λ new. (libs : LibraryGraph) (name : List ℕ) (id : FileId) → asked_by offers.now libs name ≡ Some id → working.lists new name ≡ (working.lists settled name || has_candidate read.now name)) }
 {
+    if offers.is_empty() {
+        return Ok(settled);
+    }
     note_files(settled, read.as_slice())
 }
 
@@ -161,7 +169,7 @@ fn join_round(
         new: _,
         spare,
     } = link;
-    let settled = note_new(settled, &read)?;
+    let settled = note_new(offers, settled, &read)?;
     let Asked { ids, settled } = ask_new(alloc, offers, libs, settled, &read, wanted, rounds)?;
     let count = count_new(&read);
     let kept = with_files(kept, read)?;

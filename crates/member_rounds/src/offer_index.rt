@@ -1,5 +1,5 @@
 //! What the archives of a link offer, with an index by name.
-ghost use Rattle.std.specs.Prelude.{◌≡◌, ℕ, List, IfOk, if◌then◌else◌};
+ghost use Rattle.std.specs.Prelude.{◌≡◌, ℕ, List, None, IfOk, IsTrue, if◌then◌else◌};
 ghost use Rattle.std.specs.Str.{bytes_eq};
 ghost use Rattle.mo_types.specs.Scan.{first_some, option_or_else};
 ghost use Rattle.member_rounds.specs.Rounds as rounds;
@@ -120,6 +120,13 @@ impl<'a> OfferIndex<'a> {
     {
         let files = index_of(alloc, sources)?;
         Ok(OfferIndex { sources, files })
+    }
+
+    /// Whether no archive offers anything.
+    pub(crate) fn is_empty(&self) -> bool
+        ensures { IsTrue result → (name : List ℕ) → first_some (rounds.offer_in name) self.now ≡ None }
+    {
+        self.files.is_empty()
     }
 
     /// The least-numbered member that the table of the first archive with a name gives to it. It takes the time of one

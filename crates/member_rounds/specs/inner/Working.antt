@@ -82,16 +82,18 @@ pub record AreKept (inputs : List Input) (among : List FileId) (kept : List Load
   pub ids : IsPermutation among (map (λ file. file.id) kept)
   pub read : All (λ file. file_of inputs file.id ≡ Ok file) kept
 
--- what names asked for: each that wasn't settled for the member that it asks for, and then it is settled
+-- what names asked for: each that wasn't settled for the member that it asks for, and then it is settled; of names that
+-- ask for nothing it is of no matter whether they are
 pub record HaveAsked (inputs : List Input) (libs : LibraryGraph) (before : List FileId) (settled : List (List ℕ)) (asked : List FileId) (after : List (List ℕ)) (names : List (List ℕ)) : Type 0 where
-  pub settled_are : (name : List ℕ) → lists after name ≡ (lists settled name || lists names name)
+  pub settled_are : (name : List ℕ) (id : FileId) → asked_by inputs libs name ≡ Some id → lists after name ≡ (lists settled name || lists names name)
   pub kept : (id : FileId) → is_in before id ≡ true → is_in asked id ≡ true
   pub came : (id : FileId) → is_in asked id ≡ true → (is_in before id ≡ true) ⊎ ((name : List ℕ) × (lists names name ≡ true) × (lists settled name ≡ false) × (asked_by inputs libs name ≡ Some id))
   pub asks : (name : List ℕ) (id : FileId) → lists names name ≡ true → lists settled name ≡ false → asked_by inputs libs name ≡ Some id → is_in asked id ≡ true
 
--- names that needn't ask: those that have a candidate, and others that ask for nothing that is left
+-- names that needn't ask: those that have a candidate, and others that ask for nothing that is left; of those that ask for
+-- nothing at all none has to be there
 pub record AreSettled (inputs : List Input) (libs : LibraryGraph) (kept : List LoadedFile) (settled : List (List ℕ)) (left : List FileId) : Type 0 where
-  pub all : (name : List ℕ) → has_candidate kept name ≡ true → lists settled name ≡ true
+  pub all : (name : List ℕ) (id : FileId) → asked_by inputs libs name ≡ Some id → has_candidate kept name ≡ true → lists settled name ≡ true
   pub only : (name : List ℕ) (id : FileId) → lists settled name ≡ true → asked_by inputs libs name ≡ Some id → is_in left id ≡ true → has_candidate kept name ≡ true
 
 -- a link before a round: the files so far, the names that needn't ask, the files that are left, those of the round, and no

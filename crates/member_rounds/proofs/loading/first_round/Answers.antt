@@ -1,7 +1,7 @@
 use Rattle.std.proofs.Common.{◌∙◌, ap, arith, sym}
 use Rattle.member_rounds.specs.Sources.{inputs_of}
 use Rattle.member_rounds.specs.inner.Working.{read_each}
-use Rattle.member_rounds.proofs.LinkLemmas.{fault_over, link_over, link_read_fails, new_first, read_at}
+use Rattle.member_rounds.proofs.LinkLemmas.{link_read_fails, new_first, read_at}
 use Rattle.member_rounds.proofs.loading.first_round.Goals as goal
 
 pub read_first-requires-clause-ids : goal.read_first-requires-clause-ids

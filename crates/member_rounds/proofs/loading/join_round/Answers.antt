@@ -9,4 +9,4 @@ pub returns-in-Err-clause-fault : goal.returns-in-Err-clause-fault
 returns-in-Err-clause-fault c = λ real. link_names_fail c.args.offers.now c.args.libs.now c.args.wanted.now c.args.link c.args.read c.in_ok-kept.kept.files c.in-Err.fault c.requires.read.link_is c.requires.read.rounds c.requires.read.read c.in_ok-kept.ensures (c.in-Err.ensures.fault real)
 
 pub returns-clause-link : goal.returns-clause-link
-returns-clause-link c = link_goes_on c.args.offers.now c.args.libs.now c.args.wanted.now c.args.link _ c.args.read c.in_ok-settled.settled c.in_ok-ids.field-0.ids.items c.requires.read.order c.requires.read.link_is c.requires.read.read c.requires.read.whole refl c.in_ok-kept.ensures c.in_ok-settled.ensures c.in-Ok.ensures.few c.in_ok-ids.ensures c.in_ok-left.ensures.left c.in_ok-left.ensures.rises c.in_ok-left.ensures.taken c.in-Ok.ensures.spare
+returns-clause-link c = link_goes_on c.args.offers.now c.args.libs.now c.args.wanted.now c.args.link _ c.args.read c.in_ok-settled.settled c.in_ok-ids.field-0.ids.items c.requires.read.order c.requires.read.link_is c.requires.read.read c.requires.read.whole refl c.in_ok-kept.ensures (c.in_ok-settled.ensures c.args.libs.now) c.in-Ok.ensures.few c.in_ok-ids.ensures c.in_ok-left.ensures.left c.in_ok-left.ensures.rises c.in_ok-left.ensures.taken c.in-Ok.ensures.spare
