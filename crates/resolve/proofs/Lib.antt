@@ -24,6 +24,7 @@ pub mod GoalLemmas
 pub mod WordsLemmas
 pub mod OneLemmas
 pub mod OneListLemmas
+pub mod ReadingLemmas
 pub mod GrowLemmas
 pub mod PickLemmas
 pub mod AtomSetLemmas

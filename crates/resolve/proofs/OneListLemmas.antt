@@ -32,7 +32,7 @@ each_of : {X : Type 0} (P : X → Type 0) (xs : List X) → ((j : ℕ) (d : X) �
 each_of P [] h = tt
 each_of P (x ∷ xs) h = (h 0 x (omega arith), each_of P xs (λ j d l. h (suc j) d (omega (arith, l))))
 
-rising_from_pairs : {X : Type 0} (R : X → X → Ordering) (xs : List X) → AllPairs (λ a b. R a b ≡ Less) xs → IsStrictlySortedBy R xs
+pub rising_from_pairs : {X : Type 0} (R : X → X → Ordering) (xs : List X) → AllPairs (λ a b. R a b ≡ Less) xs → IsStrictlySortedBy R xs
 unfolding IsStrictlySortedBy
 rising_from_pairs R [] p = tt
 rising_from_pairs R (x ∷ xs) p = (each_of (λ y. R x y ≡ Less) xs (λ j d l. p 0 (suc j) d (omega arith) (omega (arith, l))), rising_from_pairs R xs (λ i j d less within. p (suc i) (suc j) d (omega (arith, less)) (omega (arith, within))))

@@ -5,6 +5,7 @@ use Rattle.std.specs.List.{enumerate_from, flat_map}
 use Rattle.std.specs.Option.{option_and_then, option_map, option_map_or, option_to_list}
 use Rattle.lib_bind.specs.declared.library.LibraryGraph.{LibraryGraph}
 use Rattle.mo_cmd.specs.declared.command.Command.{Command}
+use Rattle.mo_format.specs.declared.loader.TheConstants.{S_ATTR_LIVE_SUPPORT}
 use Rattle.mo_types.specs.declared.edge.Edge.{Edge}
 use Rattle.mo_types.specs.declared.goal.Goal.{Goal}
 use Rattle.mo_types.specs.declared.goal.Goal.TheVariants.{Def, WeakSelf}
@@ -55,9 +56,9 @@ unwind_edges literals goals unwind =
 unfoldable pub file_edges : List Representative → List Goal → LoadedFile → List Edge
 file_edges literals goals file = flat_map (ref_edges literals goals) file.refs ++ flat_map (unwind_edges literals goals) file.unwinds
 
--- S_ATTR_LIVE_SUPPORT
+-- a section that supports what is live
 abbrev pub is_live_support : Section → Bool
-is_live_support section = not (bit_and section.attributes 0x08000000 == 0)
+is_live_support section = not (bit_and section.attributes S_ATTR_LIVE_SUPPORT == 0)
 
 -- an atom stands in a section that supports what is live
 unfoldable pub supports_live : Object → AtomKey → Bool

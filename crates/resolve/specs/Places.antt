@@ -9,6 +9,7 @@ use Rattle.mo_types.specs.Atoms.{cut_of}
 use Rattle.mo_types.specs.RelocationRules.{section_numbered}
 use Rattle.mo_types.specs.Whole.{is_dropped}
 use Rattle.resolve.specs.declared.places.Place.{Place}
+use Rattle.resolve.specs.declared.places.TheConstants.{COMMON_SECTION}
 
 -- an offset of the section of a number belongs to the atom with the greatest cut not above it
 unfoldable pub place_at : LoadedFile → ℕ → Section → ℕ → Place
@@ -21,9 +22,9 @@ place_at file number section offset = record {
 unfoldable pub place_in : LoadedFile → ℕ → ℕ → Section → Option Place
 place_in file number value section = if is_dropped section then None else Some (place_at file number section (value - section.address))
 
--- Where a file's symbol of an index stands. A common symbol makes an atom of its own, of section 256 and with the index
--- as its offset; what isn't defined stands nowhere.
+-- Where a file's symbol of an index stands. A common symbol makes an atom of its own, in the section of commons and
+-- with the index as its offset; what isn't defined stands nowhere.
 unfoldable pub place_of : LoadedFile → ℕ → SymbolKind → Option Place
 place_of file index (Defined section value) = option_and_then (place_in file section value) (section_numbered file.object.sections section)
-place_of file index (Common size align) = Some (record { atom = record { file = file.id; section = 256; offset = index }; offset = 0 })
+place_of file index (Common size align) = Some (record { atom = record { file = file.id; section = COMMON_SECTION; offset = index }; offset = 0 })
 place_of file index _ = None

@@ -4,6 +4,7 @@ use Rattle.std.specs.Prelude.{ℕ, ◌==◌, ◌&&◌, ◌||◌, ◌++◌, bit_a
 use Rattle.std.specs.List.{enumerate_from, filter_map, flat_map, list_any}
 use Rattle.std.specs.Option.{option_and_then, option_map, option_map_or, option_to_list}
 use Rattle.mo_cmd.specs.declared.command.Command.{Command}
+use Rattle.mo_format.specs.declared.loader.TheConstants.{S_ATTR_NO_DEAD_STRIP, S_MOD_INIT_FUNC_POINTERS}
 use Rattle.mo_types.specs.Candidates.{word_of}
 use Rattle.mo_types.specs.Rows.{when}
 use Rattle.mo_types.specs.declared.atom.Atom.{Atom}
@@ -17,6 +18,7 @@ use Rattle.resolve.specs.Goals.{stands_for}
 use Rattle.resolve.specs.Known.{Known}
 use Rattle.resolve.specs.Places.{place_of}
 use Rattle.resolve.specs.Winners.{winner_named}
+use Rattle.resolve.specs.declared.places.TheConstants.{COMMON_SECTION}
 use Rattle.resolve.specs.declared.representative.Representative.{Representative}
 use Rattle.resolve.specs.declared.winner.Winner.{Winner}
 
@@ -64,7 +66,7 @@ plain_root literals external winning atom = when (is_plain literals external win
 
 -- a common symbol's own atom
 unfoldable pub common_root : AtomKey → Option AtomKey
-common_root atom = when (atom.section == 256) atom
+common_root atom = when (atom.section == COMMON_SECTION) atom
 
 -- those of a file, and the common symbols of the file that win
 unfoldable pub plain_roots : Known → LoadedFile → List AtomKey
@@ -74,9 +76,9 @@ plain_roots known file =
 
 -- ---- with -dead_strip
 
--- S_MOD_INIT_FUNC_POINTERS, or S_ATTR_NO_DEAD_STRIP
+-- functions that run before the program, or what an attribute marks
 abbrev pub is_kept_section : Section → Bool
-is_kept_section section = section.kind == 9 || not (bit_and section.attributes 0x10000000 == 0)
+is_kept_section section = section.kind == S_MOD_INIT_FUNC_POINTERS || not (bit_and section.attributes S_ATTR_NO_DEAD_STRIP == 0)
 
 -- an atom of a section that is kept
 unfoldable pub section_root : Object → Atom → Option AtomKey

@@ -16,7 +16,7 @@ ghost use Rattle.resolve.specs.Duplicates.{IsDuplicate};
 ghost use Rattle.resolve.specs.Edges.{edges, file_edges, file_supports, goal_atom, supports, target_atom};
 ghost use Rattle.resolve.specs.Found.{AreNamed};
 ghost use Rattle.resolve.specs.Goals.{goal_of, goals_of_symbols};
-ghost use Rattle.resolve.specs.Laws.{HasRoom};
+ghost use Rattle.resolve.specs.Laws.{AreSameFiles, HasRoom};
 ghost use Rattle.resolve.specs.Winners.{AreWinners};
 ghost use Rattle.resolve.specs.declared.winner.Winner.{Winner};
 ghost use Rattle.resolve.specs.Representatives.{IsRepresentative, Literal, is_same, literals, representative_of, representatives_of};
@@ -66,6 +66,11 @@ pub fn winners_are_one_list()
 /// The same files have one answer as to which least name two strong definitions have, by the numbers of distinct names.
 pub fn duplicates_are_one()
     ensures { (files : List LoadedFile) (names : List (List ℕ)) (a b : Option (ℕ × FileId × FileId)) → IsNumbering names → IsDuplicate files names a → IsDuplicate files names b → a ≡ b }
+{}
+
+/// The order in which files were read is nothing: whole ones of the same files are one, and so is all that they mean.
+pub fn the_order_of_reading_is_nothing()
+    ensures { (a b : Loaded) → IsWholeLoaded a → IsWholeLoaded b → AreSameFiles a b → a ≡ b }
 {}
 
 /// An edge leads to the atom of its reference's goal: what the goals of a file's symbols give for a target is where the

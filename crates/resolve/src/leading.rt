@@ -9,6 +9,7 @@ ghost use Rattle.resolve.specs.Representatives.{representatives_of};
 
 use crate::known::Winners;
 use mark_core::KeySet;
+use mo_format::loader::S_ATTR_LIVE_SUPPORT;
 use mo_types::{
     AtomKey, Edge, EdgeList, Goal, GoalList, Items, Loaded, LoadedFile, Object, OutOfMemory, Ref,
     RefList, Section, Target, Unwind,
@@ -301,7 +302,7 @@ fn with_edges_at(
 fn is_live_support(section: &Section) -> bool
     ensures { result ≡ spec.is_live_support section.now }
 {
-    section.attributes & 0x0800_0000 != 0
+    section.attributes & S_ATTR_LIVE_SUPPORT != 0
 }
 
 // Whether an atom stands in a section that supports what is live.

@@ -33,10 +33,11 @@ pub use known::Winners;
 pub use laws::{
     a_name_has_one_winner, candidates_have_numbers, duplicates_are_one, edges_are_file_by_file,
     edges_lead_to_goals, representatives_have_the_least_keys, the_earlier_wins,
-    the_same_literals_have_one_representative, the_stronger_wins, winners_are_one_list,
+    the_order_of_reading_is_nothing, the_same_literals_have_one_representative, the_stronger_wins,
+    winners_are_one_list,
 };
 pub use leading::edges;
-pub use places::{Place, place_of};
+pub use places::{COMMON_SECTION, Place, place_of};
 pub use representative::{Representative, RepresentativeList};
 pub use starting::roots;
 pub use winner::{Winner, WinnerList};

@@ -14,6 +14,9 @@ ghost use Rattle.resolve.specs.Places as places;
 
 use mo_types::{Atom, AtomKey, LoadedFile, SymbolKind};
 
+/// The section number of common symbols' atoms: one more than a section of a file can have (`nlist.h`: MAX_SECT).
+pub const COMMON_SECTION: u16 = 256;
+
 /// A place in an atom.
 #[derive(Clone, Copy, Debug, PartialEq, Eq)]
 pub struct Place {
@@ -101,7 +104,7 @@ pub fn place_of(file: &LoadedFile, index: u32) -> Option<Place>
         SymbolKind::Common { .. } => Some(Place {
             atom: AtomKey {
                 file: file.id,
-                section: 256,
+                section: COMMON_SECTION,
                 offset: u64::from(index),
             },
             offset: 0,

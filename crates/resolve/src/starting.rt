@@ -9,9 +9,11 @@ ghost use Rattle.resolve.specs.Roots as spec;
 
 use crate::atom_set::{AtomSet, set_of_atoms};
 use crate::known::Winners;
+use crate::places::COMMON_SECTION;
 use crate::standing::{external_atoms, symbol_atom, winning_atom, winning_atoms, with_atom};
 use crate::winner::Winner;
 use mo_cmd::Command;
+use mo_format::loader::{S_ATTR_NO_DEAD_STRIP, S_MOD_INIT_FUNC_POINTERS};
 use mo_types::{
     Atom, AtomKey, Bytes, Items, KeyList, Loaded, LoadedFile, Object, OutOfMemory, Section,
 };
@@ -57,7 +59,7 @@ fn with_plain(
 fn common_root(atom: AtomKey) -> Option<AtomKey>
     ensures { result ≡ spec.common_root atom }
 {
-    if atom.section == 256 {
+    if atom.section == COMMON_SECTION {
         Some(atom)
     } else {
         None
@@ -97,7 +99,8 @@ fn with_plain_roots(
 fn is_kept_section(section: &Section) -> bool
     ensures { result ≡ spec.is_kept_section section.now }
 {
-    section.kind == 9 || section.attributes & 0x1000_0000 != 0
+    u32::from(section.kind) == S_MOD_INIT_FUNC_POINTERS
+        || section.attributes & S_ATTR_NO_DEAD_STRIP != 0
 }
 
 // An atom of a section that is kept.

@@ -8,7 +8,7 @@ pub struct Winner {
     pub word: u64,
     /// The file that has it.
     pub file: FileId,
-    /// The atom in which it stands; that of a common symbol is its own, of section 256.
+    /// The atom in which it stands; that of a common symbol is its own, of the section `COMMON_SECTION`.
     pub atom: AtomKey,
     /// Its offset from the atom's start in bytes.
     pub offset: u64,
