@@ -3,16 +3,15 @@
 
 Runs four million jobs of 50 steps, some 80 ns each, twenty million jobs without steps, and 7 jobs of 100 million
 steps, some 0.2 s each, with 1, 2 and 4 workers. Prints for each the least time of the runs, how many times as fast it
-was as with one worker, and the least processor time that one job took. The program is built before by `rt run` in
-`crates/fan_speed`.
+was as with one worker, and the least processor time that one job took. `speed_calls.py` says how the program is built.
 """
 import os
 import subprocess
 import sys
 import time
-from pathlib import Path
 
-PROGRAM = Path(__file__).resolve().parent.parent / "crates/fan_speed/out/fan_speed"
+from speed_calls import command
+
 LOADS = [("4 million jobs of 50 steps", 4_000_000, 50), ("20 million jobs without steps", 20_000_000, 0),
          ("7 jobs of 100 million steps", 7, 100_000_000)]
 
@@ -20,7 +19,7 @@ LOADS = [("4 million jobs of 50 steps", 4_000_000, 50), ("20 million jobs withou
 def run(workers, jobs, steps):
     """The seconds, the seconds of processor time, and what the program printed."""
     start = time.monotonic()
-    child = subprocess.Popen([PROGRAM, str(workers), str(jobs), str(steps)], stdout=subprocess.PIPE, text=True)
+    child = subprocess.Popen(command("fan", workers, jobs, steps), stdout=subprocess.PIPE, text=True)
     printed = child.stdout.read()
     _, status, usage = os.wait4(child.pid, 0)
     seconds = time.monotonic() - start
@@ -30,8 +29,6 @@ def run(workers, jobs, steps):
 
 
 def main(runs):
-    if not PROGRAM.exists():
-        sys.exit("build the program first: (cd crates/fan_speed && rt run)")
     for name, jobs, steps in LOADS:
         alone, sums = None, set()
         print(f"{name}:")

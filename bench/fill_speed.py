@@ -2,26 +2,24 @@
 """Times the writing of 50 MB of atoms into an image by workers: `fill_speed.py [RUNS]`.
 
 Runs 2^20 atoms of 48 bytes with a branch each, with 1, 2 and 4 workers. Prints for each the median of the call alone,
-and how many times as fast it was as with one worker. The program is built before by `rt run` in `crates/fill_speed`.
+and how many times as fast it was as with one worker. `speed_calls.py` says how the program is built.
 """
 import statistics
 import subprocess
 import sys
-from pathlib import Path
 
-PROGRAM = Path(__file__).resolve().parent.parent / "crates/fill_speed/out/fill_speed"
+from speed_calls import command
+
 ATOMS = 1 << 20
 
 
 def run(workers):
     """The microseconds of the call, and what the program printed."""
-    done = subprocess.run([PROGRAM, str(workers), str(ATOMS)], capture_output=True, text=True, check=True)
+    done = subprocess.run(command("fill", workers, ATOMS), capture_output=True, text=True, check=True)
     return int(done.stderr), done.stdout
 
 
 def main(runs):
-    if not PROGRAM.exists():
-        sys.exit("build the program first: (cd crates/fill_speed && rt run)")
     alone, sums = None, set()
     for workers in (1, 2, 4):
         timed = [run(workers) for _ in range(runs)]

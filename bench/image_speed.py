@@ -3,17 +3,17 @@
 
 Makes images with chained fixups, each fourth of which is a bind and each other one a rebase: 16 pages of 0x4000 bytes
 with 2,048 pointers each, the same with 60 more segments, and 256 pages with 16 pointers each. Prints for each the least
-time that the reading of 8 bytes took, the program's start and end included, and what the program counted. The program
-is built before by `rt run` in `crates/image_speed`.
+time that the reading of 8 bytes took, the program's start and end included, and what the program counted.
+`speed_calls.py` says how the program is built.
 """
 import struct
 import subprocess
 import sys
 import tempfile
 import time
-from pathlib import Path
 
-PROGRAM = Path(__file__).resolve().parent.parent / "crates/image_speed/out/image_speed"
+from speed_calls import command
+
 PAGE = 0x4000
 BASE = 0x1_0000_0000
 
@@ -59,7 +59,7 @@ def measure(name, pages, step, more_segments, runs):
         least, printed = None, None
         for _ in range(runs):
             start = time.monotonic()
-            printed = subprocess.run([PROGRAM, file.name, str(BASE + PAGE), str(count)], check=True, capture_output=True,
+            printed = subprocess.run(command("image", file.name, BASE + PAGE, count), check=True, capture_output=True,
                                      text=True).stdout.strip()
             seconds = time.monotonic() - start
             least = min(least or seconds, seconds)
@@ -67,8 +67,6 @@ def measure(name, pages, step, more_segments, runs):
 
 
 def main(runs):
-    if not PROGRAM.exists():
-        sys.exit("build the program first: (cd crates/image_speed && rt run)")
     measure("2,048 pointers a page", 16, 8, 0, runs)
     measure("2,048 pointers a page, 60 more segments", 16, 8, 60, runs)
     measure("16 pointers a page", 256, 1024, 0, runs)

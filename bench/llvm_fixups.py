@@ -3,9 +3,8 @@
 
 Links an object of clang's by `ld64.lld-VERSION` with chained fixups (16 unless told otherwise; 15 is the first that
 makes them), turns its pointers from DYLD_CHAINED_PTR_64 into DYLD_CHAINED_PTR_64_OFFSET, as macOS 12 has them, and asks
-`image_speed` of each place of 8 bytes in the writable segments, alone, what stands there. `llvm-objdump-VERSION
---macho --dyld-info` has to list the same rebases and binds. `image_speed` is built before by `rt run` in
-`crates/image_speed`.
+`call_speed image` of each place of 8 bytes in the writable segments, alone, what stands there. `llvm-objdump-VERSION
+--macho --dyld-info` has to list the same rebases and binds. `speed_calls.py` says how `call_speed` is built.
 """
 import re
 import struct
@@ -14,7 +13,8 @@ import sys
 import tempfile
 from pathlib import Path
 
-PROGRAM = Path(__file__).resolve().parent.parent / "crates/image_speed/out/image_speed"
+from speed_calls import command
+
 BASE = 0x1_0000_0000
 
 SOURCE = """
@@ -106,7 +106,7 @@ def told_by_llvm(path, version):
 
 def told_by_reader(path, address):
     """The kind of the fixup at an address, or None."""
-    text = subprocess.run([PROGRAM, path, str(address), "1"], check=True, capture_output=True, text=True).stdout
+    text = subprocess.run(command("image", path, address, 1), check=True, capture_output=True, text=True).stdout
     rebased, bound, _, broken = map(int, re.findall(r"\d+", text))
     assert broken == 0, text
     return "rebase" if rebased else "bind" if bound else None

@@ -2,8 +2,8 @@
 """Times the reading of what a large stub library says: `stub_speed.py [RUNS]`.
 
 Makes texts of 100,000 symbols by `make_large_stub.py`: in documents of 5,000, in one document, and in one document
-under `weak-symbols`. Reads each a hundred times by the program in `crates/stub_speed`, which is built before by `rt run`
-there, and prints the least processor time that one reading took of the runs.
+under `weak-symbols`. Reads each a hundred times, and prints the least processor time that one reading took of the runs.
+`speed_calls.py` says how the program is built.
 """
 import subprocess
 import sys
@@ -11,10 +11,10 @@ import tempfile
 from pathlib import Path
 
 import make_large_stub
+from speed_calls import command
 from yaml_speed import seconds
 
 HERE = Path(__file__).resolve().parent
-PROGRAM = HERE.parent / "crates/stub_speed/out/stub_speed"
 SYMBOLS = 100_000
 
 
@@ -26,14 +26,12 @@ def texts():
 
 
 def reading(text, runs):
-    once = min(seconds([PROGRAM, text, "1"]) for _ in range(runs))
-    many = min(seconds([PROGRAM, text, "101"]) for _ in range(runs))
+    once = min(seconds(command("stub", text, 1)) for _ in range(runs))
+    many = min(seconds(command("stub", text, 101)) for _ in range(runs))
     return (many - once) * 10
 
 
 def main(runs):
-    if not PROGRAM.exists():
-        sys.exit("build the program first: (cd crates/stub_speed && rt run)")
     with tempfile.TemporaryDirectory() as folder:
         path = Path(folder) / "large.tbd"
         subprocess.run([sys.executable, HERE / "make_large_stub.py", path], check=True)

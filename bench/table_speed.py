@@ -6,8 +6,8 @@ Reads archives of 50,000 members and 500,000 offers, of 500,000 pairs that name 
 million needs of 1,000 to 1,000,000 goals; numbers 200,000 names of 40 bytes that a million external symbols have;
 lays out 500,000 atoms of 2,000 sections, and looks for a million of their addresses, without islands and with eight
 areas; binds 240 libraries, each of which re-exports the next one and the last one the first; and looks 100,000 names of
-47 bytes up in libraries of 200,000 names. Prints for each the least and the median milliseconds of the call. The program
-is built before by `rt run` in `crates/table_speed`.
+47 bytes up in libraries of 200,000 names. Prints for each the least and the median milliseconds of the call.
+`speed_calls.py` says how the program is built.
 """
 import statistics
 import struct
@@ -16,7 +16,7 @@ import sys
 import tempfile
 from pathlib import Path
 
-PROGRAM = Path(__file__).resolve().parent.parent / "crates/table_speed/out/table_speed"
+from speed_calls import command
 
 
 def header(name, size):
@@ -76,7 +76,7 @@ def archives():
 
 
 def run(*words):
-    done = subprocess.run([PROGRAM, *map(str, words)], capture_output=True, text=True, check=True)
+    done = subprocess.run(command(*words), capture_output=True, text=True, check=True)
     return [int(line) for line in done.stderr.split()]
 
 
@@ -90,8 +90,6 @@ def tell(name, runs, *words):
 
 
 def main(runs):
-    if not PROGRAM.exists():
-        sys.exit("build the program first: (cd crates/table_speed && rt run)")
     with tempfile.TemporaryDirectory() as folder:
         for name, contents in archives():
             path = Path(folder) / "archive.a"

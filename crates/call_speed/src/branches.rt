@@ -1,0 +1,111 @@
+//! Atoms with a branch each, which workers write into an image.
+use crate::objects::{BASE, Input, code_of, met_at, work_at};
+use anyhow::{Result, bail};
+use image_join::fill;
+use mo_outside::FreeGate;
+use mo_types::{Bytes, OutOfMemory, RefKind};
+use patch::{Met, PlacedWork, work_is_in_order};
+use std::alloc::Global;
+use std::thread::Threads;
+use std::time::Instant;
+
+// The bytes of an atom.
+const ATOM_SIZE: u64 = 48;
+
+// Bytes that count from 0 to 250 again and again.
+fn contents(alloc: Global, size: u64) -> Result<Bytes, OutOfMemory> {
+    let mut bytes = Vec::with_capacity(alloc, size as usize)?;
+    for i in 0..size {
+        bytes.push((i % 251) as u8)?;
+    }
+    Bytes::from_vec(bytes)
+}
+
+fn work_of(alloc: Global, atoms: u32) -> Result<Vec<PlacedWork>, OutOfMemory> {
+    let mut work = Vec::with_capacity(alloc, atoms as usize)?;
+    for i in 0..u64::from(atoms) {
+        work.push(work_at(ATOM_SIZE * i, ATOM_SIZE, i as usize, 1))?;
+    }
+    Ok(work)
+}
+
+// A branch to the first atom for each atom.
+fn mets_of(alloc: Global, atoms: u32) -> Result<Vec<Met>, OutOfMemory> {
+    let mut mets = Vec::with_capacity(alloc, atoms as usize)?;
+    for _i in 0..atoms {
+        mets.push(met_at(0, RefKind::Branch, BASE))?;
+    }
+    Ok(mets)
+}
+
+fn input_of(alloc: Global, atoms: u32) -> Result<Input, OutOfMemory> {
+    let work = work_of(alloc, atoms)?;
+    let mets = mets_of(alloc, atoms)?;
+    let bytes = contents(alloc, ATOM_SIZE * u64::from(atoms))?;
+    let loaded = code_of(alloc, bytes)?;
+    Ok(Input { loaded, work, mets })
+}
+
+fn sum_of(bytes: &[u8]) -> u64 {
+    let mut sum = 0u64;
+    for byte in bytes {
+        sum = sum.wrapping_add(u64::from(*byte));
+    }
+    sum
+}
+
+// Fills an image, and prints the microseconds that it took.
+fn filled<T: Threads + Sync>(
+    rt: &HostRuntime,
+    threads: &T,
+    workers: u32,
+    input: &Input,
+    image: &mut [u8],
+) -> Result<()> {
+    let (work, mets) = (input.work.as_slice(), input.mets.as_slice());
+    if !work_is_in_order(work, input.loaded.files.as_slice(), mets, 0, image.len()) {
+        bail!("the atoms aren't in order");
+    }
+    let start = Instant::now(rt)?;
+    let fault = fill(
+        threads,
+        &FreeGate,
+        workers,
+        image,
+        work,
+        &input.loaded,
+        mets,
+    )
+    .is_err();
+    let took = start.elapsed(rt)?;
+    if fault {
+        bail!("a branch doesn't reach");
+    }
+    eprintln!(rt; "{}", took.as_micros())?;
+    Ok(())
+}
+
+fn fill_image<T: Threads + Sync>(
+    rt: &HostRuntime,
+    threads: &T,
+    workers: u32,
+    input: &Input,
+) -> Result<()> {
+    let size = input.work.len().saturating_mul(ATOM_SIZE as usize);
+    let mut image = vec![in rt.alloc(); 0u8; size]?;
+    filled(rt, threads, workers, input, image.as_mut_slice())?;
+    println!(rt; "{}", sum_of(image.as_slice()))?;
+    Ok(())
+}
+
+/// Has workers write so many atoms into an image, and prints the sum of its bytes, which is the same for every number of
+/// workers.
+pub(crate) fn fill_by<T: Threads + Sync>(
+    rt: &HostRuntime,
+    threads: &T,
+    workers: u32,
+    atoms: u32,
+) -> Result<()> {
+    let input = input_of(rt.alloc(), atoms)?;
+    fill_image(rt, threads, workers, &input)
+}

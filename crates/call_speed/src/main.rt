@@ -1,0 +1,130 @@
+//! Calls of the linker's crates, for scripts in `bench/` to time.
+//!
+//! The first word names the call, and the others say of what:
+//!
+//! - `fan WORKERS JOBS STEPS`: jobs of so many steps, shared out by `par_work::fan`
+//! - `fill WORKERS ATOMS`: atoms that `image_join::fill` writes into an image
+//! - `patch ATOMS`: fields that `patch::patch_range` writes, of 4 references an atom
+//! - `archive PATH`: an archive that `mo_ar::read_archive` reads
+//! - `slots NEEDS GOALS`: needs whose slots `slot_plan::slots` lists
+//! - `names FILES NAMES`: names of a thousand external symbols a file, numbered by `name_ids::gather`
+//! - `places FILES ATOMS`: files of 250 sections with so many atoms each, laid out by `sect_place`, and a million addresses
+//! - `closure LIBRARIES NAMES`: libraries with so many names each, which `lib_bind::closure` binds
+//! - `providers LIBRARIES NAMES`: 100,000 names looked up in them by `lib_bind::provider_of`
+//! - `image PATH ADDRESS COUNT`: so many pointers of an image, read by `image_read::fixup_at`
+//! - `yaml PATH TIMES`: the text of a stub library, read so often by `tbd_yaml::read_yaml`
+//! - `stub PATH TIMES`: what it says, read so often by `tbd_doc::read_stubs`
+//!
+//! A word `then` ends a call's words, and those of another call follow. What each call counted is printed, a line each.
+//! The milliseconds that a call took go to standard error, of `fill` and `patch` the microseconds; `fan`, `image`, `yaml`
+//! and `stub` are timed by the program as a whole.
+#![tactic(auto)]
+
+mod branches;
+mod fields;
+mod fixups;
+mod given;
+mod jobs;
+mod libraries;
+mod names;
+mod needs;
+mod objects;
+mod once;
+mod order;
+mod places;
+mod tables;
+mod texts;
+
+use crate::branches::fill_by;
+use crate::fields::patch_fields;
+use crate::fixups::read_fixups;
+use crate::jobs::fan_out;
+use crate::libraries::{closure_of, providers};
+use crate::places::places;
+use crate::tables::{archive, number_names, slot_lists};
+use crate::texts::{read_stub, read_text};
+use anyhow::{Result, bail};
+use std::env;
+use std::thread::Threads;
+
+fn numbers_of(rt: &HostRuntime, words: &[String]) -> Result<Vec<u64>> {
+    let mut numbers = Vec::new(rt.alloc());
+    for word in words {
+        numbers.push(word.parse::<u64>()?)?;
+    }
+    Ok(numbers)
+}
+
+fn small(number: u64) -> Result<u32> {
+    Ok(u32::try_from(number)?)
+}
+
+fn short(number: u64) -> Result<u16> {
+    Ok(u16::try_from(number)?)
+}
+
+// Calls on what they make themselves.
+fn call_on_numbers<T: Threads + Sync>(
+    rt: &HostRuntime,
+    threads: &T,
+    name: &str,
+    numbers: &[u64],
+) -> Result<()> {
+    match (name, numbers) {
+        ("fan", [workers, jobs, steps]) => fan_out(
+            rt,
+            threads,
+            small(*workers)?,
+            small(*jobs)?,
+            small(*steps)?,
+        ),
+        ("fill", [workers, atoms]) => fill_by(rt, threads, small(*workers)?, small(*atoms)?),
+        ("patch", [atoms]) => patch_fields(rt, *atoms),
+        ("slots", [needs, goals]) => slot_lists(rt, small(*needs)?, small(*goals)?),
+        ("names", [files, names]) => number_names(rt, small(*files)?, small(*names)?),
+        ("places", [files, atoms]) => places(rt, short(*files)?, small(*atoms)?),
+        ("closure", [count, names]) => closure_of(rt, short(*count)?, small(*names)?),
+        ("providers", [count, names]) => providers(rt, short(*count)?, small(*names)?),
+        _ => bail!("want the name of a call and its numbers"),
+    }
+}
+
+// Calls on the contents of a file.
+fn call_on_file(rt: &HostRuntime, name: &str, path: &str, numbers: &[u64]) -> Result<()> {
+    match (name, numbers) {
+        ("archive", []) => archive(rt, path),
+        ("image", [first, count]) => read_fixups(rt, path, *first, *count),
+        ("yaml", [times]) => read_text(rt, path, *times),
+        ("stub", [times]) => read_stub(rt, path, *times),
+        _ => bail!("want the name of a call, a path and numbers"),
+    }
+}
+
+fn reads_file(name: &str) -> bool {
+    name == "archive" || name == "image" || name == "yaml" || name == "stub"
+}
+
+fn call<T: Threads + Sync>(rt: &HostRuntime, threads: &T, words: &[String]) -> Result<()> {
+    match words {
+        [name, path, rest @ ..] if reads_file(name.as_str()) => {
+            let numbers = numbers_of(rt, rest)?;
+            call_on_file(rt, name.as_str(), path.as_str(), numbers.as_slice())
+        }
+        [name, rest @ ..] => {
+            let numbers = numbers_of(rt, rest)?;
+            call_on_numbers(rt, threads, name.as_str(), numbers.as_slice())
+        }
+        [] => bail!("want the name of a call"),
+    }
+}
+
+fn main(rt: HostRuntime) -> Result<()> {
+    let mut words = Vec::new(rt.alloc());
+    for word in env::args(&rt)?.skip(1) {
+        words.push(word)?;
+    }
+    for part in words.split(|word| word.as_str() == "then") {
+        call(&rt, &rt, part)?;
+    }
+    Ok(())
+}
