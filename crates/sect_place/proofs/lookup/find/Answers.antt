@@ -1,3 +1,5 @@
+use Rattle.std.proofs.Common.{ap}
+use Rattle.sect_place.specs.declared.layout.Placed.{Placed}
 use Rattle.sect_place.proofs.Found.{holds_placed}
 use Rattle.sect_place.proofs.lookup.find.Goals as goal
 
