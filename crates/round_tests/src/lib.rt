@@ -12,3 +12,5 @@ mod inputs;
 mod libraries;
 #[cfg(test)]
 mod loading;
+#[cfg(test)]
+mod racing;

@@ -1,9 +1,13 @@
 //! What links load, by tables of their inputs and labels that were written by hand.
+ghost use Rattle.std.specs.Prelude.{IfOk, IfSome};
+ghost use Rattle.mo_types.specs.Loaded.{IsWholeLoaded};
+
 use crate::files;
 use crate::libraries::library_at;
+use crate::racing::word_of;
 use input_read::{Opened, are_in_order, open_inputs};
 use member_rounds::{Input, RoundFault, load};
-use mo_outside::FreeGate;
+use mo_outside::{FreeGate, MeetGate};
 use mo_types::{Bytes, Loaded, NameList, OutOfMemory, Refusal};
 use std::alloc::Global;
 use std::test::Fail;
@@ -64,20 +68,22 @@ fn told(alloc: Global, fault: &RoundFault) -> Result<Vec<u8>, OutOfMemory> {
     Ok(out)
 }
 
-// What a link says of its inputs.
-fn said<R: Threads + Sync>(
+// The files that a link loads, or none where its inputs aren't those of a link.
+fn loaded_of<R: Threads + Sync>(
     rt: &R,
     alloc: Global,
     workers: u32,
     link: &Link,
-) -> Result<Vec<u8>, OutOfMemory> {
+) -> Result<Option<Loaded>, RoundFault>
+    ensures { IfOk result (λ loaded. IfSome loaded IsWholeLoaded) }
+{
     let inputs = inputs_of(alloc, link.files)?;
     let wanted = names_of(alloc, link.wanted)?;
     let Some(libs) = library_at(alloc, link.library, b"_f")? else {
-        return Ok(Vec::new(alloc));
+        return Ok(None);
     };
     if !are_in_order(inputs.as_slice()) {
-        return Ok(Vec::new(alloc));
+        return Ok(None);
     }
     let Opened {
         sources,
@@ -85,7 +91,7 @@ fn said<R: Threads + Sync>(
         ..
     } = match open_inputs(rt, alloc, &FreeGate, workers, inputs.as_slice()) {
         Ok(opened) => opened,
-        Err(fault) => return told(alloc, &fault),
+        Err(fault) => return Err(fault),
     };
     match load(
         rt,
@@ -97,7 +103,21 @@ fn said<R: Threads + Sync>(
         &libs,
         &wanted,
     ) {
-        Ok(loaded) => labels_of(alloc, &loaded),
+        Ok(loaded) => Ok(Some(loaded)),
+        Err(fault) => Err(fault),
+    }
+}
+
+// What a link says of its inputs.
+fn said<R: Threads + Sync>(
+    rt: &R,
+    alloc: Global,
+    workers: u32,
+    link: &Link,
+) -> Result<Vec<u8>, OutOfMemory> {
+    match loaded_of(rt, alloc, workers, link) {
+        Ok(Some(loaded)) => labels_of(alloc, &loaded),
+        Ok(None) => Ok(Vec::new(alloc)),
         Err(fault) => told(alloc, &fault),
     }
 }
@@ -239,11 +259,35 @@ const LINKS: [Link; 11] = [
     },
 ];
 
+// Of a name with a weak and a strong candidate.
+const WEAK_BEFORE_STRONG: Link = Link {
+    files: &[
+        (b"main.o", files::STUB_MAIN, false),
+        (b"a.o", files::WEAK, false),
+        (b"b.o", files::STRONG, false),
+    ],
+    library: None,
+    wanted: &[],
+    loads: b"main.o a.o b.o ",
+};
+
+// Two workers come to the gate, and the strong candidate's word stays.
+fn strong_beats_weak<R: Threads + Sync>(rt: &R, alloc: Global) -> Result<bool, OutOfMemory> {
+    let gate = MeetGate::new(1_000_000_000);
+    let word = match loaded_of(rt, alloc, 2, &WEAK_BEFORE_STRONG) {
+        Ok(Some(loaded)) => word_of(rt, alloc, &gate, &loaded, b"_f")?,
+        Ok(None) => None,
+        Err(_fault) => None,
+    };
+    Ok(gate.met() && word == Some(0x0000_2000_0000_0001))
+}
+
 #[test]
 fn what_is_loaded(rt: HostRuntime) -> Result<(), Fail> {
     let alloc = rt.alloc();
     for (link, row) in LINKS.iter().zip(0u32..) {
         assert!(rt; loads(&rt, alloc, 2, link)?, "row {row}");
     }
+    assert!(rt; strong_beats_weak(&rt, alloc)?);
     Ok(())
 }

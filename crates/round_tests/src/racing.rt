@@ -1,0 +1,54 @@
+//! A race of the names of files by two workers.
+ghost use Rattle.std.specs.Prelude.{◌<◌, length};
+ghost use Rattle.mo_types.specs.Loaded.{IsWholeLoaded};
+ghost use Rattle.member_rounds.specs.Offers.{AreNamed};
+
+use member_rounds::race_words;
+use mo_outside::Gate;
+use mo_types::{Loaded, NameList, OutOfMemory};
+use name_ids::{NameTable, gather};
+use resolve::candidates_have_numbers;
+use std::alloc::Global;
+use std::thread::Threads;
+
+// The word of a name without a candidate.
+const NO_WORD: u64 = u64::MAX;
+
+// The words of names after the race: the workers offer those of all candidates.
+fn words_of<R: Threads + Sync, G: Gate + Sync>(
+    rt: &R,
+    alloc: Global,
+    gate: &G,
+    loaded: &Loaded,
+    names: &NameTable,
+) -> Result<Vec<u64>, OutOfMemory>
+    requires whole { IsWholeLoaded loaded.now }
+    requires named { AreNamed names.now loaded.now.files }
+    requires some { 0 < length names.now }
+{
+    let start = vec![in alloc; NO_WORD; names.len() as usize]?;
+    race_words(rt, alloc, gate, 2, start, loaded, names)
+}
+
+/// The word of a name after a race of the candidates of files, in which the workers pass a gate; `None` where no external
+/// symbol has the name.
+pub fn word_of<R: Threads + Sync, G: Gate + Sync>(
+    rt: &R,
+    alloc: Global,
+    gate: &G,
+    loaded: &Loaded,
+    name: &[u8],
+) -> Result<Option<u64>, OutOfMemory>
+    requires whole { IsWholeLoaded loaded.now }
+{
+    let extra = NameList::new(alloc);
+    let Ok(names) = gather(alloc, loaded, &extra) else {
+        return Ok(None);
+    };
+    candidates_have_numbers();
+    let Some(id) = names.id_of(name) else {
+        return Ok(None);
+    };
+    let words = words_of(rt, alloc, gate, loaded, &names)?;
+    Ok(words.get(id as usize).copied())
+}
