@@ -102,17 +102,25 @@ fn bound(alloc: Global, command: &Command, named: StubFileList) -> Option<Librar
     closure(alloc, command, &mut files, named).ok()
 }
 
-// So many libraries, each with so many names, where they can be bound, and how long it took to bind them.
+// What libraries are bound to, and when that began.
+fn bound_from(
+    rt: &HostRuntime,
+    command: &Command,
+    named: StubFileList,
+) -> Result<(Option<Libraries>, Instant)> {
+    let start = Instant::now(rt)?;
+    Ok((bound(rt.alloc(), command, named), start))
+}
+
+// So many libraries, each with so many names, where they can be bound, and when that began.
 fn libraries_of(
     rt: &HostRuntime,
     count: u16,
     exports: u32,
-) -> Result<(Option<Libraries>, Duration)> {
+) -> Result<(Option<Libraries>, Instant)> {
     let command = command(rt.alloc(), count)?;
     let named = libraries(rt.alloc(), count, exports)?;
-    let start = Instant::now(rt)?;
-    let libs = bound(rt.alloc(), &command, named);
-    Ok((libs, start.elapsed(rt)?))
+    bound_from(rt, &command, named)
 }
 
 fn documents_of(libs: &Option<Libraries>) -> usize {
@@ -122,9 +130,15 @@ fn documents_of(libs: &Option<Libraries>) -> usize {
     }
 }
 
+// The documents of libraries, and how long it took from an instant on.
+fn timed(rt: &HostRuntime, libs: &Option<Libraries>, start: Instant) -> Result<(usize, Duration)> {
+    let took = start.elapsed(rt)?;
+    Ok((documents_of(libs), took))
+}
+
 fn counted(rt: &HostRuntime, count: u16, exports: u32) -> Result<(usize, Duration)> {
-    let (libs, took) = libraries_of(rt, count, exports)?;
-    Ok((documents_of(&libs), took))
+    let (libs, start) = libraries_of(rt, count, exports)?;
+    timed(rt, &libs, start)
 }
 
 /// Binds so many libraries, each with so many names, and prints how many documents they have.
@@ -173,7 +187,7 @@ fn looked_up(
 // So many libraries, each with so many names, are bound; then names are looked up.
 fn all_looked_up(rt: &HostRuntime, count: u16, exports: u32) -> Result<(u32, Duration)> {
     let names = wanted(rt.alloc(), u32::from(count).wrapping_mul(exports))?;
-    let (libs, _took) = libraries_of(rt, count, exports)?;
+    let (libs, _start) = libraries_of(rt, count, exports)?;
     looked_up(rt, &libs, names.as_slice())
 }
 

@@ -59,8 +59,23 @@ fn small(number: u64) -> Result<u32> {
     Ok(u32::try_from(number)?)
 }
 
-fn short(number: u64) -> Result<u16> {
-    Ok(u16::try_from(number)?)
+// Calls on what they make themselves, of two numbers.
+fn call_on_pair<T: Threads + Sync>(
+    rt: &HostRuntime,
+    threads: &T,
+    name: &str,
+    first: u32,
+    second: u32,
+) -> Result<()> {
+    match name {
+        "fill" => fill_by(rt, threads, first, second),
+        "slots" => slot_lists(rt, first, second),
+        "names" => number_names(rt, first, second),
+        "places" => places(rt, u16::try_from(first)?, second),
+        "closure" => closure_of(rt, u16::try_from(first)?, second),
+        "providers" => providers(rt, u16::try_from(first)?, second),
+        _ => bail!("want the name of a call of two numbers"),
+    }
 }
 
 // Calls on what they make themselves.
@@ -70,21 +85,16 @@ fn call_on_numbers<T: Threads + Sync>(
     name: &str,
     numbers: &[u64],
 ) -> Result<()> {
-    match (name, numbers) {
-        ("fan", [workers, jobs, steps]) => fan_out(
+    match numbers {
+        [atoms] if name == "patch" => patch_fields(rt, *atoms),
+        [first, second] => call_on_pair(rt, threads, name, small(*first)?, small(*second)?),
+        [workers, jobs, steps] if name == "fan" => fan_out(
             rt,
             threads,
             small(*workers)?,
             small(*jobs)?,
             small(*steps)?,
         ),
-        ("fill", [workers, atoms]) => fill_by(rt, threads, small(*workers)?, small(*atoms)?),
-        ("patch", [atoms]) => patch_fields(rt, *atoms),
-        ("slots", [needs, goals]) => slot_lists(rt, small(*needs)?, small(*goals)?),
-        ("names", [files, names]) => number_names(rt, small(*files)?, small(*names)?),
-        ("places", [files, atoms]) => places(rt, short(*files)?, small(*atoms)?),
-        ("closure", [count, names]) => closure_of(rt, short(*count)?, small(*names)?),
-        ("providers", [count, names]) => providers(rt, short(*count)?, small(*names)?),
         _ => bail!("want the name of a call and its numbers"),
     }
 }
