@@ -1,6 +1,7 @@
 use Rattle.patch.proofs.LeastLemmas.{element_at}
 use Rattle.atom_work.specs.inner.Spots.{mets_at}
-use Rattle.atom_work.proofs.GrowLemmas.{grow_each, grow_end}
+use Rattle.resolve.proofs.GrowLemmas.{grow_end}
+use Rattle.atom_work.proofs.GrowLemmas.{grow_each}
 use Rattle.atom_work.proofs.mets.with_spots.Goals as goal
 
 pub loop-spot-preserved : goal.loop-spot-preserved
