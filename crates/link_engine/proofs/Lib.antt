@@ -1,6 +1,7 @@
 pub mod CauseLemmas
 pub mod FilesLemmas
 pub mod InputLemmas
+pub mod KeptLemmas
 pub mod LinkLemmas
 pub mod OneLemmas
 pub mod PlanLemmas

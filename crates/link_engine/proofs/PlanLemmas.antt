@@ -1,16 +1,16 @@
 -- The steps before writing, by what the files told.
-use Rattle.std.proofs.Common.{◌≡◌, ◌≢◌, ℕ, List, [], ◌∷◌, ◌++◌, Option, Some, None, Result, Ok, Err, IsErrAnd, length, take, refl, sym, ap, ◌∙◌, subst, append_assoc}
-use Rattle.std.specs.Prelude.{IfErr, IfOk, OnOk}
+use Rattle.std.proofs.Common.{◌≡◌, ◌≢◌, ℕ, List, [], ◌∷◌, ◌++◌, Option, Some, None, Result, Ok, Err, IsErrAnd, take, refl, sym, ap, ◌∙◌, subst, append_assoc}
+use Rattle.std.specs.Prelude.{IfErr, IfOk}
 use Rattle.std.proofs.lemmas.List.{append-nil, map-append}
 use Rattle.std.proofs.lemmas.Result.{err_from_is_err_and}
 use Rattle.input_fetch.specs.Contents.{asked_for, contents_of, places_of}
-use Rattle.input_fetch.specs.Fetching.{Fetching, IsFetchStop, IsReadWell as IsFetchedWell, answers_in}
+use Rattle.input_fetch.specs.Fetching.{Fetching, IsFetchStop, answers_in}
 use Rattle.input_fetch.specs.declared.content.Content.{Content}
 use Rattle.input_fetch.specs.declared.stop.FetchStop.{FetchStop}
 use Rattle.input_fetch.specs.declared.stop.FetchStop.TheVariants as fetch
 use Rattle.input_read.specs.Opened.{Contents}
 use Rattle.input_read.specs.Opened as opened
-use Rattle.lib_bind.specs.Asking.{AllAgree, AreNew, Asks, FilesSeen, Gave, paths_in}
+use Rattle.lib_bind.specs.Asking.{AllAgree, Asks, FilesSeen, paths_in}
 use Rattle.lib_bind.specs.Closing.{IsBindFault}
 use Rattle.lib_bind.specs.Closure.{Binds, Closes, bound_after}
 use Rattle.lib_bind.specs.Graph.{IsWhole}
@@ -29,17 +29,17 @@ use Rattle.link_engine.specs.Asks.{Answered, places_by}
 use Rattle.link_engine.specs.Binding.{AsksMore, BoundAs}
 use Rattle.link_engine.specs.Command.{command_of}
 use Rattle.link_engine.specs.Input.{inputs_with}
-use Rattle.link_engine.specs.Steps.{IsReadWell, IsRefusal, IsWordsStop}
-use Rattle.link_engine.specs.Stop.{Answers, Meets, Shows, bind_fault_for, fetch_fault_for, status_for}
+use Rattle.link_engine.specs.Steps.{IsWordsStop}
+use Rattle.link_engine.specs.Stop.{Answers, Meets, Shows, bind_fault_for, fetch_fault_for}
 use Rattle.link_engine.specs.Told.{Told}
-use Rattle.link_engine.specs.Verdict.{AsBound, AsCommanded, AsFetched, AsOpened, IsBound, IsVerdict, bind_stop, fetch_stop, round_stop, stopped}
+use Rattle.link_engine.specs.Verdict.{AsBound, AsCommanded, AsFetched, AsOpened, IsVerdict, bind_stop, fetch_stop, round_stop, stopped}
 use Rattle.link_engine.specs.declared.plan.Plan.{Plan}
 use Rattle.link_engine.specs.declared.stop.StepFault.{StepFault}
 use Rattle.link_engine.specs.declared.stop.StepFault.TheVariants as fault
 use Rattle.link_engine.specs.declared.stop.StepFault.TheVariants.{OutOfMemory}
 use Rattle.link_engine.specs.declared.stop.Stop.{Stop}
 use Rattle.link_engine.specs.declared.stop.Stop.TheVariants as stop
-use Rattle.link_engine.proofs.StepLemmas.{early_meets, later_meets, next_meets, passed_meets}
+use Rattle.link_engine.proofs.StepLemmas.{early_meets, later_meets, passed_meets}
 use Rattle.link_engine.proofs.WritingLemmas.{tells_both}
 
 -- ---- what is asked for
@@ -251,32 +251,9 @@ answered_then fetches places ends more_ends meets then old new given fewer next 
   holds = λ look gave. next _ (given.holds look gave);
 }
 
--- what holds at any rate
-pub still_ok : {A E P : Type 0} (result : Result A E) → P → OnOk result P
-still_ok (Ok x) p = p
-still_ok (Err why) p = tt
-
-pub still_err : {A P : Type 0} (result : Result A StepFault) → P → IfErr result (λ why. IsReadWell (status_for why) → P)
-still_err (Ok x) p = tt
-still_err (Err why) p = λ well. p
-
-pub then_still : {A : Type 0} (result : Result A StepFault) (a b c : ℕ) → IfErr result (λ why. IsReadWell (status_for why) → a ≡ b) → b ≡ c → IfErr result (λ why. IsReadWell (status_for why) → a ≡ c)
-then_still (Ok x) a b c still same = tt
-then_still (Err why) a b c still same = λ well. still well ∙ same
-
 -- ---- what a stop of fetching is told as
 
 pub fetch_not_usage : (end : FetchStop) (why : StepFault) (word : ℕ) (rule : UsageRule) → why ≡ fetch_fault_for end → ◌≡◌ {A = Result Plan StepFault} (Err why) (Err (fault.Stop (stop.Usage word rule))) → ⊥
 fetch_not_usage (fetch.ReadFault path) why word rule is same = absurd cc
 fetch_not_usage (fetch.Missing path) why word rule is same = absurd cc
 fetch_not_usage fetch.OutOfMemory why word rule is same = absurd cc
-
-pub fetch_unread : (end : FetchStop) (why : StepFault) (path : List ℕ) → why ≡ fetch_fault_for end → ◌≡◌ {A = Result Plan StepFault} (Err why) (Err (fault.Stop (stop.ReadFault path))) → ◌≡◌ {A = Result (List Content) FetchStop} (Err end) (Err (fetch.ReadFault path))
-fetch_unread (fetch.ReadFault other) why path is same = cc
-fetch_unread (fetch.Missing other) why path is same = absurd cc
-fetch_unread fetch.OutOfMemory why path is same = absurd cc
-
-pub fetch_well : (end : FetchStop) (why : StepFault) → why ≡ fetch_fault_for end → IsReadWell (status_for why) → IsFetchedWell {A = List Content} (Err end)
-fetch_well (fetch.ReadFault path) why is well = absurd (let h : IsReadWell (status_for (fetch_fault_for (fetch.ReadFault path))) = subst (λ (f : StepFault). IsReadWell (status_for f)) is well in h)
-fetch_well (fetch.Missing path) why is well = tt
-fetch_well fetch.OutOfMemory why is well = absurd (let h : IsReadWell (status_for (fetch_fault_for fetch.OutOfMemory)) = subst (λ (f : StepFault). IsReadWell (status_for f)) is well in h)

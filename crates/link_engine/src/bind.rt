@@ -1,13 +1,9 @@
 //! The libraries of a link.
-ghost use Rattle.std.specs.Prelude.{◌≡◌, ◌≤◌, ℕ, List, length, true, Err, IfErr, OnOk};
+ghost use Rattle.std.specs.Prelude.{◌≡◌, length, true, IfErr};
 ghost use Rattle.lib_bind.specs.Asking.{seen};
 ghost use Rattle.lib_bind.specs.Named.{are_named};
-ghost use Rattle.mo_outside.specs.Faults.{Rises};
 ghost use Rattle.link_engine.specs.Binding.{AsksMore, BoundAs};
-ghost use Rattle.link_engine.specs.Steps.{IsFileStop, IsReadWell};
-ghost use Rattle.link_engine.specs.Stop.{status_for};
-ghost use Rattle.link_engine.specs.declared.stop.StepFault.TheVariants as fault;
-ghost use Rattle.link_engine.specs.declared.stop.Stop.TheVariants as stop;
+ghost use Rattle.link_engine.specs.Steps.{IsFileStop, KeepsFiles};
 
 use crate::stop::{StepFault, bind_fault};
 use lib_bind::{Libraries, StubFileList, closure};
@@ -23,12 +19,8 @@ pub fn bind<F: Files>(
     stubs: StubFileList,
 ) -> Result<Libraries, StepFault>
     requires named { are_named (length command.now.inputs) 0 stubs ≡ true }
-    ensures holds { F.holds files.new ≡ F.holds files.old }
-    ensures faults { F.faults files.old ≤ F.faults files.new }
-    ensures still { OnOk result (F.faults files.new ≡ F.faults files.old) }
-    ensures still_err { IfErr result (λ why. IsReadWell (status_for why) → F.faults files.new ≡ F.faults files.old) }
+    ensures files { KeepsFiles result (seen F.holds F.asked F.faults files.old) (seen F.holds F.asked F.faults files.new) }
     ensures kind { IfErr result IsFileStop }
-    ensures read_fault { (path : List ℕ) → result ≡ Err (fault.Stop (stop.ReadFault path)) → Rises (F.faults files.old) (F.faults files.new) }
     ensures bound { AsksMore F.answers (BoundAs command.now stubs) result (seen F.holds F.asked F.faults files.old) (seen F.holds F.asked F.faults files.new) }
 {
     match closure(alloc, command, files, stubs) {

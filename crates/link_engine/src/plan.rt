@@ -1,18 +1,17 @@
 //! All steps before writing.
-ghost use Rattle.std.specs.Prelude.{◌≡◌, ◌≤◌, ◌<◌, ◌^◌, ◌≢◌, ℕ, List, ◌⊎◌, length, true, All, OnOk, IfErr, Err};
+ghost use Rattle.std.specs.Prelude.{◌≡◌, ◌<◌, ◌^◌, ◌≢◌, ℕ, ◌⊎◌, length, true, All, IfErr, Err};
 ghost use Rattle.input_read.specs.Opened.{contents_as};
 ghost use Rattle.lib_bind.specs.Asking.{seen};
 ghost use Rattle.lib_bind.specs.Named.{are_named};
 ghost use Rattle.member_rounds.specs.Files.{HasLowAtoms};
 ghost use Rattle.member_rounds.specs.Sources.{AreInOrder, AreObjects, inputs_of};
-ghost use Rattle.mo_outside.specs.Faults.{Rises};
 ghost use Rattle.mo_types.specs.Loaded.{IsWholeLoaded};
 ghost use Rattle.mo_types.specs.declared.cause.UsageRule.{UsageRule};
 ghost use Rattle.link_engine.specs.Asks.{Answered, places_by};
 ghost use Rattle.link_engine.specs.Binding.{AsksMore};
 ghost use Rattle.link_engine.specs.Command.{command_of};
-ghost use Rattle.link_engine.specs.Steps.{IsFileStop, IsReadWell, IsRefusal};
-ghost use Rattle.link_engine.specs.Stop.{Meets, status_for};
+ghost use Rattle.link_engine.specs.Steps.{IsFileStop, IsRefusal, KeepsFiles};
+ghost use Rattle.link_engine.specs.Stop.{Meets};
 ghost use Rattle.link_engine.specs.Verdict.{AsBound, AsFetched, AsLoaded, AsOpened, IsVerdict};
 ghost use Rattle.link_engine.specs.declared.stop.StepFault.TheVariants as fault;
 ghost use Rattle.link_engine.specs.declared.stop.Stop.TheVariants as stop;
@@ -103,12 +102,8 @@ fn plan_opened<R: Threads + Sync, F: Files, G: Gate + Sync>(
     requires order { AreInOrder (inputs_of opened.sources) }
     requires objects { AreObjects (inputs_of opened.sources) opened.objects }
     requires named { are_named (length command.now.inputs) 0 opened.stubs ≡ true }
-    ensures holds { F.holds files.new ≡ F.holds files.old }
-    ensures faults { F.faults files.old ≤ F.faults files.new }
-    ensures still { OnOk result (F.faults files.new ≡ F.faults files.old) }
-    ensures still_err { IfErr result (λ why. IsReadWell (status_for why) → F.faults files.new ≡ F.faults files.old) }
+    ensures files { KeepsFiles result (seen F.holds F.asked F.faults files.old) (seen F.holds F.asked F.faults files.new) }
     ensures kind { IfErr result IsFileStop }
-    ensures read_fault { (path : List ℕ) → result ≡ Err (fault.Stop (stop.ReadFault path)) → Rises (F.faults files.old) (F.faults files.new) }
     ensures more { AsksMore F.answers (AsOpened command.now (contents_as opened)) result (seen F.holds F.asked F.faults files.old) (seen F.holds F.asked F.faults files.new) }
 {
     let Opened {
@@ -131,12 +126,8 @@ fn plan_for<R: Threads + Sync, F: Files, G: Gate + Sync>(
 ) -> Result<Plan, StepFault>
     requires size { length found ≡ length command.now.inputs }
     requires few { length command.now.inputs < 2 ^ 16 }
-    ensures holds { F.holds files.new ≡ F.holds files.old }
-    ensures faults { F.faults files.old ≤ F.faults files.new }
-    ensures still { OnOk result (F.faults files.new ≡ F.faults files.old) }
-    ensures still_err { IfErr result (λ why. IsReadWell (status_for why) → F.faults files.new ≡ F.faults files.old) }
+    ensures files { KeepsFiles result (seen F.holds F.asked F.faults files.old) (seen F.holds F.asked F.faults files.new) }
     ensures kind { IfErr result IsFileStop }
-    ensures read_fault { (path : List ℕ) → result ≡ Err (fault.Stop (stop.ReadFault path)) → Rises (F.faults files.old) (F.faults files.new) }
     ensures more { AsksMore F.answers (AsFetched command.now found) result (seen F.holds F.asked F.faults files.old) (seen F.holds F.asked F.faults files.new) }
 {
     let inputs = inputs_with(alloc, command, found.as_slice())?;
@@ -154,13 +145,9 @@ pub fn make_plan<R: Threads + Sync, F: Files, G: Gate + Sync>(
     words: &ArgList,
     files: &mut F,
 ) -> Result<Plan, StepFault>
-    ensures holds { F.holds files.new ≡ F.holds files.old }
-    ensures faults { F.faults files.old ≤ F.faults files.new }
+    ensures files { KeepsFiles result (seen F.holds F.asked F.faults files.old) (seen F.holds F.asked F.faults files.new) }
     ensures usage { (word : ℕ) (rule : UsageRule) → result ≡ Err (fault.Stop (stop.Usage word rule)) → command_of words.now ≡ Err (stop.Usage word rule) }
     ensures misused { IfErr (command_of words.now) (λ why. (result ≡ Err (fault.Stop why)) ⊎ (result ≡ Err fault.OutOfMemory)) }
-    ensures read_fault { (path : List ℕ) → result ≡ Err (fault.Stop (stop.ReadFault path)) → Rises (F.faults files.old) (F.faults files.new) }
-    ensures still { OnOk result (F.faults files.new ≡ F.faults files.old) }
-    ensures still_err { IfErr result (λ why. IsReadWell (status_for why) → F.faults files.new ≡ F.faults files.old) }
     ensures answered { Answered F.answers (places_by (command_of words.now)) (result ≢ Err fault.OutOfMemory)
         (λ told. Meets (IsVerdict words.now told) result)
         (seen F.holds F.asked F.faults files.old) (seen F.holds F.asked F.faults files.new) }

@@ -19,4 +19,4 @@ pub returns-in-Err-clause-told : goal.returns-in-Err-clause-told
 returns-in-Err-clause-told g c = settles_told g.F.Files.answers _ _ _ _ _ _ _ _ (returns-in-Err-clause-settles g c)
 
 pub returns-in-Err-clause-read_fault : goal.returns-in-Err-clause-read_fault
-returns-in-Err-clause-read_fault g c path is = c.in-Err.ensures.read_fault path (read_fault_told c.in-Err.fault _ c.ended.result path c.into_status.ensures c.ended.ensures.same is)
+returns-in-Err-clause-read_fault g c path is = c.in-Err.ensures.files.read_fault path (read_fault_told c.in-Err.fault _ c.ended.result path c.into_status.ensures c.ended.ensures.same is)
