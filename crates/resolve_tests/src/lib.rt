@@ -3,6 +3,14 @@
 #![tactic(auto)]
 
 #[cfg(test)]
+mod clang_names;
+#[cfg(test)]
+mod given;
+#[cfg(test)]
+mod goals;
+#[cfg(test)]
+mod libraries;
+#[cfg(test)]
 mod numbers;
 #[cfg(test)]
 mod referring;

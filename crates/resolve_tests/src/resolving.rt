@@ -1,177 +1,15 @@
 //! Duplicates, representatives and places against tables that were written by hand.
-ghost use Rattle.std.specs.Prelude.{All, IfOk, IfSome, IsTrue};
-ghost use Rattle.std.specs.List.{AllPairs};
-ghost use Rattle.mo_types.specs.Loaded.{IsBefore, IsWholeFile, IsWholeLoaded};
+ghost use Rattle.std.specs.Prelude.{IfOk, IfSome};
+ghost use Rattle.mo_types.specs.Loaded.{IsWholeFile, IsWholeLoaded};
 
-use atom_cut::cut;
-use mo_types::{
-    AtomKey, Bytes, FileId, Loaded, LoadedFile, LoadedList, NameList, Object, OutOfMemory,
-    RelocList, Section, SectionList, Symbol, SymbolKind, SymbolList, UnwindList,
+use crate::given::{
+    Is, Row, Section1, add, id_of, literal_section, loaded, object, risen, symbol, whole_file,
 };
+use mo_types::{AtomKey, FileId, Loaded, LoadedFile, NameList, OutOfMemory, SymbolKind};
 use name_ids::gather;
-use reloc_read::refs_of;
 use resolve::{Place, duplicate, place_of, representatives};
 use std::alloc::Global;
-use std::cmp::Ordering;
 use std::test::Fail;
-
-// What a symbol is: strong, weak, common with a size and an alignment, or undefined.
-#[derive(Clone, Copy)]
-enum Is {
-    Strong,
-    Weak,
-    Common(u64, u8),
-    Undefined,
-}
-
-// A file's position and member, and its symbols.
-type Row<'a> = ((u16, u32), &'a [(&'static [u8], Is)]);
-
-fn id_of(place: (u16, u32)) -> FileId {
-    FileId {
-        position: place.0,
-        member: place.1,
-    }
-}
-
-fn kind_of(is: Is) -> SymbolKind {
-    match is {
-        Is::Strong | Is::Weak => SymbolKind::Defined {
-            section: 1,
-            value: 0,
-        },
-        Is::Common(size, align) => SymbolKind::Common { size, align },
-        Is::Undefined => SymbolKind::Undefined,
-    }
-}
-
-fn symbol(name: &'static [u8], is: Is) -> Symbol {
-    Symbol {
-        name: Bytes::from_static(name),
-        kind: kind_of(is),
-        external: true,
-        hidden: false,
-        weak_def: matches!(is, Is::Weak),
-        weak_ref: false,
-        no_strip: false,
-        alt: false,
-    }
-}
-
-// `__TEXT,__text` with one return.
-fn text(alloc: Global) -> Section {
-    Section {
-        segment: Bytes::from_static(b"__TEXT"),
-        name: Bytes::from_static(b"__text"),
-        address: 0,
-        size: 4,
-        align: 2,
-        kind: 0,
-        attributes: 0x8000_0400,
-        file_offset: 0,
-        reloc_offset: 0,
-        bytes: Bytes::from_static(b"\xc0\x03\x5f\xd6"),
-        relocs: RelocList::new(alloc),
-    }
-}
-
-fn object(
-    alloc: Global,
-    section: Section,
-    rows: &[(&'static [u8], Is)],
-) -> Result<Object, OutOfMemory> {
-    let mut sections = SectionList::new(alloc);
-    sections.push(section)?;
-    let mut symbols = SymbolList::new(alloc);
-    for (name, is) in rows {
-        symbols.push(symbol(*name, *is))?;
-    }
-    Ok(Object {
-        subsections: true,
-        sections,
-        symbols,
-    })
-}
-
-// The file of a whole object.
-fn whole_file(alloc: Global, id: FileId, object: Object) -> Result<Option<LoadedFile>, OutOfMemory>
-    ensures { IfOk result (λ file. IfSome file IsWholeFile) }
-{
-    if id.member >= 1 << 20 || object.symbols.len() >= 1 << 24 || !object.is_whole() {
-        return Ok(None);
-    }
-    let atoms = cut(alloc, &object, id)?;
-    match refs_of(alloc, &object, &atoms, id) {
-        Ok(refs) => Ok(Some(LoadedFile {
-            id,
-            label: Bytes::new(),
-            object,
-            atoms,
-            refs,
-            unwinds: UnwindList::new(alloc),
-        })),
-        Err(_) => Ok(None),
-    }
-}
-
-fn is_rising(files: &[LoadedFile]) -> bool
-    ensures { IsTrue result → AllPairs (λ a b. IsBefore a.id b.id) files.now }
-{
-    for i in 1..files.len() {
-        match files[i - 1].id.cmp(&files[i].id) {
-            Ordering::Less => {}
-            _ => return false,
-        }
-    }
-    true
-}
-
-// Some files with one file more.
-fn add(
-    files: Vec<LoadedFile>,
-    alloc: Global,
-    place: (u16, u32),
-    object: Object,
-) -> Result<Option<Vec<LoadedFile>>, OutOfMemory>
-    requires { All IsWholeFile files.items }
-    ensures { IfOk result (λ more. IfSome more (λ files. All IsWholeFile files.items)) }
-{
-    let mut more = files;
-    match whole_file(alloc, id_of(place), object)? {
-        Some(file) => {
-            more.push(file)?;
-            Ok(Some(more))
-        }
-        None => Ok(None),
-    }
-}
-
-// The files, where they rise.
-fn risen(files: Vec<LoadedFile>) -> Option<Loaded>
-    requires { All IsWholeFile files.items }
-    ensures { IfSome result IsWholeLoaded }
-{
-    if !is_rising(files.as_slice()) {
-        return None;
-    }
-    Some(Loaded {
-        files: LoadedList::from_vec(files),
-    })
-}
-
-// The files of some rows, where they are whole and rise.
-fn loaded(alloc: Global, rows: &[Row]) -> Result<Option<Loaded>, OutOfMemory>
-    ensures { IfOk result (λ loaded. IfSome loaded IsWholeLoaded) }
-{
-    let mut files = Vec::new(alloc);
-    for (place, symbols) in rows {
-        match add(files, alloc, *place, object(alloc, text(alloc), *symbols)?)? {
-            Some(more) => files = more,
-            None => return Ok(None),
-        }
-    }
-    Ok(risen(files))
-}
 
 // The files of the least duplicate, by the name that it is to have.
 type Pair<'a> = Option<(&'a [u8], (u16, u32), (u16, u32))>;
@@ -250,25 +88,6 @@ fn duplicates_are_told(alloc: Global) -> Result<bool, OutOfMemory> {
         }
     }
     Ok(true)
-}
-
-// A file's position, and of its one section the name, the type, the alignment and the bytes.
-type Section1 = (u16, &'static [u8], u8, u8, &'static [u8]);
-
-fn literal_section(alloc: Global, row: &Section1) -> Section {
-    Section {
-        segment: Bytes::from_static(b"__TEXT"),
-        name: Bytes::from_static(row.1),
-        address: 0x40,
-        size: row.4.len() as u64,
-        align: row.3,
-        kind: row.2,
-        attributes: 0,
-        file_offset: 0x200,
-        reloc_offset: 0,
-        bytes: Bytes::from_static(row.4),
-        relocs: RelocList::new(alloc),
-    }
 }
 
 // The files of some sections, where they are whole and rise.

@@ -1,6 +1,6 @@
 use Rattle.std.proofs.Common.{arith}
 use Rattle.resolve_tests.proofs.RisingLemmas.{rises_more, rises_all}
-use Rattle.resolve_tests.proofs.resolving.is_rising.Goals as goal
+use Rattle.resolve_tests.proofs.given.is_rising.Goals as goal
 
 pub loop-i-init : goal.loop-i-init
 loop-i-init c = λ k d low. absurd (omega (arith, low))

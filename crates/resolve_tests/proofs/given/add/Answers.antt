@@ -2,7 +2,7 @@ use Rattle.std.proofs.Common.{◌≡◌, zero, suc, arith, List, [], ◌∷◌, 
 use Rattle.std.proofs.lemmas.List.Elements.{All-append}
 use Rattle.mo_types.specs.Loaded.{IsWholeFile}
 use Rattle.mo_types.specs.declared.loaded.LoadedFile.{LoadedFile}
-use Rattle.resolve_tests.proofs.resolving.add.Goals as goal
+use Rattle.resolve_tests.proofs.given.add.Goals as goal
 
 one : (file : LoadedFile) → IsWholeFile file → All IsWholeFile (file ∷ [])
 one file whole zero d low = whole
