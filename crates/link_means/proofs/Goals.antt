@@ -5,11 +5,12 @@ use Rattle.std.specs.List.{enumerate_from}
 use Rattle.std.specs.Option.{option_map, option_map_or}
 use Rattle.std.specs.Ordering.{is_eq}
 use Rattle.std.specs.Str.{bytes_eq}
-use Rattle.std.proofs.lemmas.Bool.{false≢true}
+use Rattle.std.proofs.lemmas.Bool.{and_parts, false≢true}
 use Rattle.std.proofs.lemmas.Option.{slice_get-map}
+use Rattle.std.proofs.lemmas.Slice.Eq.{bytes_eq-Decides}
 use Rattle.list_lemmas.proofs.Members.{In, find_some, from_filter, from_map}
 use Rattle.mo_types.specs.Atoms.{atoms_of, cut_of}
-use Rattle.mo_types.specs.Candidates.{is_candidate, least}
+use Rattle.mo_types.specs.Candidates.{has_place, is_candidate, least, word_of}
 use Rattle.mo_types.specs.Keys.{compare_keys}
 use Rattle.mo_types.specs.RelocationRules.{section_numbered}
 use Rattle.mo_types.specs.Whole.{is_dropped}
@@ -38,7 +39,7 @@ use Rattle.resolve.specs.declared.representative.Representative.{Representative}
 use Rattle.resolve.specs.declared.winner.Winner.{Winner}
 use Rattle.sect_place.proofs.Once.{from_flat}
 use Rattle.member_rounds.specs.Form.{is_common}
-use Rattle.link_means.proofs.Cuts.{atom_there, key_at}
+use Rattle.link_means.proofs.Cuts.{HasKey, atom_there, key_at}
 use Rattle.link_means.proofs.Lists.{from_chosen, from_mapped, from_numbered, from_then, from_when, in_slice, no_some, some_is}
 
 -- an atom of one of the files has the key
@@ -56,10 +57,16 @@ pub record AreSolid (files : List LoadedFile) : Type 0 where
 
 -- ---- an offset of a linked section
 
-pub cut_in : (files : List LoadedFile) (file : LoadedFile) (number : ℕ) (section : Section) (at : ℕ) → AreSolid files → In file files → section_numbered file.object.sections number ≡ Some section → is_dropped section ≡ false → IsAtomIn files (key_at file.id number (cut_of file.object number section at))
-cut_in files file number section at solid h is linked =
+cut_of_file : (files : List LoadedFile) (file : LoadedFile) (number : ℕ) (section : Section) (at : ℕ) → AreSolid files → In file files → section_numbered file.object.sections number ≡ Some section → is_dropped section ≡ false → HasKey file.atoms (key_at file.id number (cut_of file.object number section at))
+cut_of_file files file number section at solid h is linked =
     let there = atom_there file.object file.id number section at is linked in
-    record { file = file; among = h; atom = there.0; of_file = subst (λ (xs : List Atom). In there.0 xs) (sym (solid.cut file h)) there.1; named = there.2 }
+    (there.0, subst (λ (xs : List Atom). In there.0 xs) (sym (solid.cut file h)) there.1, there.2)
+
+from_file : (files : List LoadedFile) (file : LoadedFile) (key : AtomKey) → In file files → HasKey file.atoms key → IsAtomIn files key
+from_file files file key h there = record { file = file; among = h; atom = there.0; of_file = there.1; named = there.2 }
+
+pub cut_in : (files : List LoadedFile) (file : LoadedFile) (number : ℕ) (section : Section) (at : ℕ) → AreSolid files → In file files → section_numbered file.object.sections number ≡ Some section → is_dropped section ≡ false → IsAtomIn files (key_at file.id number (cut_of file.object number section at))
+cut_in files file number section at solid h is linked = from_file files file _ h (cut_of_file files file number section at solid h is linked)
 
 -- ---- what stands for an atom
 
@@ -97,24 +104,29 @@ stand_in files key is = by (literal_at (representatives_of files) key) refl
 
 -- ---- symbols
 
-place_in_atom : (files : List LoadedFile) (file : LoadedFile) (index : ℕ) (kind : SymbolKind) (place : Place) → AreSolid files → In file files → is_common kind ≡ false → place_of file index kind ≡ Some place → IsAtomIn files place.atom
+-- a symbol stands in an atom of its file
+pub place_in_file : (files : List LoadedFile) (file : LoadedFile) (index : ℕ) (kind : SymbolKind) (place : Place) → AreSolid files → In file files → is_common kind ≡ false → place_of file index kind ≡ Some place → HasKey file.atoms place.atom
 unfolding place_of place_in place_at
-place_in_atom files file index (Defined number value) place solid h uncommon is = by (from_then (place_in file number value) (section_numbered file.object.sections number) place is)
+place_in_file files file index (Defined number value) place solid h uncommon is = by (from_then (place_in file number value) (section_numbered file.object.sections number) place is)
   where
-    by : (section : Section) × (section_numbered file.object.sections number ≡ Some section) × (place_in file number value section ≡ Some place) → IsAtomIn files place.atom
+    by : (section : Section) × (section_numbered file.object.sections number ≡ Some section) × (place_in file number value section ≡ Some place) → HasKey file.atoms place.atom
     by (section, numbered, there) = linked (is_dropped section) refl
       where
-        linked : (b : Bool) → is_dropped section ≡ b → IsAtomIn files place.atom
+        linked : (b : Bool) → is_dropped section ≡ b → HasKey file.atoms place.atom
         linked true e = no_some place (rw e at there)
         linked false e =
             let same = some_is _ place (rw e at there) in
-            subst (λ (p : Place). IsAtomIn files p.atom) same (cut_in files file number section _ solid h numbered e)
-place_in_atom files file index (Common size align) place solid h uncommon is = absurd (false≢true (sym uncommon))
-place_in_atom files file index _ place solid h uncommon is = no_some place is
+            subst (λ (p : Place). HasKey file.atoms p.atom) same (cut_of_file files file number section _ solid h numbered e)
+place_in_file files file index (Common size align) place solid h uncommon is = absurd (false≢true (sym uncommon))
+place_in_file files file index _ place solid h uncommon is = no_some place is
+
+place_in_atom : (files : List LoadedFile) (file : LoadedFile) (index : ℕ) (kind : SymbolKind) (place : Place) → AreSolid files → In file files → is_common kind ≡ false → place_of file index kind ≡ Some place → IsAtomIn files place.atom
+place_in_atom files file index kind place solid h uncommon is = from_file files file place.atom h (place_in_file files file index kind place solid h uncommon is)
 
 -- a goal in an atom is in one of the files
 abbrev pub HasAtom : List LoadedFile → Goal → Type 0
 HasAtom files (Def key offset) = IsAtomIn files key
+HasAtom files (WeakSelf name key offset) = IsAtomIn files key
 HasAtom files _ = Unit {0}
 
 at_atom : (files : List LoadedFile) (key : AtomKey) (offset : ℕ) → IsAtomIn files key → HasAtom files (goal_at (representatives_of files) key offset)
@@ -129,27 +141,58 @@ winner_atom_in : (files : List LoadedFile) (winner : Winner) → IsAtomIn files 
 winner_atom_in files winner is = by (winner.weak && winner.exported)
   where
     by : (b : Bool) → HasAtom files (if b then WeakSelf winner.name (stands_for (representatives_of files) winner.atom) winner.offset else goal_at (representatives_of files) winner.atom winner.offset)
-    by true = tt
+    by true = stand_in files winner.atom is
     by false = at_atom files winner.atom winner.offset is
 
-winner_in : (command : Command) (files : List LoadedFile) (name : List ℕ) (winner : Winner) → AreSolid files → winner_of command files name ≡ Some winner → IsAtomIn files winner.atom
-unfolding winner_of winning found_for found found_in found_at
-winner_in command files name winner solid e =
+-- the winner of a name is an external symbol of a file
+pub record IsWinnerIn (files : List LoadedFile) (name : List ℕ) (winner : Winner) : Type 0 where
+  pub file : LoadedFile
+  pub among : In file files
+  pub index : ℕ
+  pub symbol : Symbol
+  pub numbered : slice_get file.object.symbols index ≡ Some symbol
+  pub external : symbol.external ≡ true
+  pub named : name ≡ symbol.name
+  pub place : Place
+  pub stands : place_of file index symbol.kind ≡ Some place
+  pub atom : place.atom ≡ winner.atom
+  pub word : word_of file.id index symbol ≡ winner.word
+
+pub winner_there : (command : Command) (files : List LoadedFile) (name : List ℕ) (winner : Winner) → winner_of command files name ≡ Some winner → IsWinnerIn files name winner
+unfolding winner_of winning found_for found found_in found_at is_candidate
+winner_there command files name winner e =
     let one = from_then (winner_from command (found_for files name)) (winning files name) winner e in
     let f : Found = one.0 in
     let among = (find_some (λ (g : Found). found_word g == least files name) (found_for files name) f one.1).0 in
-    let of = from_flat found_in files f (from_filter (λ (g : Found). bytes_eq name g.symbol.name) (found files) f among).0 in
+    let chosen = from_filter (λ (g : Found). bytes_eq name g.symbol.name) (found files) f among in
+    let of = from_flat found_in files f chosen.0 in
     let p = from_chosen (found_at of.0) (enumerate_from 0 of.0.object.symbols) f of.2 in
-    let same = (from_when (is_candidate of.0.object.sections p.0.1) _ f p.2).1 in
+    let candidate = from_when (is_candidate of.0.object.sections p.0.1) _ f p.2 in
     let numbered = from_numbered 0 of.0.object.symbols p.0 p.1 in
-    let file : of.0 ≡ f.file = ap (λ (g : Found). g.file) same in
-    let symbol : p.0.1 ≡ f.symbol = ap (λ (g : Found). g.symbol) same in
-    let here : In f.file files = subst (λ (x : LoadedFile). In x files) file of.1 in
-    let uncommon : is_common f.symbol.kind ≡ false = subst (λ (s : Symbol). is_common s.kind ≡ false) symbol (solid.uncommon of.0 of.1 p.0.1 (in_slice of.0.object.symbols numbered.0 p.0.1 numbered.2)) in
+    let first : numbered.0 ≡ 0 + numbered.0 = omega arith in
+    let index : numbered.0 ≡ p.0.0 = first ∙ numbered.1 in
     let place = from_mapped _ (place_of f.file f.index f.symbol.kind) winner one.2 in
-    subst (λ (k : AtomKey). IsAtomIn files k) (ap (λ (w : Winner). w.atom) place.2) (place_in_atom files f.file f.index f.symbol.kind place.0 solid here uncommon place.1)
+    record {
+      file = of.0;
+      among = of.1;
+      index = numbered.0;
+      symbol = p.0.1;
+      numbered = numbered.2;
+      external = (and_parts p.0.1.external (has_place of.0.object.sections p.0.1.kind) candidate.0).0;
+      named = (bytes_eq-Decides name f.symbol.name).0 chosen.1 ∙ sym (ap (λ (g : Found). g.symbol.name) candidate.1);
+      place = place.0;
+      stands = ap (λ (i : ℕ). place_of of.0 i p.0.1.kind) index ∙ ap (λ (g : Found). place_of g.file g.index g.symbol.kind) candidate.1 ∙ place.1;
+      atom = ap (λ (w : Winner). w.atom) place.2;
+      word = ap (λ (i : ℕ). word_of of.0.id i p.0.1) index ∙ ap (λ (g : Found). found_word g) candidate.1 ∙ ap (λ (w : Winner). w.word) place.2;
+    }
 
-name_atom : (files : List LoadedFile) (libs : LibraryGraph) (command : Command) (name : List ℕ) → AreSolid files → HasAtom files (goal_of_name files libs command name)
+winner_in : (command : Command) (files : List LoadedFile) (name : List ℕ) (winner : Winner) → AreSolid files → winner_of command files name ≡ Some winner → IsAtomIn files winner.atom
+winner_in command files name winner solid e =
+    let is = winner_there command files name winner e in
+    subst (IsAtomIn files) is.atom
+    (place_in_atom files is.file is.index is.symbol.kind is.place solid is.among (solid.uncommon is.file is.among is.symbol (in_slice is.file.object.symbols is.index is.symbol is.numbered)) is.stands)
+
+pub name_atom : (files : List LoadedFile) (libs : LibraryGraph) (command : Command) (name : List ℕ) → AreSolid files → HasAtom files (goal_of_name files libs command name)
 unfolding goal_of_name
 name_atom files libs command name solid = by (winner_of command files name) refl
   where

@@ -9,4 +9,5 @@ pub mod Refs
 pub mod Goals
 pub mod Standing
 pub mod Telling
+pub mod Beginning
 pub mod Fetched

@@ -49,13 +49,13 @@ use Rattle.atom_work.specs.Atoms.{kept_as, kept_atoms, kept_in, raised}
 use Rattle.atom_work.specs.Rows.{Row, goals_at}
 use Rattle.atom_work.specs.declared.kept.KeptAtom.{KeptAtom}
 use Rattle.image_make.specs.Made.{Making, kept_of, rows_of}
-use Rattle.image_means.specs.Means.{AreRising, HasGoals, IsImage, IsWritten, IsZerofill, addresses_of}
+use Rattle.image_means.specs.Means.{AreRising, HasGoals, IsGoalAt, IsImage, IsWritten, IsZerofill, addresses_of}
 use Rattle.image_means.specs.References.{Stands}
 use Rattle.image_means.proofs.Complete.{none_left_out}
 use Rattle.image_means.proofs.Loading.{from_all}
 use Rattle.image_means.proofs.Stated.{header_is_goal, rows_have_goals, zerofill_has_goals}
 use Rattle.link_files.specs.Causes.{AreInside}
-use Rattle.link_files.specs.Later.{is_kept_later, is_later_ref, is_later_target, is_looked_up, later_at, later_entry, later_file, later_in}
+use Rattle.link_files.specs.Later.{is_kept_later, is_later_ref, is_later_target, is_looked_up, is_outer, later_at, later_entry, later_file, later_in}
 use Rattle.link_files.specs.Linked.{making}
 use Rattle.link_files.specs.Lost.{lost_wanted}
 use Rattle.link_means.specs.Images.{AreOrdered}
@@ -72,7 +72,7 @@ at_in [] x h = absurd h
 at_in (y ∷ ys) x (inl e) = (0, ap Some e)
 at_in (y ∷ ys) x (inr h) = let rest = at_in ys x h in (suc rest.0, rest.1)
 
-in_all : {X : Type 0} (xs : List X) (k : ℕ) (x : X) → slice_get xs k ≡ Some x → In (k, x) (enumerate_from 0 xs)
+pub in_all : {X : Type 0} (xs : List X) (k : ℕ) (x : X) → slice_get xs k ≡ Some x → In (k, x) (enumerate_from 0 xs)
 in_all xs k x is = let same : 0 + k ≡ k = omega arith in subst (λ (n : ℕ). In (n, x) (enumerate_from 0 xs)) same (in_numbered 0 xs k x is)
 
 before : (files : List LoadedFile) (i j : ℕ) (a b : LoadedFile) → AreOrdered files → slice_get files i ≡ Some a → slice_get files j ≡ Some b → i < j → compare_files a.id b.id ≡ Less
@@ -156,7 +156,7 @@ files_made : (command : Command) (libs : LibraryGraph) (files : List LoadedFile)
 unfolding making
 files_made command libs files flags keys = refl
 
-stands_at : (command : Command) (libs : LibraryGraph) (files : List LoadedFile) (flags : ℕ) (keys : List AtomKey) (layout : Layout) (image : List ℕ) (key : AtomKey) → AreLinked command libs files flags keys layout image → IsAtomIn files key → has keys key ≡ true → (address : ℕ) × HasGoals image layout key address
+pub stands_at : (command : Command) (libs : LibraryGraph) (files : List LoadedFile) (flags : ℕ) (keys : List AtomKey) (layout : Layout) (image : List ℕ) (key : AtomKey) → AreLinked command libs files flags keys layout image → IsAtomIn files key → has keys key ≡ true → (address : ℕ) × HasGoals image layout key address
 stands_at command libs files flags keys layout image key linked is kept =
     let m : Making = making command libs files flags keys in
     let file : LoadedFile = is.file in
@@ -190,6 +190,21 @@ some_there (Some y) x e = refl
 pub record IsInside (image : List ℕ) (layout : Layout) (goal : Goal) : Type 0 where
   pub stands : Stands image (addresses_of layout.placed) goal
   pub unsought : reaches.is_looked_up goal ≡ false
+
+-- a goal of the image that isn't in another one and leads somewhere has an address
+pub goal_stands : (command : Command) (libs : LibraryGraph) (files : List LoadedFile) (flags : ℕ) (keys : List AtomKey) (layout : Layout) (image : List ℕ) (goal : Goal) → AreLinked command libs files flags keys layout image → HasAtom files goal → ((key : AtomKey) → goal_atom goal ≡ Some key → has keys key ≡ true) → is_outer goal ≡ false → is_nobody goal ≡ false → (address : ℕ) × IsGoalAt image layout goal address
+goal_stands command libs files flags keys layout image (Def key offset) linked atom kept own somebody =
+    let stood = stands_at command libs files flags keys layout image key linked atom (kept key refl) in
+    (stood.0 + offset, (stood.1 [] offset).0)
+goal_stands command libs files flags keys layout image (WeakSelf name key offset) linked atom kept own somebody =
+    let stood = stands_at command libs files flags keys layout image key linked atom (kept key refl) in
+    (stood.0 + offset, (stood.1 name offset).1)
+goal_stands command libs files flags keys layout image Header linked atom kept own somebody =
+    let m : Making = making command libs files flags keys in
+    (base_of m.command, header_is_goal m layout image linked.rising linked.is_image)
+goal_stands command libs files flags keys layout image (Import name ordinal by_weak optional) linked atom kept own somebody = absurd (false≢true (sym own))
+goal_stands command libs files flags keys layout image (Flat name) linked atom kept own somebody = absurd (false≢true (sym own))
+goal_stands command libs files flags keys layout image Nobody linked atom kept own somebody = absurd (false≢true (sym somebody))
 
 goal_inside : (command : Command) (libs : LibraryGraph) (files : List LoadedFile) (flags : ℕ) (keys : List AtomKey) (layout : Layout) (image : List ℕ) (goal : Goal) → AreLinked command libs files flags keys layout image → HasAtom files goal → ((key : AtomKey) → goal_atom goal ≡ Some key → has keys key ≡ true) → is_looked_up goal ≡ false → is_nobody goal ≡ false → IsInside image layout goal
 goal_inside command libs files flags keys layout image (Def key offset) linked atom kept unsought somebody =
@@ -252,7 +267,7 @@ least_there (r ∷ rest) p = by (is_lt (slice_cmp nat_cmp r.0 p.0)) (least_there
     by true one other = one
     by false one other = other
 
-least_none : (pairs : List (List ℕ × List ℕ)) → least pairs ≡ None → pairs ≡ []
+pub least_none : (pairs : List (List ℕ × List ℕ)) → least pairs ≡ None → pairs ≡ []
 unfolding least
 least_none [] e = refl
 least_none (p ∷ pairs) e = let told = least_there pairs p in not_none told.0 (sym told.1 ∙ e)

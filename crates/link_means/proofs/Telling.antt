@@ -65,7 +65,7 @@ not_later file r form h =
     none_passes (λ (x : Ref). is_later_kind x.kind) file.refs r
     (neither (list_any is_later_section file.object.sections || list_any (λ (s : Symbol). is_common s.kind) file.object.symbols) (list_any (λ (x : Ref). is_later_kind x.kind) file.refs) form).1 h
 
-are_solid : (files : List LoadedFile) → AreWhole files → AreInForm files → AreSolid files
+pub are_solid : (files : List LoadedFile) → AreWhole files → AreInForm files → AreSolid files
 are_solid files whole form = record {
   cut = λ file h. (from_all IsWholeFile files file whole h).atoms;
   uncommon = λ file h symbol there. not_common file symbol (from_all (λ (f : LoadedFile). is_later f ≡ false) files file form h) there;

@@ -1,6 +1,8 @@
 -- What the references of a linked image tell.
-use Rattle.std.specs.Prelude.{ℕ, ◌≡◌, false, ℤ, pos, List, All, Some}
+use Rattle.std.specs.Prelude.{ℕ, ◌≡◌, ◌<◌, ◌^◌, false, ℤ, pos, List, All, Some}
 use Rattle.image_make.specs.Made.{Making}
+use Rattle.image_means.specs.Entry.{BeginsAt}
+use Rattle.image_means.specs.Means.{IsGoalAt}
 use Rattle.image_read.specs.Held.{AtomMap, target_of}
 use Rattle.member_rounds.specs.Form.{is_later}
 use Rattle.lib_bind.specs.declared.library.LibraryGraph.{LibraryGraph}
@@ -11,6 +13,7 @@ use Rattle.mo_types.specs.declared.goal.Goal.{Goal}
 use Rattle.mo_types.specs.declared.loaded.LoadedFile.{LoadedFile}
 use Rattle.mo_types.specs.declared.reference.RefKind.{RefKind}
 use Rattle.mo_types.specs.declared.reference.RefKind.TheVariants.{PageOff}
+use Rattle.sect_place.specs.declared.layout.Layout.{Layout}
 use Rattle.link_means.specs.Images.{IsImageOf}
 
 -- the pieces and references of each file are those of its whole object
@@ -29,3 +32,9 @@ made_of {command = command} {libs = libs} {files = files} is = making command li
 abbrev pub IsNotBelow : RefKind → List ℕ → AtomMap → Goal → ℤ → Type 0
 IsNotBelow PageOff image addresses goal addend = (target : ℕ) × (target_of image addresses goal addend ≡ Some (pos target))
 IsNotBelow _ image addresses goal addend = Unit {0}
+
+-- the image has the entry of a program at an address, where the program begins
+pub record HasEntry (m : Making) (layout : Layout) (image : List ℕ) : Type 0 where
+  pub address : ℕ
+  pub leads : IsGoalAt image layout m.entry address
+  pub begins : address < 2 ^ 64 → BeginsAt image address

@@ -1,5 +1,5 @@
 //! What holds of links. Each function is a law, which its contract states, and does nothing.
-ghost use Rattle.std.specs.Prelude.{ℕ, All, Contains, List, Ok};
+ghost use Rattle.std.specs.Prelude.{ℕ, ◌≡◌, false, All, Contains, List, Ok};
 ghost use Rattle.atom_work.specs.Rows.{Row};
 ghost use Rattle.image_make.specs.Made.{rows_of};
 ghost use Rattle.image_means.specs.Means.{addresses_of};
@@ -12,7 +12,7 @@ ghost use Rattle.link_engine.specs.declared.plan.Plan.{Plan};
 ghost use Rattle.link_files.specs.Linked.{IsLinked};
 ghost use Rattle.link_means.specs.Images.{AreCut, AreOrdered, IsImageOf};
 ghost use Rattle.link_means.specs.Plans.{HasBytes, IsPlanOfImage};
-ghost use Rattle.link_means.specs.Tellings.{AreInForm, AreWhole, IsNotBelow, made_of};
+ghost use Rattle.link_means.specs.Tellings.{AreInForm, AreWhole, HasEntry, IsNotBelow, made_of};
 ghost use Rattle.mo_cmd.specs.declared.command.Command.{Command as Commanded};
 ghost use Rattle.mo_types.specs.declared.loaded.LoadedFile.{LoadedFile};
 ghost use Rattle.mo_types.specs.declared.reference.Ref.{Ref};
@@ -34,6 +34,12 @@ pub fn a_plan_is_a_linked_image()
 /// leads to another image, nowhere, or to an atom that isn't kept.
 pub fn kept_references_tell_their_goals()
     ensures { (command : Commanded) (libs : LibraryGraph) (files : List LoadedFile) (image : List ℕ) (is : IsImageOf command libs files image) (offsets : AtomMap) (section : ℕ) (row : Row) (reference : Ref) → AreOrdered files → AreWhole files → AreInForm files → Contains (rows_of (made_of is) is.layout) row → IsReferenceOf (made_of is) row reference → IsNotBelow reference.kind image (addresses_of is.layout.placed) (goal_of (made_of is) row reference.target) reference.addend → TellsGoal (made_of is) is.layout image offsets section row reference }
+{}
+
+/// A linked program has its entry: the name leads to a place of the image, of its own atoms or its header, which is kept
+/// whether or not what isn't reached is stripped, and there the program begins.
+pub fn linked_programs_begin_at_their_entry()
+    ensures { (command : Commanded) (libs : LibraryGraph) (files : List LoadedFile) (image : List ℕ) (is : IsImageOf command libs files image) → AreOrdered files → AreWhole files → AreInForm files → command.dylib ≡ false → HasEntry (made_of is) is.layout image }
 {}
 
 /// The objects of what is planned have the form, and where the numbers that were answered for the inputs are bytes they are
