@@ -1,6 +1,11 @@
 //! Shares that were worked out by hand, draws, and jobs whose pieces and order are known.
 ghost use Rattle.std.specs.Prelude.{◌≡◌, ◌≤◌, ◌<◌, ◌^◌, ◌*◌, ℕ, All, length, IfOk};
 
+use crate::first_wrong;
+use crate::races::{settled_orders, words_at_the_start_count};
+use crate::shared_races::{
+    a_racer_sees_the_word_of_another, four_threads_settle_what_one_replays, three_names,
+};
 use mo_outside::{FreeGate, MeetGate};
 use mo_types::OutOfMemory;
 use par_work::{Claims, Task, fan, share};
@@ -123,16 +128,41 @@ fn three_draws_of_two_drawers(alloc: Global) -> Result<bool, OutOfMemory> {
     Ok(claims.close(drawer) == 3 && [first, second, third] == [0, 1, 2])
 }
 
+fn shares_are_even() -> bool {
+    for (i, from, to) in &[(0, 0, 2), (1, 2, 4), (2, 4, 7)] {
+        if share(7, 3, *i) != (*from, *to) {
+            return false;
+        }
+    }
+    true
+}
+
+fn all_give_triples<R: Threads + Sync>(rt: &R, alloc: Global) -> Result<bool, OutOfMemory> {
+    Ok(
+        gives_triples(rt, alloc, 1, 0)?
+            && gives_triples(rt, alloc, 3, 1)?
+            && gives_triples(rt, alloc, 1, 5000)?
+            && gives_triples(rt, alloc, 2, 100_000)?
+            && gives_triples(rt, alloc, 7, 300_001)?,
+    )
+}
+
+// Races in one thread and in several, and jobs.
 #[test]
-fn shares_and_the_gate(rt: HostRuntime) -> Result<(), Fail> {
-    for (i, from, to) in [(0, 0, 2), (1, 2, 4), (2, 4, 7)] {
-        assert!(rt; share(7, 3, i) == (from, to));
-    }
-    assert!(rt; two_workers_meet(&rt, rt.alloc())?);
-    assert!(rt; claim_passes_a_held_job(&rt, rt.alloc())?);
-    assert!(rt; three_draws_of_two_drawers(rt.alloc())?);
-    for (workers, jobs) in [(1, 0), (3, 1), (1, 5000), (2, 100_000), (7, 300_001)] {
-        assert!(rt; gives_triples(&rt, rt.alloc(), workers, jobs)?);
-    }
+fn races_and_jobs(rt: HostRuntime) -> Result<(), Fail> {
+    let alloc = rt.alloc();
+    let wrong = first_wrong(&[
+        ("orders", settled_orders() == 24),
+        ("words at the start", words_at_the_start_count()),
+        ("names", three_names(&rt, alloc)?),
+        ("racers", a_racer_sees_the_word_of_another(alloc)?),
+        ("threads", four_threads_settle_what_one_replays(&rt, alloc)?),
+        ("shares", shares_are_even()),
+        ("workers", two_workers_meet(&rt, alloc)?),
+        ("claims", claim_passes_a_held_job(&rt, alloc)?),
+        ("draws", three_draws_of_two_drawers(alloc)?),
+        ("triples", all_give_triples(&rt, alloc)?),
+    ]);
+    assert!(rt; wrong.is_empty(), "{wrong}");
     Ok(())
 }

@@ -23,3 +23,14 @@ mod structures;
 mod types;
 #[cfg(test)]
 mod words;
+
+// The name of the first row that doesn't hold, or nothing.
+#[cfg(test)]
+fn first_wrong(rows: &[(&'static str, bool)]) -> &'static str {
+    for (name, holds) in rows {
+        if !*holds {
+            return *name;
+        }
+    }
+    ""
+}

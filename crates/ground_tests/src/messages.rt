@@ -51,115 +51,128 @@ fn is_line(alloc: Global, status: &Status, line: &str) -> bool {
     kept.bytes.as_slice() == line.as_bytes() && kept.faults == 0
 }
 
-fn is_told(alloc: Global, status: Status, line: &str) -> bool {
-    is_line(alloc, &status, line)
-}
-
-fn is_refused(alloc: Global, refusal: Refusal, line: &str) -> bool {
-    is_told(alloc, Status::Refused(refusal), line)
-}
-
 fn read_fault() -> Status {
     Status::ReadFault {
         path: bytes("main.o"),
     }
 }
 
-fn no_value() -> Status {
-    Status::Usage {
-        word: 2,
-        rule: UsageRule::NoValue,
+// How many refusals have lines here.
+const REFUSALS: u32 = 10;
+
+// A refusal by its number, and its line.
+fn refusal(number: u32) -> (Refusal, &'static str) {
+    match number {
+        0 => (
+            Refusal::Missing {
+                path: bytes("main.o"),
+            },
+            "atomld: not found: main.o\n",
+        ),
+        1 => (
+            Refusal::Malformed {
+                file: bytes("main.o"),
+                place: 104,
+                rule: Rule::Relocations,
+            },
+            "atomld: main.o: malformed at 104: relocations\n",
+        ),
+        2 => (
+            Refusal::Unsupported {
+                file: bytes("main.o"),
+                feature: Feature::Later,
+            },
+            "atomld: main.o: unsupported: later\n",
+        ),
+        3 => (
+            Refusal::Limit {
+                which: Which::Sections,
+            },
+            "atomld: limit: sections\n",
+        ),
+        4 => (
+            Refusal::Duplicate {
+                name: bytes("_f"),
+                first: bytes("main.o"),
+                second: bytes("libx.a(h.o)"),
+            },
+            "atomld: duplicate _f: main.o, libx.a(h.o)\n",
+        ),
+        _ => refusal_of_names_and_places(number),
     }
 }
 
-fn answers_have_lines(alloc: Global) -> bool {
-    is_told(alloc, Status::Done, "")
-        && is_told(alloc, no_value(), "atomld: usage: word 2: novalue\n")
-        && is_told(alloc, read_fault(), "atomld: cannot read main.o\n")
-        && is_told(alloc, Status::WriteFault, "atomld: cannot write out\n")
-        && is_told(alloc, Status::OutOfMemory, "atomld: out of memory\n")
+fn refusal_of_names_and_places(number: u32) -> (Refusal, &'static str) {
+    match number {
+        5 => (
+            Refusal::Undefined {
+                name: bytes("_main"),
+                file: bytes(""),
+            },
+            "atomld: undefined _main\n",
+        ),
+        6 => (
+            Refusal::Undefined {
+                name: bytes("_nobody"),
+                file: bytes("main.o"),
+            },
+            "atomld: undefined _nobody: main.o\n",
+        ),
+        7 => (
+            Refusal::NeedsImage {
+                file: bytes("main.o"),
+                place: 416,
+            },
+            "atomld: main.o: import without slot at 416\n",
+        ),
+        8 => (
+            Refusal::Range {
+                file: bytes("main.o"),
+                place: 704,
+                kind: RangeKind::FixupPlace,
+                value: 16393,
+            },
+            "atomld: main.o: out of range at 704: fixupplace 16393\n",
+        ),
+        _ => (
+            Refusal::Range {
+                file: bytes("main.o"),
+                place: u64::MAX,
+                kind: RangeKind::Branch,
+                value: i128::MIN,
+            },
+            "atomld: main.o: out of range at 18446744073709551615: branch -170141183460469231731687303715884105728\n",
+        ),
+    }
 }
 
-fn refusals_of_files_have_lines(alloc: Global) -> bool {
-    is_refused(
-        alloc,
-        Refusal::Missing {
-            path: bytes("main.o"),
-        },
-        "atomld: not found: main.o\n",
-    ) && is_refused(
-        alloc,
-        Refusal::Malformed {
-            file: bytes("main.o"),
-            place: 104,
-            rule: Rule::Relocations,
-        },
-        "atomld: main.o: malformed at 104: relocations\n",
-    ) && is_refused(
-        alloc,
-        Refusal::Unsupported {
-            file: bytes("main.o"),
-            feature: Feature::Later,
-        },
-        "atomld: main.o: unsupported: later\n",
-    ) && is_refused(
-        alloc,
-        Refusal::Limit {
-            which: Which::Sections,
-        },
-        "atomld: limit: sections\n",
-    ) && is_refused(
-        alloc,
-        Refusal::Duplicate {
-            name: bytes("_f"),
-            first: bytes("main.o"),
-            second: bytes("libx.a(h.o)"),
-        },
-        "atomld: duplicate _f: main.o, libx.a(h.o)\n",
-    )
+// How many answers have lines here.
+const ANSWERS: u32 = 5 + REFUSALS;
+
+// An answer by its number, and its line.
+fn answer(number: u32) -> (Status, &'static str) {
+    match number {
+        0 => (Status::Done, ""),
+        1 => (
+            Status::Usage {
+                word: 2,
+                rule: UsageRule::NoValue,
+            },
+            "atomld: usage: word 2: novalue\n",
+        ),
+        2 => (read_fault(), "atomld: cannot read main.o\n"),
+        3 => (Status::WriteFault, "atomld: cannot write out\n"),
+        4 => (Status::OutOfMemory, "atomld: out of memory\n"),
+        _ => {
+            let (refusal, line) = refusal(number.wrapping_sub(5));
+            (Status::Refused(refusal), line)
+        }
+    }
 }
 
-fn refusals_of_names_and_places_have_lines(alloc: Global) -> bool {
-    is_refused(
-        alloc,
-        Refusal::Undefined {
-            name: bytes("_main"),
-            file: bytes(""),
-        },
-        "atomld: undefined _main\n",
-    ) && is_refused(
-        alloc,
-        Refusal::Undefined {
-            name: bytes("_nobody"),
-            file: bytes("main.o"),
-        },
-        "atomld: undefined _nobody: main.o\n",
-    ) && is_refused(
-        alloc,
-        Refusal::NeedsImage {
-            file: bytes("main.o"),
-            place: 416,
-        },
-        "atomld: main.o: import without slot at 416\n",
-    ) && is_refused(
-        alloc,
-        Refusal::Range {
-            file: bytes("main.o"),
-            place: 704,
-            kind: RangeKind::FixupPlace,
-            value: 16393,
-        },
-        "atomld: main.o: out of range at 704: fixupplace 16393\n",
-    ) && is_refused(
-        alloc,
-        Refusal::Range {
-            file: bytes("main.o"),
-            place: u64::MAX,
-            kind: RangeKind::Branch,
-            value: i128::MIN,
-        },
-        "atomld: main.o: out of range at 18446744073709551615: branch -170141183460469231731687303715884105728\n",
-    )
+fn has_line(alloc: Global, number: u32) -> bool {
+    let (status, line) = answer(number);
+    is_line(alloc, &status, line)
 }
 
 // Whether a message ends so where the call of a number fails, and nothing is put after it.
@@ -169,17 +182,29 @@ fn is_cut_off(alloc: Global, failing: u64, line: &str) -> bool {
     kept.bytes.as_slice() == line.as_bytes() && kept.faults == 1 && kept.calls == failing
 }
 
-#[test]
-fn lines(rt: HostRuntime) {
-    let alloc = rt.alloc();
-    assert!(rt; answers_have_lines(alloc));
-    assert!(rt; refusals_of_files_have_lines(alloc));
-    assert!(rt; refusals_of_names_and_places_have_lines(alloc));
-    for (failing, line) in [
-        (1, "atomld: ca"),
-        (2, "atomld: cannot read mai"),
-        (3, "atomld: cannot read main.o"),
-    ] {
-        assert!(rt; is_cut_off(alloc, failing, line), "{line}");
+/// Whether each answer has its line.
+pub(crate) fn answers_have_lines(alloc: Global) -> bool {
+    for number in 0..ANSWERS {
+        if !has_line(alloc, number) {
+            return false;
+        }
     }
+    true
+}
+
+// How a message ends whose call of each number fails, from 1 on.
+const CUT_OFF: [&str; 3] = [
+    "atomld: ca",
+    "atomld: cannot read mai",
+    "atomld: cannot read main.o",
+];
+
+/// Whether a message whose call fails ends where it should.
+pub(crate) fn messages_are_cut_off(alloc: Global) -> bool {
+    for (line, failing) in CUT_OFF.iter().zip(1u64..) {
+        if !is_cut_off(alloc, failing, line) {
+            return false;
+        }
+    }
+    true
 }

@@ -1,3 +1,10 @@
+use crate::first_wrong;
+use crate::instructions::{branches_are_written, low_bits_are_written, pages_are_written};
+use crate::load_commands::{load_commands_are_read, load_commands_are_written};
+use crate::structures::{
+    an_object_of_clang_is_read, commands_and_entries_are_read, headers_are_read,
+    relocations_of_clang_are_read, structures_are_written, symbols_of_clang_are_read,
+};
 use mo_bytes::{read_u16, read_u32, read_u64, round_up, uleb_len, uleb_put, uleb_read};
 use std::alloc::{AllocError, Global};
 use std::test::Fail;
@@ -80,19 +87,23 @@ const EDGES: [(&[u8], usize, Option<(u64, usize)>); 7] = [
     (&[0x05, 0x80], usize::MAX, None),
 ];
 
-fn fields_of_a_header() -> bool {
-    for (at, want) in OF_16_BITS {
-        if read_u16(&HEADER, at) != want {
+fn halves_of_a_header() -> bool {
+    for (at, want) in &OF_16_BITS {
+        if read_u16(&HEADER, *at) != *want {
             return false;
         }
     }
-    for (at, want) in OF_32_BITS {
-        if read_u32(&HEADER, at) != want {
+    true
+}
+
+fn words_of_a_header() -> bool {
+    for (at, want) in &OF_32_BITS {
+        if read_u32(&HEADER, *at) != *want {
             return false;
         }
     }
-    for (at, want) in OF_64_BITS {
-        if read_u64(&HEADER, at) != want {
+    for (at, want) in &OF_64_BITS {
+        if read_u64(&HEADER, *at) != *want {
             return false;
         }
     }
@@ -101,6 +112,15 @@ fn fields_of_a_header() -> bool {
 
 fn is_rounded(value: u64, exponent: u8, want: Option<u64>) -> bool {
     exponent < 64 && round_up(value, exponent) == want
+}
+
+fn numbers_are_rounded() -> bool {
+    for (value, exponent, want) in &ROUNDED {
+        if !is_rounded(*value, *exponent, *want) {
+            return false;
+        }
+    }
+    true
 }
 
 // A byte, and the spelling of a number.
@@ -119,17 +139,47 @@ fn is_spelled(alloc: Global, value: u64, bytes: &[u8]) -> Result<bool, AllocErro
     Ok(is_written && uleb_read(out.as_slice(), 1) == Some((value, end)))
 }
 
-#[test]
-fn numbers_and_their_spellings(rt: HostRuntime) -> Result<(), Fail> {
-    assert!(rt; fields_of_a_header());
-    for (value, exponent, want) in ROUNDED {
-        assert!(rt; is_rounded(value, exponent, want), "{value} and {exponent}");
-    }
+fn numbers_are_spelled(alloc: Global) -> Result<bool, AllocError> {
     for (value, bytes) in &SPELLINGS {
-        assert!(rt; is_spelled(rt.alloc(), *value, bytes)?, "{value}");
+        if !is_spelled(alloc, *value, bytes)? {
+            return Ok(false);
+        }
     }
-    for (row, (bytes, at, want)) in EDGES.iter().enumerate() {
-        assert!(rt; uleb_read(bytes, *at) == *want, "in row {row}");
+    Ok(true)
+}
+
+fn edges_are_read() -> bool {
+    for (bytes, at, want) in &EDGES {
+        if uleb_read(bytes, *at) != *want {
+            return false;
+        }
     }
+    true
+}
+
+// Numbers of bytes and their spellings, words of the assembler, an object of clang, and structures and load commands that
+// yaml2obj writes.
+#[test]
+fn numbers_words_and_structures(rt: HostRuntime) -> Result<(), Fail> {
+    let alloc = rt.alloc();
+    let wrong = first_wrong(&[
+        ("halves", halves_of_a_header()),
+        ("words", words_of_a_header()),
+        ("rounded", numbers_are_rounded()),
+        ("spelled", numbers_are_spelled(alloc)?),
+        ("edges", edges_are_read()),
+        ("branches", branches_are_written()),
+        ("pages", pages_are_written()),
+        ("low bits", low_bits_are_written()),
+        ("an object", an_object_of_clang_is_read()),
+        ("relocations", relocations_of_clang_are_read()),
+        ("symbols", symbols_of_clang_are_read()),
+        ("headers", headers_are_read()),
+        ("commands", commands_and_entries_are_read()),
+        ("structures", structures_are_written(alloc)?),
+        ("load commands", load_commands_are_read()),
+        ("their bytes", load_commands_are_written(alloc)?),
+    ]);
+    assert!(rt; wrong.is_empty(), "{wrong}");
     Ok(())
 }

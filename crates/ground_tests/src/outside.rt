@@ -1,6 +1,7 @@
 //! What stands for files, output, messages and the gate: what was put in is what is found.
 ghost use Rattle.std.specs.Prelude.{◌≢◌, AllPairs, IfOk};
 
+use crate::first_wrong;
 use mo_outside::{
     CallList, Diag, Failed, FetchFault, FileList, Files, FreeGate, Gate, MeetGate, MemDiag,
     MemFiles, MemOut, Out, SureDiag, SureFiles, SureOut,
@@ -175,23 +176,38 @@ fn two_workers_meet<R: Threads + Sync>(rt: &R) -> bool {
     gate.met()
 }
 
+fn rooms_are_short(alloc: Global) -> Result<bool, OutOfMemory> {
+    for (room, failing, short) in &[(8, 5, false), (7, 5, true), (8, 3, true)] {
+        if !is_short(alloc, *room, *failing, *short)? || !sure_is_short(alloc, *room)? {
+            return Ok(false);
+        }
+    }
+    Ok(true)
+}
+
+fn messages_fail(alloc: Global) -> Result<bool, OutOfMemory> {
+    for (room, number, fails) in &[(9, 3, false), (8, 3, true), (9, 2, true)] {
+        if !message_fails(alloc, *room, *number, *fails)? || !sure_message_is_short(alloc, *room)? {
+            return Ok(false);
+        }
+    }
+    Ok(true)
+}
+
 #[test]
 fn what_was_put_in_is_found(rt: HostRuntime) -> Result<(), Fail> {
     let alloc = rt.alloc();
-    assert!(rt; sure_files_are_fetched(alloc)?);
-    assert!(rt; a_fetch_fails(alloc)?);
     FreeGate.pass(0);
-    assert!(rt; output_is_read_back(alloc)?);
-    assert!(rt; sure_output_is_read_back(alloc)?);
-    for (room, failing, short) in [(8, 5, false), (7, 5, true), (8, 3, true)] {
-        assert!(rt; is_short(alloc, room, failing, short)? && sure_is_short(alloc, room)?);
-    }
-    for (room, number, fails) in [(9, 3, false), (8, 3, true), (9, 2, true)] {
-        assert!(rt;
-            message_fails(alloc, room, number, fails)? && sure_message_is_short(alloc, room)?
-        );
-    }
-    assert!(rt; no_worker_meets_alone());
-    assert!(rt; two_workers_meet(&rt));
+    let wrong = first_wrong(&[
+        ("sure files", sure_files_are_fetched(alloc)?),
+        ("files", a_fetch_fails(alloc)?),
+        ("output", output_is_read_back(alloc)?),
+        ("sure output", sure_output_is_read_back(alloc)?),
+        ("rooms", rooms_are_short(alloc)?),
+        ("messages", messages_fail(alloc)?),
+        ("one worker", no_worker_meets_alone()),
+        ("two workers", two_workers_meet(&rt)),
+    ]);
+    assert!(rt; wrong.is_empty(), "{wrong}");
     Ok(())
 }

@@ -26,7 +26,7 @@ fn is_settled(a: u32, b: u32, c: u32, d: u32) -> bool {
 }
 
 // In how many orders four offers leave those words.
-fn settled_orders() -> u8 {
+pub(crate) fn settled_orders() -> u8 {
     let mut orders = 0u8;
     for a in 0..4u32 {
         for b in 0..4u32 {
@@ -43,7 +43,7 @@ fn settled_orders() -> u8 {
     orders
 }
 
-fn words_at_the_start_count() -> bool {
+pub(crate) fn words_at_the_start_count() -> bool {
     let mut words = [3, 8];
     replay(&mut words, &[]);
     let are_kept = words == [3, 8];
@@ -61,10 +61,4 @@ fn words_at_the_start_count() -> bool {
     ];
     replay(&mut words, &events);
     are_kept && words == [3, 0]
-}
-
-#[test]
-fn race_of_three_names(rt: HostRuntime) {
-    assert!(rt; settled_orders() == 24);
-    assert!(rt; words_at_the_start_count());
 }

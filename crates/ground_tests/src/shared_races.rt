@@ -6,7 +6,6 @@ use mo_types::OutOfMemory;
 use name_race::{NameRace, Racer};
 use race_core::{Offer, replay};
 use std::alloc::{AllocError, Global};
-use std::test::Fail;
 use std::thread::{Threads, join};
 
 const NONE: u64 = u64::MAX;
@@ -125,7 +124,7 @@ const OFFERS: [Offer; 4] = [
     },
 ];
 
-fn three_names<R: Threads + Sync>(rt: &R, alloc: Global) -> Result<bool, OutOfMemory> {
+pub(crate) fn three_names<R: Threads + Sync>(rt: &R, alloc: Global) -> Result<bool, OutOfMemory> {
     let (race, racer) = NameRace::begin(alloc, vec![in alloc; NONE; 3]?, 2)?;
     let racer = offer_by_two(rt, &race, racer, &OFFERS);
     let mut words = [0; 3];
@@ -133,7 +132,7 @@ fn three_names<R: Threads + Sync>(rt: &R, alloc: Global) -> Result<bool, OutOfMe
     Ok(words == [5, NONE, 9])
 }
 
-fn a_racer_sees_the_word_of_another(alloc: Global) -> Result<bool, OutOfMemory> {
+pub(crate) fn a_racer_sees_the_word_of_another(alloc: Global) -> Result<bool, OutOfMemory> {
     let (race, mut first) = NameRace::begin(alloc, vec![in alloc; NONE]?, 2)?;
     let mut second = race.split(&mut first, 1);
     let seen = [
@@ -171,7 +170,7 @@ fn settled_by_four<R: Threads + Sync>(
     Ok(words)
 }
 
-fn four_threads_settle_what_one_replays<R: Threads + Sync>(
+pub(crate) fn four_threads_settle_what_one_replays<R: Threads + Sync>(
     rt: &R,
     alloc: Global,
 ) -> Result<bool, OutOfMemory> {
@@ -179,12 +178,4 @@ fn four_threads_settle_what_one_replays<R: Threads + Sync>(
     let settled = settled_by_four(rt, alloc, events.as_slice())?;
     let replayed = replayed(alloc, events.as_slice())?;
     Ok(settled == replayed)
-}
-
-#[test]
-fn race_of_three_names(rt: HostRuntime) -> Result<(), Fail> {
-    assert!(rt; three_names(&rt, rt.alloc())?);
-    assert!(rt; a_racer_sees_the_word_of_another(rt.alloc())?);
-    assert!(rt; four_threads_settle_what_one_replays(&rt, rt.alloc())?);
-    Ok(())
 }

@@ -1,11 +1,9 @@
 //! The structures against what LLVM 14 writes and prints.
-use crate::load_commands::{load_commands_are_read, load_commands_are_written};
 use mo_format::{
     BuildVersionCommand, DylinkerCommand, EntryPointCommand, MachHeader, Nlist, RelocationInfo,
     SectionHeader, SegmentCommand, SymtabCommand,
 };
 use std::alloc::{AllocError, Global};
-use std::test::Fail;
 
 // What `clang -target arm64-apple-macos11 -c` makes of
 //
@@ -174,7 +172,7 @@ const CLANG_SYMTAB: SymtabCommand = SymtabCommand {
     strsize: 48,
 };
 
-fn an_object_of_clang_is_read() -> bool {
+pub(crate) fn an_object_of_clang_is_read() -> bool {
     MachHeader::read(&OBJECT, 0) == CLANG_HEADER
         && SegmentCommand::read(&OBJECT, 32) == CLANG_SEGMENT
         && SectionHeader::read(&OBJECT, 104) == CLANG_TEXT
@@ -193,7 +191,7 @@ const RELOCATIONS: [(usize, u32, u32, bool, u8, u8); 6] = [
     (472, 0, 3, false, 3, 0),
 ];
 
-fn relocations_of_clang_are_read() -> bool {
+pub(crate) fn relocations_of_clang_are_read() -> bool {
     for (at, r_address, r_symbolnum, r_pcrel, r_length, r_type) in RELOCATIONS {
         let info = RelocationInfo {
             r_address,
@@ -221,7 +219,7 @@ const SYMBOLS: [(usize, u32, u8, u8, u16, u64); 7] = [
     (576, 1, 0x01, 0, 0, 0),
 ];
 
-fn symbols_of_clang_are_read() -> bool {
+pub(crate) fn symbols_of_clang_are_read() -> bool {
     for (at, n_strx, n_type, n_sect, n_desc, n_value) in SYMBOLS {
         let symbol = Nlist {
             n_strx,
@@ -355,7 +353,7 @@ fn write_entries(out: &mut Vec<u8>) -> Result<(), AllocError> {
     SYMBOL.write(out)
 }
 
-fn structures_are_written(alloc: Global) -> Result<bool, AllocError> {
+pub(crate) fn structures_are_written(alloc: Global) -> Result<bool, AllocError> {
     let mut out = Vec::new(alloc);
     write_headers(&mut out)?;
     write_commands(&mut out)?;
@@ -363,7 +361,7 @@ fn structures_are_written(alloc: Global) -> Result<bool, AllocError> {
     Ok(out.as_slice() == STRUCTURES.as_slice())
 }
 
-fn headers_are_read() -> bool {
+pub(crate) fn headers_are_read() -> bool {
     MachHeader::read(&STRUCTURES, 0) == HEADER
         && SegmentCommand::read(&STRUCTURES, 32) == SEGMENT
         && SectionHeader::read(&STRUCTURES, 104) == SECTION
@@ -371,24 +369,10 @@ fn headers_are_read() -> bool {
         && DylinkerCommand::read(&STRUCTURES, 208) == DYLINKER
 }
 
-fn commands_and_entries_are_read() -> bool {
+pub(crate) fn commands_and_entries_are_read() -> bool {
     BuildVersionCommand::read(&STRUCTURES, 240) == VERSION
         && EntryPointCommand::read(&STRUCTURES, 264) == ENTRY
         && RelocationInfo::read(&STRUCTURES, 288) == PAGE
         && RelocationInfo::read(&STRUCTURES, 296) == POINTER
         && Nlist::read(&STRUCTURES, 304) == SYMBOL
-}
-
-// An object of clang, and structures and load commands that yaml2obj writes.
-#[test]
-fn structures_are_those_of_llvm(rt: HostRuntime) -> Result<(), Fail> {
-    assert!(rt; an_object_of_clang_is_read());
-    assert!(rt; relocations_of_clang_are_read());
-    assert!(rt; symbols_of_clang_are_read());
-    assert!(rt; headers_are_read());
-    assert!(rt; commands_and_entries_are_read());
-    assert!(rt; structures_are_written(rt.alloc())?);
-    assert!(rt; load_commands_are_read());
-    assert!(rt; load_commands_are_written(rt.alloc())?);
-    Ok(())
 }

@@ -1,5 +1,7 @@
 //! The types that crates share: what no clause says, that calls succeed with ample memory, and that the words are the
 //! meant ones.
+use crate::first_wrong;
+use crate::messages::{answers_have_lines, messages_are_cut_off};
 use mo_types::*;
 use std::alloc::{AllocError, Global};
 use std::fmt::Debug;
@@ -453,29 +455,46 @@ const OBJECTS: [(u8, &'static [u8], u8, u64, bool); 9] = [
     (4, b"a\0bc", 1, 0x100, false),
 ];
 
+fn kinds_are_told() -> bool {
+    for (bytes, kind) in &KINDS {
+        if kind_of(bytes) != *kind {
+            return false;
+        }
+    }
+    true
+}
+
+fn objects_are_whole(alloc: Global) -> Result<bool, OutOfMemory> {
+    for (kind, bytes, section, value, whole) in &OBJECTS {
+        if is_whole(alloc, *kind, bytes, *section, *value)? != *whole {
+            return Ok(false);
+        }
+    }
+    Ok(true)
+}
+
+// The types, and the lines of answers.
 #[test]
 fn causes_and_answers_are_as_messages_show_them(rt: HostRuntime) -> Result<(), Fail> {
     let alloc = rt.alloc();
-    assert!(rt; causes_are_named(alloc)?);
-    assert!(rt; codes_are_the_programs());
-    assert!(rt; want_of_memory_is_told(alloc)?);
-    assert!(rt; parts_are_shared(alloc)?);
-    assert!(rt; copies_are_alike(alloc)?);
-    assert!(rt; parts_end_with_their_string(alloc)?);
-    assert!(rt; strings_are_ordered_byte_by_byte());
-    assert!(rt; words_are_their_bytes(alloc)?);
-    assert!(rt; lists_keep_their_elements(alloc)?);
-    assert!(rt; keys_rise());
-    assert!(rt; files_are_loaded(alloc)?);
-    assert!(rt; lists_of_references_lose_nothing(alloc)?);
-    for (row, (bytes, kind)) in KINDS.iter().enumerate() {
-        assert!(rt; kind_of(bytes) == *kind, "in row {row}");
-    }
-    for (row, (kind, bytes, section, value, whole)) in OBJECTS.iter().enumerate() {
-        assert!(rt;
-            is_whole(alloc, *kind, bytes, *section, *value)? == *whole,
-            "in row {row}"
-        );
-    }
+    let wrong = first_wrong(&[
+        ("causes", causes_are_named(alloc)?),
+        ("codes", codes_are_the_programs()),
+        ("memory", want_of_memory_is_told(alloc)?),
+        ("parts", parts_are_shared(alloc)?),
+        ("copies", copies_are_alike(alloc)?),
+        ("ends", parts_end_with_their_string(alloc)?),
+        ("strings", strings_are_ordered_byte_by_byte()),
+        ("words", words_are_their_bytes(alloc)?),
+        ("lists", lists_keep_their_elements(alloc)?),
+        ("keys", keys_rise()),
+        ("files", files_are_loaded(alloc)?),
+        ("references", lists_of_references_lose_nothing(alloc)?),
+        ("kinds", kinds_are_told()),
+        ("objects", objects_are_whole(alloc)?),
+        ("lines", answers_have_lines(alloc)),
+        ("ends of lines", messages_are_cut_off(alloc)),
+    ]);
+    assert!(rt; wrong.is_empty(), "{wrong}");
     Ok(())
 }

@@ -4,7 +4,6 @@ use link_engine::link;
 use mo_outside::{CallList, FileList, FreeGate, Gate, MeetGate, MemDiag, MemFiles, MemOut};
 use mo_types::{Arg, ArgList, Bytes, Items, OutOfMemory};
 use std::alloc::Global;
-use std::process::Abort;
 use std::test::Fail;
 use std::thread::Threads;
 
@@ -79,6 +78,34 @@ struct Run {
     written: Option<(usize, bool)>,
 }
 
+fn mem_files(alloc: Global, failing: u64) -> Result<MemFiles, OutOfMemory> {
+    let calls = one_call(alloc, failing)?;
+    let pairs = both_files(alloc)?;
+    Ok(MemFiles::new(pairs, calls))
+}
+
+fn mem_out(alloc: Global, room: u64, failing: u64) -> Result<MemOut, OutOfMemory> {
+    let calls = one_call(alloc, failing)?;
+    Ok(MemOut::new(alloc, room, calls)?)
+}
+
+fn mem_diag(alloc: Global, failing: u64) -> Result<MemDiag, OutOfMemory> {
+    let calls = one_call(alloc, failing)?;
+    Ok(MemDiag::new(alloc, 64, calls)?)
+}
+
+// The exit status of a link.
+fn code_of<R: AllocGlobal + Threads + Sync, G: Gate + Sync>(
+    rt: &R,
+    words: &ArgList,
+    files: &mut MemFiles,
+    out: &mut MemOut,
+    diag: &mut MemDiag,
+    gate: &G,
+) -> u8 {
+    link(rt, rt.alloc(), words, files, out, diag, gate).code()
+}
+
 fn written(out: &MemOut) -> Option<(usize, bool)> {
     match (out.bytes(0), out.is_done(0)) {
         (Some(bytes), Some(done)) => Some((bytes.len(), done)),
@@ -86,23 +113,27 @@ fn written(out: &MemOut) -> Option<(usize, bool)> {
     }
 }
 
-fn assert_run<R: Abort + AllocGlobal + Threads + Sync>(
+fn ends_so(run: &Run, code: u8, out: &MemOut, diag: &MemDiag) -> bool {
+    code == run.code && diag.lines() == run.line && written(out) == run.written
+}
+
+// Whether a link of words and files ends as its run says.
+fn runs_so<R: AllocGlobal + Threads + Sync>(
     rt: &R,
-    run: Run,
-) -> Result<(), OutOfMemory> {
-    let alloc = rt.alloc();
-    let (files, out, diag) = run.failing;
-    let mut files = MemFiles::new(both_files(alloc)?, one_call(alloc, files)?);
-    let mut out = MemOut::new(alloc, run.room, one_call(alloc, out)?)?;
-    let mut diag = MemDiag::new(alloc, 64, one_call(alloc, diag)?)?;
-    let words = words_of(alloc, run.words)?;
-    let status = link(
-        rt, alloc, &words, &mut files, &mut out, &mut diag, &FreeGate,
-    );
-    assert!(rt; status.code() == run.code);
-    assert!(rt; diag.lines() == run.line);
-    assert!(rt; written(&out) == run.written);
-    Ok(())
+    run: &Run,
+    words: &ArgList,
+    files: &mut MemFiles,
+) -> Result<bool, OutOfMemory> {
+    let mut out = mem_out(rt.alloc(), run.room, run.failing.1)?;
+    let mut diag = mem_diag(rt.alloc(), run.failing.2)?;
+    let code = code_of(rt, words, files, &mut out, &mut diag, &FreeGate);
+    Ok(ends_so(run, code, &out, &diag))
+}
+
+fn is_run<R: AllocGlobal + Threads + Sync>(rt: &R, run: &Run) -> Result<bool, OutOfMemory> {
+    let words = words_of(rt.alloc(), run.words)?;
+    let mut files = mem_files(rt.alloc(), run.failing.0)?;
+    runs_so(rt, run, &words, &mut files)
 }
 
 const DONE: Run = Run {
@@ -125,7 +156,7 @@ const NOT_BEGUN: Run = Run {
 
 #[test]
 fn failing_calls(rt: HostRuntime) -> Result<(), Fail> {
-    for run in [
+    for (row, run) in [
         DONE,
         NOT_BEGUN,
         Run {
@@ -182,10 +213,34 @@ fn failing_calls(rt: HostRuntime) -> Result<(), Fail> {
             line: b"atomld: not found: /usr/lib/libq.tbd\n",
             ..NOT_BEGUN
         },
-    ] {
-        assert_run(&rt, run)?;
+    ]
+    .iter()
+    .enumerate()
+    {
+        assert!(rt; is_run(&rt, run)?, "in row {row}");
     }
     Ok(())
+}
+
+// The first file's bytes, where a link ended well.
+fn image_of(alloc: Global, code: u8, out: &MemOut) -> Result<Vec<u8>, OutOfMemory> {
+    let image: &[u8] = match out.bytes(0) {
+        Some(bytes) if code == 0 => bytes,
+        _ => b"",
+    };
+    Ok(Vec::from_slice(alloc, image)?)
+}
+
+fn image_by<R: AllocGlobal + Threads + Sync, G: Gate + Sync>(
+    rt: &R,
+    words: &ArgList,
+    files: &mut MemFiles,
+    gate: &G,
+) -> Result<Vec<u8>, OutOfMemory> {
+    let mut out = mem_out(rt.alloc(), ROOM, 0)?;
+    let mut diag = mem_diag(rt.alloc(), 0)?;
+    let code = code_of(rt, words, files, &mut out, &mut diag, gate);
+    image_of(rt.alloc(), code, &out)
 }
 
 // The image of both objects, by so many workers that pass a gate.
@@ -194,27 +249,25 @@ fn linked<R: AllocGlobal + Threads + Sync, G: Gate + Sync>(
     words: &str,
     gate: &G,
 ) -> Result<Vec<u8>, OutOfMemory> {
-    let alloc = rt.alloc();
-    let mut files = MemFiles::new(both_files(alloc)?, Items::new(alloc));
-    let mut out = MemOut::new(alloc, ROOM, Items::new(alloc))?;
-    let mut diag = MemDiag::new(alloc, 64, Items::new(alloc))?;
-    let words = words_of(alloc, words)?;
-    let status = link(rt, alloc, &words, &mut files, &mut out, &mut diag, gate);
-    let mut image = Vec::new(alloc);
-    if status.code() == 0 {
-        image.extend_from_slice(out.bytes(0).unwrap_or(b"".as_slice()))?;
-    }
-    Ok(image)
+    let words = words_of(rt.alloc(), words)?;
+    let mut files = mem_files(rt.alloc(), 0)?;
+    image_by(rt, &words, &mut files, gate)
+}
+
+fn two_make_what_one_makes<R: AllocGlobal + Threads + Sync>(
+    rt: &R,
+    gate: &MeetGate,
+) -> Result<bool, OutOfMemory> {
+    let by_two = linked(rt, "main.o b.o -threads 2", gate)?;
+    let by_one = linked(rt, "main.o b.o -threads 1", &FreeGate)?;
+    Ok(by_two.len() == IMAGE_SIZE && by_two.as_slice() == by_one.as_slice())
 }
 
 // Two workers come to the gate, and the image is that of one worker alone.
 #[test]
 fn workers_meet(rt: HostRuntime) -> Result<(), Fail> {
     let gate = MeetGate::new(1_000_000_000);
-    let by_two = linked(&rt, "main.o b.o -threads 2", &gate)?;
-    let by_one = linked(&rt, "main.o b.o -threads 1", &FreeGate)?;
+    assert!(rt; two_make_what_one_makes(&rt, &gate)?);
     assert!(rt; gate.met());
-    assert!(rt; by_two.len() == IMAGE_SIZE);
-    assert!(rt; by_two.as_slice() == by_one.as_slice());
     Ok(())
 }
