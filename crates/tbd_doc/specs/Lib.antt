@@ -3,3 +3,4 @@ pub mod Nodes
 pub mod Forms
 pub mod Exports
 pub mod Stubs
+pub mod FaultText

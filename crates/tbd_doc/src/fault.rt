@@ -48,6 +48,11 @@ impl<T: Drop> From<AllocFailed<T>> for StubFault {
 }
 
 impl fmt::Display for StubFault {
+    ghost use Rattle.std.specs.Prelude.{Some};
+    ghost use Rattle.tbd_doc.specs.FaultText.{stub_fault_text};
+
+    ghost output = { λ fault. Some (stub_fault_text fault) };
+
     fn fmt<W: fmt::Write>(&self, f: &mut fmt::Formatter<W>) -> fmt::Result {
         match self {
             StubFault::NotTbd4 => f.write_str("unsupported: tbd"),
