@@ -21,7 +21,7 @@ use kept_refs::{GoalTable, SpotList};
 use mo_types::{AtomKey, Goal, Items, Loaded, LoadedFile, LoadedList, OutOfMemory};
 use patch::{Met, PlacedWork};
 use resolve::Winners;
-use sect_place::{Layout, PlacedSection};
+use sect_place::{Layout, PlacedSection, is_zerofill};
 use std::alloc::Global;
 use std::cmp::Ordering;
 
@@ -235,7 +235,7 @@ fn with_keys(
 fn has_bytes(section: &PlacedSection) -> bool
     ensures { result ≡ spec.has_bytes section.now }
 {
-    !matches!(section.section.kind, 1 | 0x12)
+    !is_zerofill(section.section.kind)
 }
 
 // What is written, and the atoms of the sections that have bytes.

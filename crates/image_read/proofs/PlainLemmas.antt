@@ -6,7 +6,8 @@ use Rattle.mo_types.specs.Rows.{when}
 use Rattle.mo_types.specs.Scan.{first_some, option_or_else}
 use Rattle.image_read.specs.Commands.{cmd, commands_of, fits}
 use Rattle.image_read.specs.Fixups.{fixup_at, fixup_read, header_for, header_read}
-use Rattle.image_read.specs.Imports.{LC_DYLD_CHAINED_FIXUPS, fixups_at, fixups_command}
+use Rattle.mo_format.specs.declared.loader.TheConstants.{LC_DYLD_CHAINED_FIXUPS}
+use Rattle.image_read.specs.Imports.{fixups_at, fixups_command}
 use Rattle.image_read.specs.declared.fixups.FixupRead.TheVariants.{Plain}
 
 not_there : (image : List ℕ) (at : ℕ) (b : Bool) → (cmd image at == LC_DYLD_CHAINED_FIXUPS) ≡ b → cmd image at ≢ LC_DYLD_CHAINED_FIXUPS → when b at ≡ None

@@ -5,7 +5,8 @@ use Rattle.mo_bytes.specs.Number.{number_at}
 use Rattle.mo_types.specs.Gives.{◌>>=◌}
 use Rattle.mo_format.specs.Segment.{segment_command_at}
 use Rattle.image_read.specs.Commands.{cmdsize, fits, ncmds}
-use Rattle.image_read.specs.Imports.{DYLD_CHAINED_IMPORT, DYLD_CHAINED_IMPORT_ADDEND64, fixups_command, header_by}
+use Rattle.mo_format.specs.declared.fixup_chains.TheConstants.{DYLD_CHAINED_IMPORT, DYLD_CHAINED_IMPORT_ADDEND64, DYLD_CHAINED_PTR_START_NONE}
+use Rattle.image_read.specs.Imports.{fixups_command, header_by}
 use Rattle.image_read.specs.Mapped.{holds, is_segment, mapped}
 use Rattle.image_read.specs.declared.fixups.FixupRead.{FixupRead}
 use Rattle.image_read.specs.declared.fixups.FixupRead.TheVariants.{Plain, Rebase, Bind, Broken}
@@ -92,7 +93,7 @@ page_start image starts page = do
   count ← known (number_at 2 image (starts + 20))
   among ← below page count
   start ← known (number_at 2 image (starts + 22 + 2 * page))
-  unless 0xffff start
+  unless DYLD_CHAINED_PTR_START_NONE start
 
 -- the bytes of a page
 abbrev pub PAGE : ℕ

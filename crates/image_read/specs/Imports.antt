@@ -3,13 +3,12 @@ use Rattle.std.specs.Prelude.{ℕ, ◌+◌, ◌*◌, ◌/◌, ◌==◌, nat_le, 
 use Rattle.std.specs.Option.{option_and_then, option_map}
 use Rattle.mo_strings.specs.Strings.{string_at}
 use Rattle.mo_bytes.specs.Number.{number, number_at}
+use Rattle.mo_format.specs.declared.fixup_chains.TheConstants.{DYLD_CHAINED_IMPORT, DYLD_CHAINED_IMPORT_ADDEND64}
+use Rattle.mo_format.specs.declared.loader.TheConstants.{LC_DYLD_CHAINED_FIXUPS}
 use Rattle.mo_types.specs.Rows.{when}
 use Rattle.mo_types.specs.Scan.{first_some}
 use Rattle.image_read.specs.Commands.{cmd, commands_of, fits}
 use Rattle.image_read.specs.declared.imports.FixupsHeader.{FixupsHeader}
-
-abbrev pub LC_DYLD_CHAINED_FIXUPS : ℕ
-LC_DYLD_CHAINED_FIXUPS = 0x80000034
 
 -- the place, where the command of fixups stands there
 unfoldable pub fixups_at : List ℕ → ℕ → Option ℕ
@@ -39,13 +38,6 @@ header_by image command = option_and_then (whole_header_at image) (number_at 4 i
 
 unfoldable pub header_of : List ℕ → Option FixupsHeader
 header_of image = if fits image then option_and_then (header_by image) (fixups_command image) else None
-
--- DYLD_CHAINED_IMPORT and DYLD_CHAINED_IMPORT_ADDEND64
-abbrev pub DYLD_CHAINED_IMPORT : ℕ
-DYLD_CHAINED_IMPORT = 1
-
-abbrev pub DYLD_CHAINED_IMPORT_ADDEND64 : ℕ
-DYLD_CHAINED_IMPORT_ADDEND64 = 3
 
 -- name_offset of an import of 16 bytes at a place: the upper 32 bits of the first 8
 abbrev pub wide_name_offset : List ℕ → ℕ → Option ℕ

@@ -4,11 +4,9 @@ use Rattle.std.specs.Option.{option_and_then}
 use Rattle.mo_types.specs.Rows.{when}
 use Rattle.mo_types.specs.Scan.{first_some}
 use Rattle.mo_format.specs.Segment.{segment_command_at}
+use Rattle.mo_format.specs.declared.loader.TheConstants.{LC_SEGMENT_64}
 use Rattle.mo_format.specs.declared.segment.SegmentCommand.{SegmentCommand}
 use Rattle.image_read.specs.Commands.{cmd, cmdsize, commands_of, fits}
-
-abbrev pub LC_SEGMENT_64 : ℕ
-LC_SEGMENT_64 = 0x19
 
 -- a command that is a segment
 abbrev pub is_segment : List ℕ → ℕ → Bool

@@ -11,6 +11,9 @@ use crate::memory::{holds, is_segment};
 use crate::window::{Window, long_by, window_in};
 use mo_bytes::{read_u16, read_u32, read_u64};
 use mo_format::SegmentCommand;
+use mo_format::fixup_chains::{
+    DYLD_CHAINED_IMPORT, DYLD_CHAINED_IMPORT_ADDEND64, DYLD_CHAINED_PTR_START_NONE,
+};
 
 /// What the loader does with the pointer at an address.
 #[derive(Clone, Copy, Debug, PartialEq, Eq)]
@@ -67,7 +70,9 @@ fn header_read(image: &[u8]) -> Result<FixupsHeader, FixupRead>
     let Some(header) = header_by(image, command) else {
         return Err(FixupRead::Broken);
     };
-    if header.imports_format != 1 && header.imports_format != 3 {
+    if header.imports_format != DYLD_CHAINED_IMPORT
+        && header.imports_format != DYLD_CHAINED_IMPORT_ADDEND64
+    {
         return Err(FixupRead::Broken);
     }
     Ok(header)
@@ -143,7 +148,7 @@ fn page_start(image: &[u8], starts: usize, page: u64) -> Result<u16, FixupRead>
     let Some(start) = read_u16(image, starts + 22 + 2 * page as usize) else {
         return Err(FixupRead::Broken);
     };
-    if start == 0xffff {
+    if start == DYLD_CHAINED_PTR_START_NONE {
         return Err(FixupRead::Plain);
     }
     Ok(start)
@@ -266,7 +271,7 @@ fn import_at(image: &[u8], header: FixupsHeader, import: u32) -> Result<Import, 
         return Err(FixupRead::Broken);
     }
     let table = header.at + header.imports_offset as usize;
-    if header.imports_format == 1 {
+    if header.imports_format == DYLD_CHAINED_IMPORT {
         narrow_at(image, table + 4 * import as usize)
     } else {
         wide_at(image, table + 16 * import as usize)

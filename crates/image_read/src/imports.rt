@@ -7,9 +7,9 @@ ghost use Rattle.image_read.specs.Imports as imports;
 
 use crate::commands::{cmd, cmdsize, fits, ncmds, number};
 use mo_bytes::{read_u32, read_u64};
+use mo_format::fixup_chains::{DYLD_CHAINED_IMPORT, DYLD_CHAINED_IMPORT_ADDEND64};
+use mo_format::loader::LC_DYLD_CHAINED_FIXUPS;
 use mo_strings::string_at;
-
-const LC_DYLD_CHAINED_FIXUPS: u32 = 0x8000_0034;
 
 // The bytes of `dyld_chained_fixups_header`.
 const HEADER_SIZE: usize = 28;
@@ -93,11 +93,11 @@ fn name_offset(image: &[u8], header: FixupsHeader, import: u32) -> Option<u64>
 {
     let table = header.at + header.imports_offset as usize;
     match header.imports_format {
-        1 => {
+        DYLD_CHAINED_IMPORT => {
             let word = read_u32(image, table + 4 * import as usize)?;
             Some(u64::from(word / 0x200))
         }
-        3 => {
+        DYLD_CHAINED_IMPORT_ADDEND64 => {
             let at = table + 16 * import as usize;
             let word = read_u64(image, at)?;
             let _addend = read_u64(image, at + 8)?;

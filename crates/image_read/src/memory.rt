@@ -8,8 +8,7 @@ ghost use Rattle.image_read.specs.Mapped as mapping;
 
 use crate::commands::{cmd, cmdsize, fits, ncmds};
 use mo_format::SegmentCommand;
-
-const LC_SEGMENT_64: u32 = 0x19;
+use mo_format::loader::LC_SEGMENT_64;
 
 /// Whether an address is one of a segment's.
 pub fn holds(address: u64, segment: &SegmentCommand) -> bool

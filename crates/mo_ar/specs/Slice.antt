@@ -1,6 +1,7 @@
 -- The slice for arm64 in a universal file (`mach-o/fat.h`: fat_header, fat_arch; `mach/machine.h`).
 use Rattle.std.specs.Prelude.{ℕ, zero, suc, ◌+◌, ◌*◌, ◌≡◌, ◌≤◌, ◌<◌, ◌==◌, ◌&&◌, ◌/◌, ◌-◌, Bool, true, false, nat_lt, List, length, drop, Option, Some, None, Result, Ok, Err, if◌then◌else◌}
 use Rattle.byteorder.specs.Endian.{big_number}
+use Rattle.mo_format.specs.declared.loader.TheConstants.{CPU_SUBTYPE_ARM64_ALL, CPU_TYPE_ARM64}
 use Rattle.mo_types.specs.declared.cause.Rule.TheVariants.{Slice, NoSlice}
 use Rattle.mo_ar.specs.declared.slice.SliceFault.{SliceFault}
 use Rattle.mo_ar.specs.declared.slice.SliceFault.TheVariants.{Malformed}
@@ -8,12 +9,6 @@ use Rattle.mo_ar.specs.declared.slice.SliceFault.TheVariants.{Malformed}
 -- the 32-bit number at a place, its highest byte first
 unfoldable pub big : List ℕ → ℕ → ℕ
 big bytes at = big_number 4 (drop at bytes)
-
-abbrev pub CPU_TYPE_ARM64 : ℕ
-CPU_TYPE_ARM64 = 0x0100000c
-
-abbrev pub CPU_SUBTYPE_ARM64_ALL : ℕ
-CPU_SUBTYPE_ARM64_ALL = 0
 
 -- nfat_arch, the number of entries
 abbrev pub count : List ℕ → ℕ

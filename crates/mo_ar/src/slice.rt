@@ -6,6 +6,7 @@ ghost use Rattle.mo_types.specs.declared.kind.Kind.TheVariants as kind;
 ghost use Rattle.mo_ar.specs.Slice as slice;
 
 use byteorder::{BigEndian, ByteOrder};
+use mo_format::loader::{CPU_SUBTYPE_ARM64_ALL, CPU_TYPE_ARM64};
 use mo_types::Rule;
 
 /// Why a universal file gives no slice. A place is an offset in its bytes.
@@ -14,11 +15,6 @@ pub enum SliceFault {
     /// A rule that the file breaks, `Slice` or `NoSlice`.
     Malformed { place: u64, rule: Rule },
 }
-
-// `mach/machine.h`.
-const CPU_TYPE_ARM64: u32 = 0x0100_000c;
-
-const CPU_SUBTYPE_ARM64_ALL: u32 = 0;
 
 // The bytes of `fat_header` and of `fat_arch`.
 const HEADER_SIZE: usize = 8;

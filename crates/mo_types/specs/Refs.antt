@@ -4,6 +4,7 @@ use Rattle.std.specs.Prelude.{ℕ, ◌+◌, ◌-◌, ◌^◌, ◌==◌, ◌&&◌
 use Rattle.std.specs.Int.{w32, w64, cast_signed}
 use Rattle.std.specs.List.{list_any, range_with_len, filter_map}
 use Rattle.std.specs.Option.{option_map, option_map_or, option_and_then}
+use Rattle.mo_format.specs.declared.reloc.TheConstants.{ARM64_RELOC_UNSIGNED}
 use Rattle.mo_types.specs.declared.cause.Feature.TheVariants.{Absolute, PointerAuth}
 use Rattle.mo_types.specs.declared.key.FileId.{FileId}
 use Rattle.mo_types.specs.declared.object.RawReloc.{RawReloc}
@@ -50,7 +51,7 @@ minus_of (Some first) = if is_subtractor first then Some (Name first.number) els
 -- what is added to the target: what the field of an UNSIGNED of a symbol holds, or the number of an ADDEND
 abbrev pub addend_of : List ℕ → Field → Option RawReloc → RawReloc → ℤ
 addend_of bytes field first reloc =
-    if reloc.kind == 0 then (if reloc.external then field_signed bytes field else pos 0)
+    if reloc.kind == ARM64_RELOC_UNSIGNED then (if reloc.external then field_signed bytes field else pos 0)
     else option_map_or (λ addend. signed_24 addend.number) first (pos 0)
 
 -- the reference of a row of a section

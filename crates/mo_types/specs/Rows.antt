@@ -1,6 +1,7 @@
 -- The table of relocations (`mach-o/arm64/reloc.h`): which of them make up a row, and what a row becomes.
 use Rattle.std.specs.Prelude.{ℕ, ◌-◌, ◌==◌, ◌&&◌, ◌||◌, Bool, true, false, not, List, slice_get, Option, Some, None, if◌then◌else◌}
 use Rattle.std.specs.Option.{option_and_then}
+use Rattle.mo_format.specs.declared.reloc.TheConstants.{ARM64_RELOC_ADDEND, ARM64_RELOC_AUTHENTICATED_POINTER, ARM64_RELOC_BRANCH26, ARM64_RELOC_GOT_LOAD_PAGE21, ARM64_RELOC_GOT_LOAD_PAGEOFF12, ARM64_RELOC_PAGE21, ARM64_RELOC_PAGEOFF12, ARM64_RELOC_POINTER_TO_GOT, ARM64_RELOC_SUBTRACTOR, ARM64_RELOC_TLVP_LOAD_PAGE21, ARM64_RELOC_TLVP_LOAD_PAGEOFF12, ARM64_RELOC_UNSIGNED}
 use Rattle.mo_types.specs.declared.object.RawReloc.{RawReloc}
 use Rattle.mo_types.specs.declared.reference.RefKind.{RefKind}
 use Rattle.mo_types.specs.declared.reference.RefKind.TheVariants.{Pointer, Diff32, Diff64, Branch, Page, PageOff, GotPage, GotPageOff, GotDelta, GotPointer, TlvPage, TlvPageOff}
@@ -8,28 +9,28 @@ use Rattle.mo_types.specs.declared.reference.RefKind.TheVariants.{Pointer, Diff3
 abbrev pub when : {A : Type 0} → Bool → A → Option A
 when test x = if test then Some x else None
 
--- ARM64_RELOC_SUBTRACTOR, before the relocation of what it is subtracted from
+-- it stands before the relocation of what it is subtracted from
 abbrev pub is_subtractor : RawReloc → Bool
-is_subtractor reloc = reloc.kind == 1
+is_subtractor reloc = reloc.kind == ARM64_RELOC_SUBTRACTOR
 
--- ARM64_RELOC_ADDEND, before the relocation of what it is added to
+-- it stands before the relocation of what it is added to
 abbrev pub is_addend : RawReloc → Bool
-is_addend reloc = reloc.kind == 10
+is_addend reloc = reloc.kind == ARM64_RELOC_ADDEND
 
--- ARM64_RELOC_AUTHENTICATED_POINTER
+-- that of a signed pointer
 abbrev pub is_authenticated : RawReloc → Bool
-is_authenticated reloc = reloc.kind == 11
+is_authenticated reloc = reloc.kind == ARM64_RELOC_AUTHENTICATED_POINTER
 
 -- the first of two relocations that make up one row
 abbrev pub is_first : RawReloc → Bool
 is_first reloc = is_subtractor reloc || is_addend reloc
 
--- the second one: of the same address, ARM64_RELOC_UNSIGNED after a SUBTRACTOR, and
--- ARM64_RELOC_BRANCH26, PAGE21 or PAGEOFF12 after an ADDEND
+-- the second one, of the same address
 abbrev pub is_second : RawReloc → RawReloc → Bool
 is_second first reloc =
     reloc.address == first.address
-    && (if is_subtractor first then reloc.kind == 0 else reloc.kind == 2 || reloc.kind == 3 || reloc.kind == 4)
+    && (if is_subtractor first then reloc.kind == ARM64_RELOC_UNSIGNED
+    else reloc.kind == ARM64_RELOC_BRANCH26 || reloc.kind == ARM64_RELOC_PAGE21 || reloc.kind == ARM64_RELOC_PAGEOFF12)
 
 -- the relocation just before a place, where it is the first of two
 abbrev pub first_before : List RawReloc → ℕ → Option RawReloc
@@ -50,15 +51,15 @@ is_value length reloc = not reloc.pcrel && reloc.length == length && reloc.exter
 -- what a relocation becomes alone or after an ADDEND, by r_type
 abbrev pub kind_alone : RawReloc → Option RefKind
 kind_alone reloc =
-    if reloc.kind == 0 then when (not reloc.pcrel && reloc.length == 3) Pointer
-    else if reloc.kind == 2 then when (is_distance reloc) Branch
-    else if reloc.kind == 3 then when (is_distance reloc) Page
-    else if reloc.kind == 4 then when (is_value 2 reloc) PageOff
-    else if reloc.kind == 5 then when (is_distance reloc) GotPage
-    else if reloc.kind == 6 then when (is_value 2 reloc) GotPageOff
-    else if reloc.kind == 7 then (if is_distance reloc then Some GotDelta else when (is_value 3 reloc) GotPointer)
-    else if reloc.kind == 8 then when (is_distance reloc) TlvPage
-    else if reloc.kind == 9 then when (is_value 2 reloc) TlvPageOff
+    if reloc.kind == ARM64_RELOC_UNSIGNED then when (not reloc.pcrel && reloc.length == 3) Pointer
+    else if reloc.kind == ARM64_RELOC_BRANCH26 then when (is_distance reloc) Branch
+    else if reloc.kind == ARM64_RELOC_PAGE21 then when (is_distance reloc) Page
+    else if reloc.kind == ARM64_RELOC_PAGEOFF12 then when (is_value 2 reloc) PageOff
+    else if reloc.kind == ARM64_RELOC_GOT_LOAD_PAGE21 then when (is_distance reloc) GotPage
+    else if reloc.kind == ARM64_RELOC_GOT_LOAD_PAGEOFF12 then when (is_value 2 reloc) GotPageOff
+    else if reloc.kind == ARM64_RELOC_POINTER_TO_GOT then (if is_distance reloc then Some GotDelta else when (is_value 3 reloc) GotPointer)
+    else if reloc.kind == ARM64_RELOC_TLVP_LOAD_PAGE21 then when (is_distance reloc) TlvPage
+    else if reloc.kind == ARM64_RELOC_TLVP_LOAD_PAGEOFF12 then when (is_value 2 reloc) TlvPageOff
     else None
 
 -- what an UNSIGNED becomes after a SUBTRACTOR, both of one length

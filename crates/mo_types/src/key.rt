@@ -3,6 +3,9 @@ ghost use Rattle.mo_types.specs.Keys.{compare_files, compare_keys};
 ghost use Rattle.mo_types.specs.declared.key.AtomKey.{AtomKey};
 ghost use Rattle.mo_types.specs.declared.key.FileId.{FileId};
 
+/// The section number of common symbols' atoms: one more than a section of a file can have (`nlist.h`: MAX_SECT).
+pub const COMMON_SECTION: u16 = 256;
+
 /// A loaded file. Files are ordered by position, then by member.
 #[derive(Clone, Copy, Debug, PartialEq, Eq, PartialOrd, Ord, Hash)]
 pub struct FileId {
@@ -17,7 +20,7 @@ pub struct FileId {
 pub struct AtomKey {
     /// The file that it is from.
     pub file: FileId,
-    /// The number of its section, counted from 1, or 256 for a common symbol.
+    /// The number of its section, counted from 1, or `COMMON_SECTION` for a common symbol.
     pub section: u16,
     /// Its offset in the section in bytes; for a common symbol, the symbol's index from 0.
     pub offset: u64,

@@ -31,7 +31,7 @@ pub use cause::{Feature, RangeKind, Rule, UsageRule, Which};
 pub use edge::{Edge, EdgeList};
 pub use goal::{Goal, GoalList};
 pub use items::Items;
-pub use key::{AtomKey, FileId, files_are_in_order, keys_are_in_order};
+pub use key::{AtomKey, COMMON_SECTION, FileId, files_are_in_order, keys_are_in_order};
 pub use kind::{Kind, kind_of};
 pub use loaded::{Loaded, LoadedFile, LoadedList};
 pub use memory::OutOfMemory;

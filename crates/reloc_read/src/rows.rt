@@ -5,51 +5,33 @@ ghost use Rattle.mo_types.specs.RelocationRules as rules;
 ghost use Rattle.mo_types.specs.Rows as rows;
 ghost use Rattle.reloc_read.specs.Fields.{IsSmall};
 
+use mo_format::reloc::{
+    ARM64_RELOC_ADDEND, ARM64_RELOC_AUTHENTICATED_POINTER, ARM64_RELOC_BRANCH26,
+    ARM64_RELOC_GOT_LOAD_PAGE21, ARM64_RELOC_GOT_LOAD_PAGEOFF12, ARM64_RELOC_PAGE21,
+    ARM64_RELOC_PAGEOFF12, ARM64_RELOC_POINTER_TO_GOT, ARM64_RELOC_SUBTRACTOR,
+    ARM64_RELOC_TLVP_LOAD_PAGE21, ARM64_RELOC_TLVP_LOAD_PAGEOFF12, ARM64_RELOC_UNSIGNED,
+};
 use mo_types::{Field, RawReloc, RefKind};
-
-const UNSIGNED: u8 = 0;
-
-const SUBTRACTOR: u8 = 1;
-
-const BRANCH26: u8 = 2;
-
-const PAGE21: u8 = 3;
-
-const PAGEOFF12: u8 = 4;
-
-const GOT_LOAD_PAGE21: u8 = 5;
-
-const GOT_LOAD_PAGEOFF12: u8 = 6;
-
-const POINTER_TO_GOT: u8 = 7;
-
-const TLVP_LOAD_PAGE21: u8 = 8;
-
-const TLVP_LOAD_PAGEOFF12: u8 = 9;
-
-const ADDEND: u8 = 10;
-
-const AUTHENTICATED_POINTER: u8 = 11;
 
 /// Whether a relocation says what is taken from the next one (`arm64/reloc.h`: `ARM64_RELOC_SUBTRACTOR`).
 pub fn is_subtractor(reloc: &RawReloc) -> bool
     ensures { result ≡ rows.is_subtractor reloc.now }
 {
-    reloc.kind == SUBTRACTOR
+    reloc.kind == ARM64_RELOC_SUBTRACTOR
 }
 
 /// Whether a relocation is one of a signed pointer (`arm64/reloc.h`: `ARM64_RELOC_AUTHENTICATED_POINTER`).
 pub fn is_authenticated(reloc: &RawReloc) -> bool
     ensures { result ≡ rows.is_authenticated reloc.now }
 {
-    reloc.kind == AUTHENTICATED_POINTER
+    reloc.kind == ARM64_RELOC_AUTHENTICATED_POINTER
 }
 
 /// Whether the relocation is the first of two that make up one row.
 pub fn is_first(reloc: &RawReloc) -> bool
     ensures { result ≡ rows.is_first reloc.now }
 {
-    reloc.kind == SUBTRACTOR || reloc.kind == ADDEND
+    reloc.kind == ARM64_RELOC_SUBTRACTOR || reloc.kind == ARM64_RELOC_ADDEND
 }
 
 /// Whether the second relocation may follow the first.
@@ -58,9 +40,11 @@ pub fn is_second(first: &RawReloc, reloc: &RawReloc) -> bool
 {
     reloc.address == first.address
         && if is_subtractor(first) {
-            reloc.kind == UNSIGNED
+            reloc.kind == ARM64_RELOC_UNSIGNED
         } else {
-            reloc.kind == BRANCH26 || reloc.kind == PAGE21 || reloc.kind == PAGEOFF12
+            reloc.kind == ARM64_RELOC_BRANCH26
+                || reloc.kind == ARM64_RELOC_PAGE21
+                || reloc.kind == ARM64_RELOC_PAGEOFF12
         }
 }
 
@@ -110,16 +94,16 @@ fn kind_alone(reloc: &RawReloc) -> Option<RefKind>
     ensures { result ≡ rows.kind_alone reloc.now }
 {
     match reloc.kind {
-        UNSIGNED => when(!reloc.pcrel && reloc.length == 3, RefKind::Pointer),
-        BRANCH26 => when(is_distance(reloc), RefKind::Branch),
-        PAGE21 => when(is_distance(reloc), RefKind::Page),
-        PAGEOFF12 => when(is_value(2, reloc), RefKind::PageOff),
-        GOT_LOAD_PAGE21 => when(is_distance(reloc), RefKind::GotPage),
-        GOT_LOAD_PAGEOFF12 => when(is_value(2, reloc), RefKind::GotPageOff),
-        POINTER_TO_GOT if is_distance(reloc) => Some(RefKind::GotDelta),
-        POINTER_TO_GOT => when(is_value(3, reloc), RefKind::GotPointer),
-        TLVP_LOAD_PAGE21 => when(is_distance(reloc), RefKind::TlvPage),
-        TLVP_LOAD_PAGEOFF12 => when(is_value(2, reloc), RefKind::TlvPageOff),
+        ARM64_RELOC_UNSIGNED => when(!reloc.pcrel && reloc.length == 3, RefKind::Pointer),
+        ARM64_RELOC_BRANCH26 => when(is_distance(reloc), RefKind::Branch),
+        ARM64_RELOC_PAGE21 => when(is_distance(reloc), RefKind::Page),
+        ARM64_RELOC_PAGEOFF12 => when(is_value(2, reloc), RefKind::PageOff),
+        ARM64_RELOC_GOT_LOAD_PAGE21 => when(is_distance(reloc), RefKind::GotPage),
+        ARM64_RELOC_GOT_LOAD_PAGEOFF12 => when(is_value(2, reloc), RefKind::GotPageOff),
+        ARM64_RELOC_POINTER_TO_GOT if is_distance(reloc) => Some(RefKind::GotDelta),
+        ARM64_RELOC_POINTER_TO_GOT => when(is_value(3, reloc), RefKind::GotPointer),
+        ARM64_RELOC_TLVP_LOAD_PAGE21 => when(is_distance(reloc), RefKind::TlvPage),
+        ARM64_RELOC_TLVP_LOAD_PAGEOFF12 => when(is_value(2, reloc), RefKind::TlvPageOff),
         _ => None,
     }
 }

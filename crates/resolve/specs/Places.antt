@@ -1,6 +1,7 @@
 -- Where symbols stand: in an atom, at an offset from its start.
 use Rattle.std.specs.Prelude.{ℕ, ◌-◌, Option, Some, None, if◌then◌else◌}
 use Rattle.std.specs.Option.{option_and_then}
+use Rattle.mo_types.specs.declared.key.TheConstants.{COMMON_SECTION}
 use Rattle.mo_types.specs.declared.loaded.LoadedFile.{LoadedFile}
 use Rattle.mo_types.specs.declared.object.Section.{Section}
 use Rattle.mo_types.specs.declared.object.SymbolKind.{SymbolKind}
@@ -9,7 +10,6 @@ use Rattle.mo_types.specs.Atoms.{cut_of}
 use Rattle.mo_types.specs.RelocationRules.{section_numbered}
 use Rattle.mo_types.specs.Whole.{is_dropped}
 use Rattle.resolve.specs.declared.places.Place.{Place}
-use Rattle.resolve.specs.declared.places.TheConstants.{COMMON_SECTION}
 
 -- an offset of the section of a number belongs to the atom with the greatest cut not above it
 unfoldable pub place_at : LoadedFile → ℕ → Section → ℕ → Place

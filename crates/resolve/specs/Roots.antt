@@ -9,6 +9,7 @@ use Rattle.mo_types.specs.Candidates.{word_of}
 use Rattle.mo_types.specs.Rows.{when}
 use Rattle.mo_types.specs.declared.atom.Atom.{Atom}
 use Rattle.mo_types.specs.declared.key.AtomKey.{AtomKey}
+use Rattle.mo_types.specs.declared.key.TheConstants.{COMMON_SECTION}
 use Rattle.mo_types.specs.declared.loaded.LoadedFile.{LoadedFile}
 use Rattle.mo_types.specs.declared.object.Object.{Object}
 use Rattle.mo_types.specs.declared.object.Section.{Section}
@@ -18,7 +19,6 @@ use Rattle.resolve.specs.Goals.{stands_for}
 use Rattle.resolve.specs.Known.{Known}
 use Rattle.resolve.specs.Places.{place_of}
 use Rattle.resolve.specs.Winners.{winner_named}
-use Rattle.resolve.specs.declared.places.TheConstants.{COMMON_SECTION}
 use Rattle.resolve.specs.declared.representative.Representative.{Representative}
 use Rattle.resolve.specs.declared.winner.Winner.{Winner}
 

@@ -37,7 +37,7 @@ pub use laws::{
     winners_are_one_list,
 };
 pub use leading::edges;
-pub use places::{COMMON_SECTION, Place, place_of};
+pub use places::{Place, place_of};
 pub use representative::{Representative, RepresentativeList};
 pub use starting::roots;
 pub use winner::{Winner, WinnerList};

@@ -12,10 +12,7 @@ ghost use Rattle.atom_cut.specs.Laws.{IsBefore};
 ghost use Rattle.reloc_read.specs.CutObject.{is_up_to};
 ghost use Rattle.resolve.specs.Places as places;
 
-use mo_types::{Atom, AtomKey, LoadedFile, SymbolKind};
-
-/// The section number of common symbols' atoms: one more than a section of a file can have (`nlist.h`: MAX_SECT).
-pub const COMMON_SECTION: u16 = 256;
+use mo_types::{Atom, AtomKey, COMMON_SECTION, LoadedFile, SymbolKind};
 
 /// A place in an atom.
 #[derive(Clone, Copy, Debug, PartialEq, Eq)]

@@ -9,13 +9,13 @@ ghost use Rattle.resolve.specs.Roots as spec;
 
 use crate::atom_set::{AtomSet, set_of_atoms};
 use crate::known::Winners;
-use crate::places::COMMON_SECTION;
 use crate::standing::{external_atoms, symbol_atom, winning_atom, winning_atoms, with_atom};
 use crate::winner::Winner;
 use mo_cmd::Command;
 use mo_format::loader::{S_ATTR_NO_DEAD_STRIP, S_MOD_INIT_FUNC_POINTERS};
 use mo_types::{
-    Atom, AtomKey, Bytes, Items, KeyList, Loaded, LoadedFile, Object, OutOfMemory, Section,
+    Atom, AtomKey, Bytes, COMMON_SECTION, Items, KeyList, Loaded, LoadedFile, Object, OutOfMemory,
+    Section,
 };
 use std::alloc::Global;
 

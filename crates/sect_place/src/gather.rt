@@ -3,16 +3,18 @@ ghost use Rattle.std.specs.Prelude.{◌≡◌, ◌<◌, ◌++◌, ◌∷◌, [],
 ghost use Rattle.std.specs.List.Sorted.{IsStrictlySortedBy};
 ghost use Rattle.std.specs.Ordering.{on};
 ghost use Rattle.mo_types.specs.Keys.{compare_files};
+ghost use Rattle.mo_types.specs.declared.key.TheConstants.{COMMON_SECTION};
 ghost use Rattle.mo_types.specs.declared.loaded.LoadedFile.{LoadedFile};
 ghost use Rattle.mo_types.specs.declared.out_section.OutSection.{OutSection};
-ghost use Rattle.sect_place.specs.declared.home.TheConstants.{COMMON_SECTION};
 ghost use Rattle.sect_place.specs.OutSections as spec;
 ghost use Rattle.sect_place.specs.inner.Gathered.{AreGathered, held_home, with_atom};
 
-use crate::home::{COMMON_SECTION, Home, common_home, next_home};
+use crate::home::{Home, common_home, next_home};
 use crate::to::To;
 use indexmap::IndexSet;
-use mo_types::{Atom, AtomKey, Bytes, FileId, KeyList, LoadedFile, OutOfMemory, OutSection};
+use mo_types::{
+    Atom, AtomKey, Bytes, COMMON_SECTION, FileId, KeyList, LoadedFile, OutOfMemory, OutSection,
+};
 use std::alloc::Global;
 
 // A section without atoms.

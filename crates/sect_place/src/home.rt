@@ -11,11 +11,8 @@ ghost use Rattle.sect_place.specs.inner.Gathered.{held_home};
 
 use crate::layout::compare;
 use mo_format::loader::{S_ATTR_PURE_INSTRUCTIONS, S_ATTR_SOME_INSTRUCTIONS, S_ZEROFILL};
-use mo_types::{AtomKey, FileId, LoadedFile, Section};
+use mo_types::{AtomKey, COMMON_SECTION, FileId, LoadedFile, Section};
 use std::cmp::Ordering;
-
-/// The section number of common symbols' atoms: one more than a section of a file can have (`nlist.h`: MAX_SECT).
-pub(crate) const COMMON_SECTION: u16 = 256;
 
 /// The section of the image to which atoms go, and the attributes that they bring there.
 #[derive(Clone, Copy)]
