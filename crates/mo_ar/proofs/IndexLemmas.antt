@@ -8,7 +8,7 @@ use Rattle.std.proofs.Math.ListN.{set, length-set}
 use Rattle.std.proofs.lemmas.Bool.{cases_eq, cases_lt}
 use Rattle.std.proofs.lemmas.Slice.Eq.{bytes_eq-Decides}
 use Rattle.std.specs.Str.{bytes_eq}
-use Rattle.mo_ar.specs.inner.Index.{AreChained, AreNexts, AreNodes, BeginsAt, IsEntry, IsIndex, IsNodeOf, IsOther, StandsAt, bucket, lowered, node_name, offer_of, offers_of}
+use Rattle.mo_ar.specs.inner.Index.{AreBuckets, AreChained, AreNexts, AreNodes, BeginsAt, IsEntry, IsIndex, IsNodeOf, IsOther, StandsAt, bucket, lowered, node_name, offer_of, offers_of}
 use Rattle.mo_ar.specs.Offers.{first_offer, lesser}
 use Rattle.mo_ar.specs.Text.{part}
 use Rattle.mo_ar.specs.declared.index.Node.{Node}
@@ -41,6 +41,39 @@ any_default xs i d e within = at_read xs (λ x. x ≡ get_or xs i e) i (get_or x
     itself [] i e = refl
     itself (x ∷ xs) zero e = refl
     itself (x ∷ xs) (suc i) e = itself xs i e
+
+old_element : {X : Type 0} (xs : List X) (x : X) (k : ℕ) (d : X) → k < length xs → get_or (xs ++ x ∷ []) k d ≡ get_or xs k d
+old_element [] x k d within = absurd (omega arith)
+old_element (y ∷ xs) x zero d within = refl
+old_element (y ∷ xs) x (suc k) d within = old_element xs x k d (omega arith)
+
+new_element : {X : Type 0} (xs : List X) (x : X) (k : ℕ) (d : X) → k ≡ length xs → get_or (xs ++ x ∷ []) k d ≡ x
+new_element xs x k d is =
+    let e : k - length xs ≡ 0 = omega arith in
+    get_or-append_right xs (x ∷ []) (length xs) k d refl (omega arith) ∙ ap (λ (j : ℕ). get_or (x ∷ []) j d) e
+
+-- ---- the buckets of the entries
+
+pub buckets_start : (strings : List ℕ) (order : List Entry) (m : ℕ) (entries : List Entry) (buckets : List ℕ) → buckets ≡ [] → AreBuckets strings order m entries buckets
+buckets_start strings order m entries buckets none = rw none (record { each = λ k d low. absurd (omega arith); within = λ k low. absurd (omega arith) })
+
+pub buckets_go_on : (strings : List ℕ) (order : List Entry) (m : ℕ) (entries : List Entry) (buckets new : List ℕ) (i b : ℕ) (e : Entry) → AreBuckets strings order m entries buckets → length buckets ≡ i → i < length entries → b ≡ bucket strings order m (part strings (get_or entries i e).at (get_or entries i e).size) → b < m → new ≡ buckets ++ b ∷ [] → AreBuckets strings order m entries new
+buckets_go_on strings order m entries buckets new i b e are size inside is low pushed = rw pushed (record {
+  each = λ k d less. elim (cases_eq k (length buckets)) [
+    | inl last ↦
+        let here : k ≡ i = last ∙ size in
+        new_element buckets b k 0 last ∙ is
+        ∙ ap (λ (entry : Entry). bucket strings order m (part strings entry.at entry.size)) (any_default entries i e d inside ∙ ap (λ (j : ℕ). get_or entries j d) (sym here))
+    | inr apart ↦ old_element buckets b k 0 (before k less apart) ∙ are.each k d (before k less apart)
+  ];
+  within = λ k less. elim (cases_eq k (length buckets)) [
+    | inl last ↦ subst (λ (n : ℕ). n < m) (sym (new_element buckets b k 0 last)) low
+    | inr apart ↦ subst (λ (n : ℕ). n < m) (sym (old_element buckets b k 0 (before k less apart))) (are.within k (before k less apart))
+  ];
+})
+  where
+    before : (k : ℕ) → k < length (buckets ++ b ∷ []) → (k ≡ length buckets → ⊥) → k < length buckets
+    before k less apart = let many : length (buckets ++ b ∷ []) ≡ length buckets + 1 = length-append buckets (b ∷ []) in omega arith
 
 -- ---- the search along a bucket
 
@@ -191,21 +224,11 @@ named_kept strings offer offers nodes at e within is named = record {
 
 -- ---- one offer more, of a name that has no node yet
 
-old_node : (nodes : List Node) (x : Node) (k : ℕ) (d : Node) → k < length nodes → get_or (nodes ++ x ∷ []) k d ≡ get_or nodes k d
-old_node [] x k d within = absurd (omega arith)
-old_node (y ∷ nodes) x zero d within = refl
-old_node (y ∷ nodes) x (suc k) d within = old_node nodes x k d (omega arith)
-
-new_node : (nodes : List Node) (x : Node) (k : ℕ) (d : Node) → k ≡ length nodes → get_or (nodes ++ x ∷ []) k d ≡ x
-new_node nodes x k d is =
-    let e : k - length nodes ≡ 0 = omega arith in
-    get_or-append_right nodes (x ∷ []) (length nodes) k d refl (omega arith) ∙ ap (λ (j : ℕ). get_or (x ∷ []) j d) e
-
 begins_after : (strings : List ℕ) (order : List Entry) (m : ℕ) (nodes : List Node) (x : Node) (b bound at : ℕ) → bound ≤ length nodes → BeginsAt strings order m nodes b bound at → BeginsAt strings order m (nodes ++ x ∷ []) b bound at
 begins_after strings order m nodes x b bound at few begins = record {
   within = begins.within;
-  here = λ d some. ap (λ (y : Node). bucket strings order m (node_name strings y)) (old_node nodes x (at - 1) d (omega (arith, begins.within))) ∙ begins.here d some;
-  last = λ k d low is. begins.last k d low (ap (λ (y : Node). bucket strings order m (node_name strings y)) (sym (old_node nodes x k d (omega arith))) ∙ is);
+  here = λ d some. ap (λ (y : Node). bucket strings order m (node_name strings y)) (old_element nodes x (at - 1) d (omega (arith, begins.within))) ∙ begins.here d some;
+  last = λ k d low is. begins.last k d low (ap (λ (y : Node). bucket strings order m (node_name strings y)) (sym (old_element nodes x k d (omega arith))) ∙ is);
 }
 
 chained_more : (strings : List ℕ) (order : List Entry) (heads : List ℕ) (nodes : List Node) (x : Node) (b : ℕ) → b < length heads → bucket strings order (length heads) (node_name strings x) ≡ b → x.next ≡ get_or heads b 0 → IsEntry strings x.entry → AreChained strings order heads nodes → AreChained strings order (set heads b (length nodes + 1)) (nodes ++ x ∷ [])
@@ -229,7 +252,7 @@ chained_more strings order heads nodes x b inside is leads entry chained = recor
     head_here : (c : ℕ) → c ≡ b → BeginsAt strings order (length heads) (nodes ++ x ∷ []) c (length nodes + 1) (length nodes + 1)
     head_here c e = record {
       within = omega arith;
-      here = λ d some. ap (λ (y : Node). bucket strings order (length heads) (node_name strings y)) (new_node nodes x (length nodes + 1 - 1) d (omega arith)) ∙ is ∙ sym e;
+      here = λ d some. ap (λ (y : Node). bucket strings order (length heads) (node_name strings y)) (new_element nodes x (length nodes + 1 - 1) d (omega arith)) ∙ is ∙ sym e;
       last = λ k d low same. low;
     }
 
@@ -241,7 +264,7 @@ chained_more strings order heads nodes x b inside is leads entry chained = recor
           within = omega (arith, old.within);
           here = after.here;
           last = λ k d less same. elim (cases_eq k (length nodes)) [
-            | inl e ↦ absurd (other (sym same ∙ ap (λ (y : Node). bucket strings order (length heads) (node_name strings y)) (new_node nodes x k d e) ∙ is))
+            | inl e ↦ absurd (other (sym same ∙ ap (λ (y : Node). bucket strings order (length heads) (node_name strings y)) (new_element nodes x k d e) ∙ is))
             | inr apart ↦ after.last k d (omega arith) same
           ];
         }
@@ -265,10 +288,10 @@ chained_more strings order heads nodes x b inside is leads entry chained = recor
           subst (λ (n : ℕ). BeginsAt strings order (length heads) (nodes ++ x ∷ []) (bucket strings order (length heads) (node_name strings x)) k n) (sym leads)
           (subst (λ (n : ℕ). BeginsAt strings order (length heads) (nodes ++ x ∷ []) (bucket strings order (length heads) (node_name strings x)) n (get_or heads b 0)) (sym e)
           (subst (λ (n : ℕ). BeginsAt strings order (length heads) (nodes ++ x ∷ []) n (length nodes) (get_or heads b 0)) (sym is) after)) in
-          subst (λ (y : Node). BeginsAt strings order (length heads) (nodes ++ x ∷ []) (bucket strings order (length heads) (node_name strings y)) k y.next) (sym (new_node nodes x k d e)) here
+          subst (λ (y : Node). BeginsAt strings order (length heads) (nodes ++ x ∷ []) (bucket strings order (length heads) (node_name strings y)) k y.next) (sym (new_element nodes x k d e)) here
       | inr apart ↦
           let old : BeginsAt strings order (length heads) nodes (bucket strings order (length heads) (node_name strings (get_or nodes k d))) k (get_or nodes k d).next = chained.nexts_are.each k d (omega arith) in
-          subst (λ (y : Node). BeginsAt strings order (length heads) (nodes ++ x ∷ []) (bucket strings order (length heads) (node_name strings y)) k y.next) (sym (old_node nodes x k d (omega arith)))
+          subst (λ (y : Node). BeginsAt strings order (length heads) (nodes ++ x ∷ []) (bucket strings order (length heads) (node_name strings y)) k y.next) (sym (old_element nodes x k d (omega arith)))
           (begins_after strings order (length heads) nodes x (bucket strings order (length heads) (node_name strings (get_or nodes k d))) k (get_or nodes k d).next (omega arith) old)
     ]
 
@@ -280,16 +303,16 @@ named_more strings offer offers nodes x is numbered others named = record {
   once = λ i j d low high. elim (cases_eq j (length nodes)) [
     | inl e ↦
         let inside : i < length nodes = omega arith in
-        λ same. others i d inside (sym (ap (node_name strings) (old_node nodes x i d inside)) ∙ same ∙ ap (node_name strings) (new_node nodes x j d e) ∙ is)
+        λ same. others i d inside (sym (ap (node_name strings) (old_element nodes x i d inside)) ∙ same ∙ ap (node_name strings) (new_element nodes x j d e) ∙ is)
     | inr apart ↦
         let many : length (nodes ++ x ∷ []) ≡ length nodes + 1 = length-append nodes (x ∷ []) in
         let inside : j < length nodes = omega arith in
-        λ same. named.once i j d low inside (sym (ap (node_name strings) (old_node nodes x i d (omega arith))) ∙ same ∙ ap (node_name strings) (old_node nodes x j d inside))
+        λ same. named.once i j d low inside (sym (ap (node_name strings) (old_element nodes x i d (omega arith))) ∙ same ∙ ap (node_name strings) (old_element nodes x j d inside))
   ];
   all = λ name rest.
       let many : length (nodes ++ x ∷ []) ≡ length nodes + 1 = length-append nodes (x ∷ []) in
-      first_other name offer offers (λ same. rest (length nodes) x (omega arith) (ap (node_name strings) (new_node nodes x (length nodes) x refl) ∙ is ∙ same))
-      ∙ named.all name (λ j d low same. rest j d (omega arith) (ap (node_name strings) (old_node nodes x j d low) ∙ same));
+      first_other name offer offers (λ same. rest (length nodes) x (omega arith) (ap (node_name strings) (new_element nodes x (length nodes) x refl) ∙ is ∙ same))
+      ∙ named.all name (λ j d low same. rest j d (omega arith) (ap (node_name strings) (old_element nodes x j d low) ∙ same));
 }
   where
     here : first_offer (node_name strings x) (offer ∷ offers) ≡ Some x.entry.member

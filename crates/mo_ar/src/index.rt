@@ -4,7 +4,7 @@ ghost use Rattle.std.specs.Prelude.{◌≡◌, ◌+◌, ◌^◌, ◌<◌, ◌≤
 ghost use Rattle.std.specs.Str.{bytes_eq};
 ghost use Rattle.mo_ar.specs.inner.Index as index;
 ghost use Rattle.mo_ar.specs.inner.Hash.{AreMarks};
-ghost use Rattle.mo_ar.specs.inner.Index.{AreChained, AreNexts, AreNodes, BeginsAt, IsEntry, IsIndex, IsIndexOf, IsNodeOf, IsOther, StandsAt, offers_of};
+ghost use Rattle.mo_ar.specs.inner.Index.{AreBuckets, AreChained, AreNexts, AreNodes, BeginsAt, IsEntry, IsIndex, IsIndexOf, IsNodeOf, IsOther, StandsAt, offers_of};
 ghost use Rattle.mo_ar.specs.Offers.{first_offer};
 ghost use Rattle.mo_ar.specs.Text.{part};
 ghost use Rattle.mo_ar.specs.declared.index.Node.{Node};
@@ -139,29 +139,65 @@ fn is_long(nodes: &[Node], from: usize) -> bool {
     true
 }
 
-// Puts the offer at an index into the index of those behind it, and says whether the bucket of its name is long.
-fn put(
+// How many buckets there are for so many names.
+fn bucket_count(names: usize) -> usize
+    requires { names < 2 ^ 32 }
+    ensures some { 0 < result }
+    ensures few { result ≤ 2 ^ 32 }
+{
+    (2 * names + 1).min(1 << 32)
+}
+
+// The buckets of the entries' names, of some buckets: before any is looked up, since each look-up waits for memory.
+fn buckets_of(
+    alloc: Global,
     strings: &[u8],
     order: &[Entry],
     marks: &[u64],
     entries: &[Entry],
+    count: usize,
+) -> Result<Vec<u32>, OutOfMemory>
+    requires some { 0 < count }
+    requires few { count ≤ 2 ^ 32 }
+    requires entries { All (IsEntry strings.now) entries.now }
+    requires order { All (IsEntry strings.now) order.now }
+    requires marks { AreMarks strings.now marks.now }
+    ensures buckets { IfOk result (λ buckets. AreBuckets strings.now order.now count entries.now buckets.items) }
+    ensures len { IfOk result (λ buckets. length buckets.items ≡ length entries.now) }
+{
+    let mut buckets = Vec::with_capacity(alloc, entries.len())?;
+    for i in 0..entries.len() {
+        let b = bucket_at(strings, order, marks, entries[i], count);
+        buckets.push(b as u32)?;
+    }
+    Ok(buckets)
+}
+
+// Puts the offer at an index into the index of those behind it, and says whether the bucket of its name is long.
+fn put(
+    strings: &[u8],
+    order: &[Entry],
+    entries: &[Entry],
+    buckets: &[u32],
     heads: &mut [u32],
     nodes: &mut Vec<Node>,
     at: usize,
 ) -> Result<bool, OutOfMemory>
     requires entries { All (IsEntry strings.now) entries.now }
     requires order { All (IsEntry strings.now) order.now }
-    requires marks { AreMarks strings.now marks.now }
+    requires buckets { AreBuckets strings.now order.now (length heads.old) entries.now buckets.now }
+    requires many { length buckets.now ≡ length entries.now }
     requires place { at < length entries.now }
     requires few { length nodes.old.items + 1 < 2 ^ 32 }
     requires index { IsIndex strings.now order.now (drop (at + 1) (offers_of strings.now entries.now)) heads.old nodes.old.items }
     ensures index { OnOk result (IsIndex strings.now order.now (drop at (offers_of strings.now entries.now)) heads.new nodes.new.items) }
     ensures few { OnOk result (length nodes.new.items ≤ length nodes.old.items + 1) }
+    ensures len { length heads.new ≡ length heads.old }
 {
     let entry = entries[at];
     let name = name_of(strings, entry);
     let count = heads.len();
-    let b = bucket_at(strings, order, marks, entry, count);
+    let b = buckets[at] as usize;
     let head = heads[b];
     match find(
         strings,
@@ -212,7 +248,16 @@ fn built(
     ensures some { IfOk result (λ index. IfNone index (short ≡ true)) }
 {
     let marks = marks_for(alloc, strings, entries)?;
-    let mut heads = vec![in alloc; 0; 2 * entries.len() + 1]?;
+    let count = bucket_count(entries.len());
+    let buckets = buckets_of(
+        alloc,
+        strings,
+        order.as_slice(),
+        marks.as_slice(),
+        entries,
+        count,
+    )?;
+    let mut heads = vec![in alloc; 0; count]?;
     let mut nodes = Vec::with_capacity(alloc, entries.len())?;
     let mut at = entries.len();
     while at > 0 {
@@ -220,8 +265,8 @@ fn built(
         let long = put(
             strings,
             order.as_slice(),
-            marks.as_slice(),
             entries,
+            buckets.as_slice(),
             heads.as_mut_slice(),
             &mut nodes,
             at,

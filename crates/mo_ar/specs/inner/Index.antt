@@ -29,6 +29,11 @@ unfoldable pub bucket : List ℕ → List Entry → ℕ → List ℕ → ℕ
 bucket strings [] m name = hash name / 2 ^ 32 % m
 bucket strings (entry ∷ order) m name = rank strings (entry ∷ order) name % m
 
+-- the buckets of the first entries' names, of m buckets
+pub record AreBuckets (strings : List ℕ) (order : List Entry) (m : ℕ) (entries : List Entry) (buckets : List ℕ) : Type 0 where
+  pub each : (k : ℕ) (d : Entry) → k < length buckets → slice_index buckets k ≡ bucket strings order m (part strings (slice_index_or entries k d).at (slice_index_or entries k d).size)
+  pub within : (k : ℕ) → k < length buckets → slice_index buckets k < m
+
 -- a name that stands at a place, if it is known to stand somewhere
 abbrev pub StandsAt : List ℕ → List ℕ → ℕ → Type 0
 StandsAt strings name at = (first_nul (drop at strings) ≡ Some (length name)) × (name ≡ part strings at (length name))
