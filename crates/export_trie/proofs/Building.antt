@@ -9,9 +9,9 @@ use Rattle.export_trie.specs.declared.nodes.Node.{Node}
 use Rattle.export_trie.specs.Strings.{begins, common}
 use Rattle.export_trie.specs.Held.{text, texts, name_of, Fits, AreHeld, node_at, last_bytes, without_last, Closes, entered}
 use Rattle.export_trie.proofs.Walks.{begins_split}
-use Rattle.list_lemmas.proofs.Members.{In, in_from_Contains, Contains_from_in, all_in, all_from_in, in_map, from_map}
+use Rattle.list_lemmas.proofs.Members.{In, in_from_Contains, Contains_from_in, all_in, all_from_in, in_map, from_map, in_either, in_left, in_right}
 use Rattle.export_trie.proofs.Strings.{begins_self, begins_trans, begins_short, begins_shorter, common_self, common_left, common_right, Below, below_irrefl, below_asym, above_below, Rising, sorted_from_rising}
-use Rattle.export_trie.proofs.Entering.{begins_order, in_append_left, in_append_right, in_append_cases, rising_append, rising_left, rising_cross, IsNodeIn, NodesIn, first_of, Cut, Enters, entered as entered_nodes, entered_begin, entered_apart}
+use Rattle.export_trie.proofs.Entering.{begins_order, rising_append, rising_left, rising_cross, IsNodeIn, NodesIn, first_of, Cut, Enters, entered as entered_nodes, entered_begin, entered_apart}
 
 -- ---- strings that begin one string
 
@@ -144,16 +144,16 @@ is_cut strings left name path done path' done' order b same closes short = recor
 
     short_path : (node : List ℕ) → (n : Node) × In n path' × (text strings n ≡ node) → length node ≤ length (common name (first_of (drop left strings)))
     short_path node (n, h, e) =
-        let fit : Fits strings n = all_in (Fits strings) (path' ++ reverse done') n fits' (in_append_left n path' (reverse done') h) in
+        let fit : Fits strings n = all_in (Fits strings) (path' ++ reverse done') n fits' (in_left path' (reverse done') n h) in
         let few : n.len ≤ last_bytes path' = path_short strings (first_of (drop left strings)) path' rising' (all_left (Fits strings) path' (reverse done') fits') begin' n h in
         rw (← e) (omega (arith, length-text strings n fit))
 
     long_done : (node : List ℕ) → (n : Node) × In n (reverse done') × (text strings n ≡ node) → begins node (first_of (drop left strings)) ≡ true → length (common name (first_of (drop left strings))) < length node
-    long_done node (n, h, e) front = by (in_append_cases n closes.gone (reverse done) (subst (In n) moved h))
+    long_done node (n, h, e) front = by (in_either closes.gone (reverse done) n (subst (In n) moved h))
       where
         by : In n closes.gone ⊎ In n (reverse done) → length (common name (first_of (drop left strings))) < length node
         by (inl h') =
-            let fit : Fits strings n = all_in (Fits strings) (path' ++ reverse done') n fits' (in_append_right n path' (reverse done') h) in
+            let fit : Fits strings n = all_in (Fits strings) (path' ++ reverse done') n fits' (in_right path' (reverse done') n h) in
             let more = all_in _ closes.gone n closes.long h' in
             rw (← e) (omega (arith, length-text strings n fit))
         by (inr h') = absurd (true≢false (sym (subst (λ (t : List ℕ). begins t (first_of (drop left strings)) ≡ true) (sym e) front) ∙ all_in _ (reverse done) n b.apart h'))
@@ -195,7 +195,7 @@ module _ (strings : List (List ℕ)) (left : ℕ) (name : List ℕ) (rest : List
 
   -- the root is on the path
   root : In [] (texts strings path)
-  root = by (in_append_cases [] (texts strings path) (texts strings (reverse done)) (entry.state.cut.nodes.all [] (inl refl)))
+  root = by (in_either (texts strings path) (texts strings (reverse done)) [] (entry.state.cut.nodes.all [] (inl refl)))
     where
       by : In [] (texts strings path) ⊎ In [] (texts strings (reverse done)) → In [] (texts strings path)
       by (inl h) = h
@@ -221,7 +221,7 @@ module _ (strings : List (List ℕ)) (left : ℕ) (name : List ℕ) (rest : List
           )
 
   last_in : (last : Node) → IsLast last → In last path
-  last_in last is = subst (In last) (sym is.split) (in_append_right last (without_last path) (last ∷ []) (inl refl))
+  last_in last is = subst (In last) (sym is.split) (in_right (without_last path) (last ∷ []) last (inl refl))
 
   -- a string of the path with the bytes that are shared is what is shared
   is_shared : (node : Node) → In node path → node.len ≡ shared → text strings node ≡ shared_text
@@ -256,7 +256,7 @@ module _ (strings : List (List ℕ)) (left : ℕ) (name : List ℕ) (rest : List
   shared_new : last_bytes path < shared → shared < length name → In shared_text (name ∷ rest) → ⊥
   shared_new fewer more (inl e) = omega (arith, ap length e, entry.shared')
   shared_new fewer more (inr h) =
-      by (in_append_cases shared_text (texts strings path) (texts strings (reverse done)) (entry.state.cut.nodes.all shared_text (inr (shared_text, shared_text, h, h, sym (common_self shared_text)))))
+      by (in_either (texts strings path) (texts strings (reverse done)) shared_text (entry.state.cut.nodes.all shared_text (inr (shared_text, shared_text, h, h, sym (common_self shared_text)))))
     where
       by : In shared_text (texts strings path) ⊎ In shared_text (texts strings (reverse done)) → ⊥
       by (inl h) = omega (arith, path_text_few shared_text h, entry.shared')
@@ -265,7 +265,7 @@ module _ (strings : List (List ℕ)) (left : ℕ) (name : List ℕ) (rest : List
   -- a node of the path isn't the name, where it has fewer bytes
   kept_whole : (node : Node) → In node path → node.len < length name → In (text strings node) (name ∷ rest) → slice_get strings node.name ≡ Some (text strings node)
   kept_whole node h fewer (inl e) = absurd (omega (arith, ap length e, length-text strings node (all_in (Fits strings) path node path_fits h)))
-  kept_whole node h fewer (inr i) = all_in _ (path ++ reverse done) node entry.state.whole (in_append_left node path (reverse done) h) i
+  kept_whole node h fewer (inr i) = all_in _ (path ++ reverse done) node entry.state.whole (in_left path (reverse done) node h) i
 
   name_text : text strings (node_at left (length name)) ≡ name
   name_text = text-node_at strings left (length name) name (subst (λ (t : List ℕ). begins name t ≡ true) entry.name' (begins_self name)) refl
@@ -292,8 +292,8 @@ module _ (strings : List (List ℕ)) (left : ℕ) (name : List ℕ) (rest : List
         spelled = new ∙ (sym fronts ∙ sym (append-nil (texts strings path)));
         enters = record {
           only = λ node h. absurd h;
-          shared = in_append_left shared_text (texts strings path) [] (shared_there e);
-          whole = in_append_left name (texts strings path) [] (subst (λ (t : List ℕ). In t (texts strings path)) (name_shared f) (shared_there e));
+          shared = in_left (texts strings path) [] shared_text (shared_there e);
+          whole = in_left (texts strings path) [] name (subst (λ (t : List ℕ). In t (texts strings path)) (name_shared f) (shared_there e));
           rising = rw (append-nil (texts strings path)) path_rises;
         };
         fits = all_append (Fits strings) (without_last path) (node_at left (length name) ∷ []) fits_front (subst (λ (t : List ℕ). length name ≤ length t) entry.name' (omega arith), tt);
@@ -307,7 +307,7 @@ module _ (strings : List (List ℕ)) (left : ℕ) (name : List ℕ) (rest : List
           absurd (below_irrefl name (subst (λ (t : List ℕ). Below t name) (sym same)
           (rising_cross (texts strings (without_last path)) (name ∷ []) (text strings node) name (subst Rising fronts path_rises) (in_map (text strings) (without_last path) node h) (inl refl))))
       apart last fronts node h (inr i) =
-          all_in _ (path ++ reverse done) node entry.state.whole (in_append_left node path (reverse done) (subst (In node) (sym last.1.split) (in_append_left node (without_last path) (last.0 ∷ []) h))) i
+          all_in _ (path ++ reverse done) node entry.state.whole (in_left path (reverse done) node (subst (In node) (sym last.1.split) (in_left (without_last path) (last.0 ∷ []) node h))) i
 
   fits_name : Fits strings (node_at left (length name))
   fits_name = subst (λ (t : List ℕ). length name ≤ length t) entry.name' (omega arith)
@@ -327,7 +327,7 @@ module _ (strings : List (List ℕ)) (left : ℕ) (name : List ℕ) (rest : List
     enters = record {
       only = λ node h. inr (sole node h);
       shared = there;
-      whole = in_append_right name (texts strings path) (name ∷ []) (inl refl);
+      whole = in_right (texts strings path) (name ∷ []) name (inl refl);
       rising = rising_append (texts strings path) (name ∷ []) path_rises (tt, tt) (λ a b h i. below a b h i);
     };
     fits = all_append (Fits strings) path (node_at left (length name) ∷ []) path_fits (fits_name, tt);
@@ -354,8 +354,8 @@ module _ (strings : List (List ℕ)) (left : ℕ) (name : List ℕ) (rest : List
         ∙ ap (λ (t : List ℕ). texts strings path ++ shared_text ∷ t ∷ []) name_text));
     enters = record {
       only = only;
-      shared = in_append_right shared_text (texts strings path) (shared_text ∷ name ∷ []) (inl refl);
-      whole = in_append_right name (texts strings path) (shared_text ∷ name ∷ []) (inr (inl refl));
+      shared = in_right (texts strings path) (shared_text ∷ name ∷ []) shared_text (inl refl);
+      whole = in_right (texts strings path) (shared_text ∷ name ∷ []) name (inr (inl refl));
       rising = rising_append (texts strings path) (shared_text ∷ name ∷ []) path_rises ((shared_below, tt), (tt, tt)) below;
     };
     fits = rw (append_assoc path (node_at left shared ∷ []) (node_at left (length name) ∷ []))
@@ -390,10 +390,10 @@ module _ (strings : List (List ℕ)) (left : ℕ) (name : List ℕ) (rest : List
       by (inl e) (inl f) = rw (eq-eqb (last_bytes path) shared e, eq-eqb shared (length name) f) (enters_same e f)
       by (inl e) (inr (inl more)) =
           rw (ne_eqb shared (length name) (λ (f : shared ≡ length name). omega arith), eq-eqb (last_bytes path) shared e, le-ltb (last_bytes path) shared (omega arith))
-          (enters_one (in_append_left shared_text (texts strings path) (name ∷ []) (shared_there e)) (omega arith))
+          (enters_one (in_left (texts strings path) (name ∷ []) shared_text (shared_there e)) (omega arith))
       by (inr (inl fewer)) (inl f) =
           rw (ne_eqb (last_bytes path) shared (λ (e : last_bytes path ≡ shared). omega arith), lt-ltb (last_bytes path) shared fewer, le-ltb shared (length name) (omega arith))
-          (enters_one (in_append_right shared_text (texts strings path) (name ∷ []) (inl (sym (name_shared f)))) (omega arith))
+          (enters_one (in_right (texts strings path) (name ∷ []) shared_text (inl (sym (name_shared f)))) (omega arith))
       by (inr (inl fewer)) (inr (inl more)) =
           rw (ne_eqb (last_bytes path) shared (λ (e : last_bytes path ≡ shared). omega arith), lt-ltb (last_bytes path) shared fewer, lt-ltb shared (length name) more)
           (enters_two fewer more)
@@ -433,7 +433,7 @@ built strings left later name shared path done path' done' path'' rise within na
     kept state node h (inl e) =
         let apart = entered_apart name (drop (left + 1) strings) (texts strings path') (texts strings (reverse done')) (text strings node) state.cut (in_map (text strings) (reverse done') node h) in
         absurd (true≢false (sym (subst (λ (t : List ℕ). begins t name ≡ true) e (begins_self name)) ∙ apart))
-    kept state node h (inr i) = all_in _ (path' ++ reverse done') node state.whole (in_append_right node path' (reverse done') h) i
+    kept state node h (inr i) = all_in _ (path' ++ reverse done') node state.whole (in_right path' (reverse done') node h) i
 
 -- nothing has entered yet
 pub begun : (strings : List (List ℕ)) → IsBuilding strings (length strings) (node_at 0 0 ∷ []) []

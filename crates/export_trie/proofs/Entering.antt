@@ -2,7 +2,7 @@
 use Rattle.std.proofs.Common.{◌≡◌, ℕ, suc, ◌<◌, ◌≤◌, ◌⊎◌, true, false, eqb, List, [], ◌∷◌, ◌++◌, length, refl, sym, ◌∙◌, ap, subst, inl, inr, arith}
 use Rattle.std.proofs.lemmas.Bool.{cases_Bool, cases_order, false_from_ne_true, eqb-true, eq-eqb, ne_eqb, false≢true, true≢false}
 use Rattle.export_trie.specs.Strings.{begins, common}
-use Rattle.list_lemmas.proofs.Members.{In, all_in, all_from_in}
+use Rattle.list_lemmas.proofs.Members.{In, all_in, all_from_in, in_either, in_left, in_right}
 use Rattle.export_trie.proofs.Strings.{begins_self, begins_trans, begins_short, begins_shorter, begins_parts, common_self, common_left, common_right, Below, below_irrefl, below_trans, below_asym, between_begins, Rising}
 
 -- ---- byte order
@@ -94,28 +94,10 @@ parted_below (x ∷ a) (y ∷ b) (z ∷ front) (inr less) long h =
 
 -- ---- lists of strings in order
 
-pub in_append_left : {X : Type 0} (x : X) (xs ys : List X) → In x xs → In x (xs ++ ys)
-in_append_left x [] ys h = absurd h
-in_append_left x (z ∷ xs) ys (inl e) = inl e
-in_append_left x (z ∷ xs) ys (inr h) = inr (in_append_left x xs ys h)
-
-pub in_append_right : {X : Type 0} (x : X) (xs ys : List X) → In x ys → In x (xs ++ ys)
-in_append_right x [] ys h = h
-in_append_right x (z ∷ xs) ys h = inr (in_append_right x xs ys h)
-
-pub in_append_cases : {X : Type 0} (x : X) (xs ys : List X) → In x (xs ++ ys) → In x xs ⊎ In x ys
-in_append_cases x [] ys h = inr h
-in_append_cases x (z ∷ xs) ys (inl e) = inl (inl e)
-in_append_cases x (z ∷ xs) ys (inr h) = later (in_append_cases x xs ys h)
-  where
-    later : In x xs ⊎ In x ys → In x (z ∷ xs) ⊎ In x ys
-    later (inl h) = inl (inr h)
-    later (inr h) = inr h
-
 pub rising_append : (fronts backs : List (List ℕ)) → Rising fronts → Rising backs → ((a b : List ℕ) → In a fronts → In b backs → Below a b) → Rising (fronts ++ backs)
 rising_append [] backs p q cross = q
 rising_append (a ∷ fronts) backs p q cross =
-    (all_from_in (Below a) (fronts ++ backs) (λ x h. first x (in_append_cases x fronts backs h)), rising_append fronts backs p.1 q (λ x y h i. cross x y (inr h) i))
+    (all_from_in (Below a) (fronts ++ backs) (λ x h. first x (in_either fronts backs x h)), rising_append fronts backs p.1 q (λ x y h i. cross x y (inr h) i))
   where
     first : (x : List ℕ) → In x fronts ⊎ In x backs → Below a x
     first x (inl h) = all_in (Below a) fronts x p.0 h
@@ -123,7 +105,7 @@ rising_append (a ∷ fronts) backs p q cross =
 
 pub rising_left : (fronts backs : List (List ℕ)) → Rising (fronts ++ backs) → Rising fronts
 rising_left [] backs p = tt
-rising_left (a ∷ fronts) backs p = (all_from_in (Below a) fronts (λ x h. all_in (Below a) (fronts ++ backs) x p.0 (in_append_left x fronts backs h)), rising_left fronts backs p.1)
+rising_left (a ∷ fronts) backs p = (all_from_in (Below a) fronts (λ x h. all_in (Below a) (fronts ++ backs) x p.0 (in_left fronts backs x h)), rising_left fronts backs p.1)
 
 pub rising_right : (fronts backs : List (List ℕ)) → Rising (fronts ++ backs) → Rising backs
 rising_right [] backs p = p
@@ -131,7 +113,7 @@ rising_right (a ∷ fronts) backs p = rising_right fronts backs p.1
 
 pub rising_cross : (fronts backs : List (List ℕ)) (a b : List ℕ) → Rising (fronts ++ backs) → In a fronts → In b backs → Below a b
 rising_cross [] backs a b p h i = absurd h
-rising_cross (x ∷ fronts) backs a b p (inl e) i = subst (λ (text : List ℕ). Below text b) e (all_in (Below x) (fronts ++ backs) b p.0 (in_append_right b fronts backs i))
+rising_cross (x ∷ fronts) backs a b p (inl e) i = subst (λ (text : List ℕ). Below text b) e (all_in (Below x) (fronts ++ backs) b p.0 (in_right fronts backs b i))
 rising_cross (x ∷ fronts) backs a b p (inr h) i = rising_cross fronts backs a b p.1 h i
 
 -- ---- nodes
@@ -176,7 +158,7 @@ name_below : (name : List ℕ) (strings fronts backs : List (List ℕ)) (node : 
 name_below name strings fronts backs node cut h =
     elim (cases_Bool (begins node (first_of strings))) [
       | inl front ↦ before strings cut.order (cut.long node h front) front
-      | inr apart ↦ away (cut.nodes.only node (in_append_right node fronts backs h)) apart
+      | inr apart ↦ away (cut.nodes.only node (in_right fronts backs node h)) apart
     ]
   where
     before : (strings : List (List ℕ)) → Rising (name ∷ strings) → length (common name (first_of strings)) < length node → begins node (first_of strings) ≡ true → Below name node
@@ -220,8 +202,8 @@ shared_node name (later ∷ strings) = inr (name, later, inl refl, inr (inl refl
 -- the nodes of the strings and the one that entered
 pub entered : (name : List ℕ) (strings fronts new backs : List (List ℕ)) → Cut name strings fronts backs → Enters name strings fronts new → NodesIn (name ∷ strings) ((fronts ++ new) ++ backs)
 entered name strings fronts new backs cut enters = record {
-  rising = rising_append (fronts ++ new) backs enters.rising (rising_right fronts backs cut.nodes.rising) (λ a b h i. cross a b (in_append_cases a fronts new h) i);
-  only = λ node h. outer node (in_append_cases node (fronts ++ new) backs h);
+  rising = rising_append (fronts ++ new) backs enters.rising (rising_right fronts backs cut.nodes.rising) (λ a b h i. cross a b (in_either fronts new a h) i);
+  only = λ node h. outer node (in_either (fronts ++ new) backs node h);
   all = all;
 }
   where
@@ -241,7 +223,7 @@ entered name strings fronts new backs cut enters = record {
         by (inr e) = subst (λ (text : List ℕ). Below text b) (sym e) (name_below name strings fronts backs b cut i)
 
     inner : (node : List ℕ) → In node fronts ⊎ In node new → IsNodeIn (name ∷ strings) node
-    inner node (inl h) = wider name strings node (cut.nodes.only node (in_append_left node fronts backs h))
+    inner node (inl h) = wider name strings node (cut.nodes.only node (in_left fronts backs node h))
     inner node (inr h) = by (enters.only node h)
       where
         by : (node ≡ common name (first_of strings)) ⊎ (node ≡ name) → IsNodeIn (name ∷ strings) node
@@ -249,18 +231,18 @@ entered name strings fronts new backs cut enters = record {
         by (inr e) = inr (name, name, inl refl, inl refl, e ∙ sym (common_self name))
 
     outer : (node : List ℕ) → In node (fronts ++ new) ⊎ In node backs → IsNodeIn (name ∷ strings) node
-    outer node (inl h) = inner node (in_append_cases node fronts new h)
-    outer node (inr h) = wider name strings node (cut.nodes.only node (in_append_right node fronts backs h))
+    outer node (inl h) = inner node (in_either fronts new node h)
+    outer node (inr h) = wider name strings node (cut.nodes.only node (in_right fronts backs node h))
 
     kept : (node : List ℕ) → In node fronts ⊎ In node backs → In node ((fronts ++ new) ++ backs)
-    kept node (inl h) = in_append_left node (fronts ++ new) backs (in_append_left node fronts new h)
-    kept node (inr h) = in_append_right node (fronts ++ new) backs h
+    kept node (inl h) = in_left (fronts ++ new) backs node (in_left fronts new node h)
+    kept node (inr h) = in_right (fronts ++ new) backs node h
 
     old : (node : List ℕ) → IsNodeIn strings node → In node ((fronts ++ new) ++ backs)
-    old node is = kept node (in_append_cases node fronts backs (cut.nodes.all node is))
+    old node is = kept node (in_either fronts backs node (cut.nodes.all node is))
 
     has_shared : In (common name (first_of strings)) ((fronts ++ new) ++ backs)
-    has_shared = in_append_left (common name (first_of strings)) (fronts ++ new) backs enters.shared
+    has_shared = in_left (fronts ++ new) backs (common name (first_of strings)) enters.shared
 
     -- what the string shares with a later one
     across : (strings' : List (List ℕ)) → strings' ≡ strings → Rising (name ∷ strings') → (b : List ℕ) → In b strings' → In (common name b) ((fronts ++ new) ++ backs)
@@ -280,7 +262,7 @@ entered name strings fronts new backs cut enters = record {
 
     pairs : (a b : List ℕ) → (name ≡ a) ⊎ In a strings → (name ≡ b) ⊎ In b strings → In (common a b) ((fronts ++ new) ++ backs)
     pairs a b (inl p) (inl q) =
-        let whole : In name ((fronts ++ new) ++ backs) = in_append_left name (fronts ++ new) backs enters.whole in
+        let whole : In name ((fronts ++ new) ++ backs) = in_left (fronts ++ new) backs name enters.whole in
         subst (λ (text : List ℕ). In text ((fronts ++ new) ++ backs)) (sym (common_self name) ∙ (ap (λ (text : List ℕ). common name text) q ∙ ap (λ (text : List ℕ). common text b) p)) whole
     pairs a b (inl p) (inr q) = subst (λ (text : List ℕ). In (common text b) ((fronts ++ new) ++ backs)) p (across strings refl cut.order b q)
     pairs a b (inr p) (inl q) =
@@ -293,7 +275,7 @@ entered name strings fronts new backs cut enters = record {
 
 -- what is on the way to the string that entered, and what isn't
 pub entered_begin : (name : List ℕ) (strings fronts new backs : List (List ℕ)) (node : List ℕ) → Cut name strings fronts backs → Enters name strings fronts new → In node (fronts ++ new) → begins node name ≡ true
-entered_begin name strings fronts new backs node cut enters h = by (in_append_cases node fronts new h)
+entered_begin name strings fronts new backs node cut enters h = by (in_either fronts new node h)
   where
     only : (node ≡ common name (first_of strings)) ⊎ (node ≡ name) → begins node name ≡ true
     only (inl e) = subst (λ (text : List ℕ). begins text name ≡ true) (sym e) (common_left name (first_of strings))

@@ -3,7 +3,7 @@ use Rattle.std.proofs.Common.{◌≡◌, ℕ, ◌+◌, ◌⊎◌, inl, inr, true
 use Rattle.std.specs.List.{filter}
 use Rattle.std.proofs.lemmas.Bool.{cases_Bool}
 use Rattle.std.proofs.lemmas.List.Sorted.{Contains-permutation}
-use Rattle.list_lemmas.proofs.Members.{Contains_from_in, In, from_map, in_filter, in_from_Contains, in_map}
+use Rattle.list_lemmas.proofs.Members.{Contains_from_in, In, from_map, in_filter, in_from_Contains, in_map, in_either, in_filter_map, in_flat, in_left, in_right}
 use Rattle.mo_types.specs.Whole.{is_zerofill}
 use Rattle.mo_types.specs.declared.atom.Atom.{Atom}
 use Rattle.mo_types.specs.declared.goal.Goal.{Goal}
@@ -19,8 +19,7 @@ use Rattle.sect_place.specs.declared.layout.Placed.{Placed}
 use Rattle.sect_place.specs.declared.layout.PlacedSection.{PlacedSection}
 use Rattle.sect_place.specs.declared.part.Group.{Group}
 use Rattle.sect_place.specs.declared.part.Part.{Part}
-use Rattle.sect_place.proofs.Listed.{in_chosen, in_flat, in_left, in_right, kept_are_listed}
-use Rattle.sect_place.proofs.Once.{from_append}
+use Rattle.sect_place.proofs.Listed.{kept_are_listed}
 use Rattle.sect_place.proofs.Positions.{keys_listed, placed_there}
 use Rattle.atom_work.specs.Addresses.{Scene, address_in}
 use Rattle.atom_work.specs.Atoms.{atom_of, kept_at}
@@ -57,7 +56,7 @@ home_right atoms xs ys p has = record { section = has.section; among = in_right 
 parts_home : (atoms : List AtomKey → List Atom) (start file at : ℕ) (parts : List Part) (p : Placed) → In p (parts_places atoms at parts) → HasHome atoms (parts_sections atoms start file at parts) p
 unfolding parts_places parts_sections placed_section
 parts_home atoms start file at [] p h = absurd h
-parts_home atoms start file at (part ∷ parts) p h = by (from_append (places stood) (parts_places atoms (part_end atoms at part) parts) p h) (parts_home atoms start file (part_end atoms at part) parts p)
+parts_home atoms start file at (part ∷ parts) p h = by (in_either (places stood) (parts_places atoms (part_end atoms at part) parts) p h) (parts_home atoms start file (part_end atoms at part) parts p)
   where
     stood : List (Atom × ℕ)
     stood = stand (part_from at part) (atoms part.section.atoms)
@@ -73,7 +72,7 @@ parts_home atoms start file at (part ∷ parts) p h = by (from_append (places st
 groups_home : (atoms : List AtomKey → List Atom) (at file lead : ℕ) (groups : List Group) (p : Placed) → In p (groups_places atoms at lead groups) → HasHome atoms (groups_sections atoms at file lead groups) p
 unfolding groups_places groups_sections
 groups_home atoms at file lead [] p h = absurd h
-groups_home atoms at file lead (group ∷ groups) p h = by (from_append (parts_places atoms (at + lead) group.parts) (groups_places atoms next 0 groups) p h) (groups_home atoms next past 0 groups p)
+groups_home atoms at file lead (group ∷ groups) p h = by (in_either (parts_places atoms (at + lead) group.parts) (groups_places atoms next 0 groups) p h) (groups_home atoms next past 0 groups p)
   where
     next : ℕ
     next = page_up (group_end atoms at lead group)
@@ -137,7 +136,7 @@ written m layout kept section address among solid listed known stood =
       row = row;
       of_rows = Contains_from_in (rows_of m layout) row
           (in_flat (section_rows scene m.files m.goals (kept_of m)) (filter has_bytes layout.sections) section row (in_filter has_bytes layout.sections section among passes)
-          (in_chosen (row_of scene m.files m.goals (kept_of m) section) section.section.atoms kept.atom.key row listed (row_is scene m.files m.goals (kept_of m) section kept.atom.key kept address known stood)));
+          (in_filter_map (row_of scene m.files m.goals (kept_of m) section) section.section.atoms kept.atom.key row listed (row_is scene m.files m.goals (kept_of m) section kept.atom.key kept address known stood)));
       atom = refl;
       file = refl;
       stands = refl;

@@ -1,13 +1,13 @@
 -- Each row of an image is an atom of one of its sections.
-use Rattle.std.proofs.Common.{◌≡◌, ℕ, ◌+◌, ◌≤◌, ◌⊎◌, inl, inr, Bool, true, false, not, List, [], ◌∷◌, get_or, map, Option, Some, None, Contains, refl, sym, ap, ◌∙◌, arith, subst}
-use Rattle.std.specs.List.{cons_option, filter, filter_map}
+use Rattle.std.proofs.Common.{◌≡◌, ℕ, ◌+◌, ◌≤◌, Bool, true, false, not, List, [], ◌∷◌, get_or, map, Option, Some, None, Contains, refl, sym, ap, ◌∙◌, arith, subst}
+use Rattle.std.specs.List.{filter}
 use Rattle.std.specs.List.Sorted.{IsStrictlySortedBy}
 use Rattle.std.specs.Option.{option_and_then, option_map}
 use Rattle.std.specs.Ordering.{is_eq, on}
 use Rattle.std.specs.declared.cmp.Ordering.TheVariants.{Less, Equal}
 use Rattle.std.proofs.lemmas.Cmp.{tied_itself}
 use Rattle.std.proofs.lemmas.List.Sorted.{Contains-permutation}
-use Rattle.list_lemmas.proofs.Members.{Contains_from_in, In, all_in, all_map, from_filter}
+use Rattle.list_lemmas.proofs.Members.{Contains_from_in, In, all_in, all_map, from_filter, from_filter_map, from_flat}
 use Rattle.list_lemmas.proofs.Rising.{rising_at}
 use Rattle.mo_types.proofs.KeyOrder.{compare_keys_total}
 use Rattle.mo_types.specs.Keys.{compare_keys}
@@ -23,7 +23,7 @@ use Rattle.sect_place.specs.Places.{area_unit, spaced, with_area}
 use Rattle.sect_place.specs.declared.layout.Layout.{Layout}
 use Rattle.sect_place.specs.declared.layout.Placed.{Placed}
 use Rattle.sect_place.specs.declared.layout.PlacedSection.{PlacedSection}
-use Rattle.sect_place.proofs.Once.{from_flat, listed_once}
+use Rattle.sect_place.proofs.Once.{listed_once}
 use Rattle.sect_place.proofs.Positions.{finds}
 use Rattle.sect_place.proofs.Single.{layout_rises}
 use Rattle.atom_work.specs.Addresses.{AreOnce, Scene, address_in}
@@ -56,18 +56,6 @@ placed_once m layout rising laid =
     once layout.placed (layout_rises atoms (out_sections m.files atoms) m.slots m.islands (sizes_of m.command m.libs) m.command layout (listed_once m.files atoms (rising_atoms (kept_of m) rising)) laid.layout_of)
 
 -- ---- a row
-
-from_chosen : {X Y : Type 0} (f : X → Option Y) (xs : List X) (y : Y) → In y (filter_map f xs) → (x : X) × In x xs × (f x ≡ Some y)
-from_chosen f [] y h = absurd h
-from_chosen {X = X} {Y = Y} f (x ∷ xs) y h = by (f x) refl (from_chosen f xs y) h
-  where
-    by : (o : Option Y) → f x ≡ o → (In y (filter_map f xs) → (z : X) × In z xs × (f z ≡ Some y)) → In y (cons_option (f x) (filter_map f xs)) → (z : X) × In z (x ∷ xs) × (f z ≡ Some y)
-    by None e rest there = let later = rest (rw e at there) in (later.0, inr later.1, later.2)
-    by (Some w) e rest there = first (rw e at there)
-      where
-        first : (w ≡ y) ⊎ In y (filter_map f xs) → (z : X) × In z (x ∷ xs) × (f z ≡ Some y)
-        first (inl same) = (x, inl refl, e ∙ ap Some same)
-        first (inr further) = let later = rest further in (later.0, inr later.1, later.2)
 
 -- the atom with a key, its address, and the row of both
 record IsRow (scene : Scene) (files : List LoadedFile) (goals : List (List Goal)) (atoms : List KeptAtom) (section : PlacedSection) (key : AtomKey) (row : Row) : Type 0 where
@@ -154,7 +142,7 @@ row_in m layout row rising laid h =
     let of_section = from_flat (section_rows scene m.files m.goals (kept_of m)) (filter has_bytes layout.sections) row h in
     let section : PlacedSection = of_section.0 in
     let passed = from_filter has_bytes layout.sections section of_section.1 in
-    let of_key = from_chosen (row_of scene m.files m.goals (kept_of m) section) section.section.atoms row of_section.2 in
+    let of_key = from_filter_map (row_of scene m.files m.goals (kept_of m) section) section.section.atoms row of_section.2 in
     let one = is_row scene m.files m.goals (kept_of m) section of_key.0 row of_key.2 in
     let says = row_says scene m.files m.goals section one.kept one.address row one.is in
     let address : one.address ≡ row.address = says.0 in

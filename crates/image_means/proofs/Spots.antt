@@ -1,7 +1,7 @@
 -- The atoms of a section stand in it.
 use Rattle.std.proofs.Common.{◌≡◌, ℕ, ◌+◌, ◌≤◌, inl, inr, List, [], ◌∷◌, ◌++◌, Option, Some, None, refl, ap, ◌∙◌, arith}
 use Rattle.std.specs.List.{AllByRecursion}
-use Rattle.list_lemmas.proofs.Members.{In, all_map, all_weaker, in_map}
+use Rattle.list_lemmas.proofs.Members.{In, all_map, all_weaker, in_map, in_left, in_right}
 use Rattle.mo_types.specs.declared.atom.Atom.{Atom}
 use Rattle.mo_types.specs.declared.key.AtomKey.{AtomKey}
 use Rattle.tlv_plan.specs.Template.{aligned, atoms_of, end_of, stand}
@@ -13,7 +13,6 @@ use Rattle.sect_place.specs.declared.layout.Placed.{Placed}
 use Rattle.sect_place.specs.declared.layout.PlacedSection.{PlacedSection}
 use Rattle.sect_place.specs.declared.part.Group.{Group}
 use Rattle.sect_place.specs.declared.part.Part.{Part}
-use Rattle.sect_place.proofs.Listed.{in_left, in_right}
 use Rattle.sect_place.proofs.Positions.{finds}
 use Rattle.sect_place.proofs.Spread.{group_bounds, part_bounds}
 use Rattle.image_means.proofs.Turned.{appended}

@@ -3,6 +3,7 @@ use Rattle.std.proofs.Common.{◌≡◌, ℕ, ◌<◌, ◌≤◌, ◌+◌, ◌�
 use Rattle.std.specs.Prelude.{◌&&◌, nat_le, nat_lt}
 use Rattle.std.proofs.lemmas.Bool.{and_parts}
 use Rattle.std.proofs.lemmas.List.{drop_all, drop_more}
+use Rattle.list_lemmas.proofs.Places.{from_here}
 use Rattle.tbd_doc.specs.declared.stub.StubFile.{StubFile}
 use Rattle.lib_bind.specs.Closing.{reach, reach_all, with_file, with_files}
 use Rattle.lib_bind.specs.Named.{are_named, is_next}
@@ -10,9 +11,6 @@ use Rattle.lib_bind.specs.declared.closing.Closing.{Closing}
 use Rattle.lib_bind.specs.declared.growing.Growing.{Growing}
 use Rattle.lib_bind.specs.declared.library.Library.{Library}
 use Rattle.lib_bind.specs.declared.named.NamedStub.{NamedStub}
-
-from_here : {X : Type 0} (xs : List X) (at : ℕ) (x : X) → at < length xs → x ≡ get_or xs at x → drop at xs ≡ x ∷ drop (at + 1) xs
-from_here xs at x within is = drop_more xs at x within ∙ ap (λ y. y ∷ drop (at + 1) xs) (sym is)
 
 pub reach_next : (libraries : List Library) (at : ℕ) (d : Library) (closing next whole : Closing) → at < length libraries
     → reach_all (drop at libraries) closing ≡ whole → next ≡ reach (get_or libraries at d).document closing → reach_all (drop (at + 1) libraries) next ≡ whole

@@ -1,15 +1,16 @@
 -- Documents that are found by following links.
-use Rattle.std.proofs.Common.{◌≡◌, ℕ, ◌+◌, ◌<◌, ◌≤◌, ◌⊎◌, Bool, true, false, nat_eq, List, [], ◌∷◌, ◌++◌, length, take, get_or, slice_get, Contains, Some, refl, sym, ap, subst, ◌∙◌, inl, inr, arith, append_assoc, length-append}
+use Rattle.std.proofs.Common.{◌≡◌, ℕ, ◌+◌, ◌<◌, ◌≤◌, ◌⊎◌, true, nat_eq, List, [], ◌∷◌, ◌++◌, length, take, get_or, slice_get, Contains, Some, refl, sym, ap, subst, ◌∙◌, inl, inr, arith, length-append}
 use Rattle.std.specs.List.{IsDistinct, list_any}
 use Rattle.std.specs.List.Sorted.{IsPermutation, IsSorted, IsStrictlySortedBy}
 use Rattle.std.specs.Ordering.{nat_cmp}
-use Rattle.std.proofs.lemmas.List.{append-nil, get_or_append_left, get_or_default, get_or_push, take_all, take_more}
+use Rattle.std.proofs.lemmas.List.{get_or_append_left, get_or_default, get_or_push, take_all, take_more}
 use Rattle.std.proofs.lemmas.List.Sums.{fold-append}
 use Rattle.std.proofs.lemmas.List.Sorted.{Contains-permutation, IsNonDecreasingBy-from_sort, IsPermutation-sym}
 use Rattle.std.proofs.lemmas.Map.Keys.{IsDistinct-IsPermutation, IsStrictlyIncreasing-from_distinct, sorted_from_strictly_increasing}
 use Rattle.std.proofs.lemmas.Map.Steps.{length-le_from_distinct_below}
 use Rattle.std.proofs.lemmas.Option.{slice_get-get_or, slice_get_within}
 use Rattle.indexmap.specs.IndexSet.{insert_all, insert_key}
+use Rattle.list_lemmas.proofs.Inserted.{behind, from_inserted, in_inserted, kept_inserted}
 use Rattle.list_lemmas.proofs.Members.{In, in_from_Contains, Contains_from_in, any_true}
 use Rattle.lib_bind.specs.Graph.{AreLinks, AreReached, AreReaches, Leads, Reaches, linked}
 use Rattle.lib_bind.specs.declared.library.Library.{Library}
@@ -26,68 +27,6 @@ add_one before now new more i item within is all key =
 
 pub added_all : (before now more : List ℕ) (i : ℕ) → length more ≤ i → now ≡ insert_all nat_eq before (take i more) → now ≡ insert_all nat_eq before more
 added_all before now more i past all = all ∙ ap (insert_all nat_eq before) (take_all i more past)
-
-in_left : (xs ys : List ℕ) (x : ℕ) → In x xs → In x (xs ++ ys)
-in_left [] ys x h = absurd h
-in_left (y ∷ xs) ys x (inl e) = inl e
-in_left (y ∷ xs) ys x (inr h) = inr (in_left xs ys x h)
-
-in_last : (xs : List ℕ) (x : ℕ) → In x (xs ++ x ∷ [])
-in_last [] x = inl refl
-in_last (y ∷ xs) x = inr (in_last xs x)
-
-from_longer : (xs : List ℕ) (k x : ℕ) → In x (xs ++ k ∷ []) → In x xs ⊎ (k ≡ x)
-from_longer [] k x (inl e) = inr e
-from_longer [] k x (inr h) = absurd h
-from_longer (y ∷ xs) k x (inl e) = inl (inl e)
-from_longer (y ∷ xs) k x (inr h) = elim (from_longer xs k x h) [
-  | inl there ↦ inl (inr there)
-  | inr e ↦ inr e
-]
-
-key_kept : (ks : List ℕ) (k x : ℕ) (there : Bool) → list_any (nat_eq k) ks ≡ there → In x ks → In x (insert_key nat_eq ks k)
-key_kept ks k x true is h = rw is h
-key_kept ks k x false is h = rw is (in_left ks (k ∷ []) x h)
-
-key_in : (ks : List ℕ) (k : ℕ) (there : Bool) → list_any (nat_eq k) ks ≡ there → In k (insert_key nat_eq ks k)
-key_in ks k true is =
-    let found : (x : ℕ) × In x ks × (nat_eq k x ≡ true) = any_true (nat_eq k) ks is in
-    rw is (subst (λ (n : ℕ). In n ks) (sym (same_number k found.0 found.2)) found.1)
-key_in ks k false is = rw is (in_last ks k)
-
-key_from : (ks : List ℕ) (k x : ℕ) (there : Bool) → list_any (nat_eq k) ks ≡ there → In x (insert_key nat_eq ks k) → In x ks ⊎ (k ≡ x)
-key_from ks k x true is h = inl (rw is at h)
-key_from ks k x false is h = from_longer ks k x (rw is at h)
-
-all_kept : (ks xs : List ℕ) (x : ℕ) → In x ks → In x (insert_all nat_eq ks xs)
-all_kept ks [] x h = h
-all_kept ks (y ∷ xs) x h = all_kept (insert_key nat_eq ks y) xs x (key_kept ks y x (list_any (nat_eq y) ks) refl h)
-
-all_in : (ks xs : List ℕ) (x : ℕ) → In x xs → In x (insert_all nat_eq ks xs)
-all_in ks [] x h = absurd h
-all_in ks (y ∷ xs) x (inl e) = all_kept (insert_key nat_eq ks y) xs x (subst (λ (n : ℕ). In n (insert_key nat_eq ks y)) e (key_in ks y (list_any (nat_eq y) ks) refl))
-all_in ks (y ∷ xs) x (inr h) = all_in (insert_key nat_eq ks y) xs x h
-
-all_from : (ks xs : List ℕ) (x : ℕ) → In x (insert_all nat_eq ks xs) → In x ks ⊎ In x xs
-all_from ks [] x h = inl h
-all_from ks (y ∷ xs) x h = elim (all_from (insert_key nat_eq ks y) xs x h) [
-  | inl there ↦ elim (key_from ks y x (list_any (nat_eq y) ks) refl there) [
-    | inl old ↦ inl old
-    | inr e ↦ inr (inl e)
-  ]
-  | inr later ↦ inr (inr later)
-]
-
-key_front : (ks : List ℕ) (k : ℕ) (there : Bool) → list_any (nat_eq k) ks ≡ there → (rest : List ℕ) × (insert_key nat_eq ks k ≡ ks ++ rest)
-key_front ks k true is = ([], rw is (sym (append-nil ks)))
-key_front ks k false is = (k ∷ [], rw is refl)
-
-all_front : (ks xs : List ℕ) → (rest : List ℕ) × (insert_all nat_eq ks xs ≡ ks ++ rest)
-all_front ks [] = ([], sym (append-nil ks))
-all_front ks (y ∷ xs) =
-    let first : (rest : List ℕ) × (insert_key nat_eq ks y ≡ ks ++ rest) = key_front ks y (list_any (nat_eq y) ks) refl in
-    let later : (rest : List ℕ) × (insert_all nat_eq (insert_key nat_eq ks y) xs ≡ insert_key nat_eq ks y ++ rest) = all_front (insert_key nat_eq ks y) xs in
-    (first.0 ++ later.0, later.1 ∙ ap (λ (front : List ℕ). front ++ later.0) first.1 ∙ append_assoc ks first.0 later.0)
 
 -- ---- paths
 
@@ -144,15 +83,15 @@ closed_next : (links : List (List ℕ)) (found new : List ℕ) (at document : �
     → at < length found → get_or found at 0 ≡ document → new ≡ insert_all nat_eq found (linked links document)
     → (i : ℕ) → (i < at) ⊎ (i ≡ at) → (to : ℕ) → Contains (linked links (get_or new i 0)) to → Contains new to
 closed_next links found new at document closed within is all i (inl low) to there =
-    let front : (rest : List ℕ) × (insert_all nat_eq found (linked links document) ≡ found ++ rest) = all_front found (linked links document) in
+    let front : (rest : List ℕ) × (insert_all nat_eq found (linked links document) ≡ found ++ rest) = behind nat_eq same_number found (linked links document) in
     let among : i < length found = omega (arith, low, within) in
     let same : get_or new i 0 ≡ get_or found i 0 = ap (λ (ds : List ℕ). get_or ds i 0) (all ∙ front.1) ∙ get_or_append_left found front.0 0 i among in
     let old : Contains found to = closed i low among to (subst (λ (d : ℕ). Contains (linked links d) to) same there) in
-    subst (λ (ds : List ℕ). Contains ds to) (sym all) (Contains_from_in (insert_all nat_eq found (linked links document)) to (all_kept found (linked links document) to (in_from_Contains found to old)))
+    subst (λ (ds : List ℕ). Contains ds to) (sym all) (Contains_from_in (insert_all nat_eq found (linked links document)) to (kept_inserted nat_eq same_number found (linked links document) to (in_from_Contains found to old)))
 closed_next links found new at document closed within is all i (inr last) to there =
-    let front : (rest : List ℕ) × (insert_all nat_eq found (linked links document) ≡ found ++ rest) = all_front found (linked links document) in
+    let front : (rest : List ℕ) × (insert_all nat_eq found (linked links document) ≡ found ++ rest) = behind nat_eq same_number found (linked links document) in
     let same : get_or new i 0 ≡ document = ap (λ (k : ℕ). get_or new k 0) last ∙ ap (λ (ds : List ℕ). get_or ds at 0) (all ∙ front.1) ∙ get_or_append_left found front.0 0 at within ∙ is in
-    subst (λ (ds : List ℕ). Contains ds to) (sym all) (Contains_from_in (insert_all nat_eq found (linked links document)) to (all_in found (linked links document) to (in_from_Contains (linked links document) to (subst (λ (d : ℕ). Contains (linked links d) to) same there))))
+    subst (λ (ds : List ℕ). Contains ds to) (sym all) (Contains_from_in (insert_all nat_eq found (linked links document)) to (in_inserted nat_eq same_number found (linked links document) to (in_from_Contains (linked links document) to (subst (λ (d : ℕ). Contains (linked links d) to) same there))))
 
 below_or_last : (i at : ℕ) → i < at + 1 → (i < at) ⊎ (i ≡ at)
 below_or_last i at low = grind arith
@@ -162,8 +101,8 @@ among found at document within is = (at, within, get_or_default found at documen
 
 pub next : (links : List (List ℕ)) (from : ℕ) (found new : List ℕ) (at document : ℕ) → IsSearching links from found at → at < length found → get_or found at 0 ≡ document → new ≡ insert_all nat_eq found (linked links document) → IsSearching links from new (at + 1)
 next links from found new at document searching within is all = record {
-  only = λ to there. only_next links from found document searching.only (searching.only document (among found at document within is)) to (all_from found (linked links document) to (subst (λ (ds : List ℕ). In to ds) all (in_from_Contains new to there)));
-  start = subst (λ (ds : List ℕ). Contains ds from) (sym all) (Contains_from_in (insert_all nat_eq found (linked links document)) from (all_kept found (linked links document) from (in_from_Contains found from searching.start)));
+  only = λ to there. only_next links from found document searching.only (searching.only document (among found at document within is)) to (from_inserted nat_eq same_number found (linked links document) to (subst (λ (ds : List ℕ). In to ds) all (in_from_Contains new to there)));
+  start = subst (λ (ds : List ℕ). Contains ds from) (sym all) (Contains_from_in (insert_all nat_eq found (linked links document)) from (kept_inserted nat_eq same_number found (linked links document) from (in_from_Contains found from searching.start)));
   closed = λ i low _ to there. closed_next links found new at document searching.closed within is all i (below_or_last i at low) to there;
 }
 

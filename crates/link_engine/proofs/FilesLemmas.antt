@@ -3,7 +3,7 @@ use Rattle.std.proofs.Common.{◌≡◌, ℕ, ◌+◌, ◌<◌, ◌≤◌, ◌++
 use Rattle.std.proofs.Math.Seq.{take-add}
 use Rattle.std.proofs.lemmas.List.{append-nil, take_all}
 use Rattle.std.proofs.lemmas.Option.{slice_get-get_or}
-use Rattle.link_files.proofs.LostLemmas.{from_here}
+use Rattle.list_lemmas.proofs.Places.{from_here}
 use Rattle.mo_outside.specs.Log.{OutCall}
 use Rattle.mo_outside.specs.Tells.{Tells}
 use Rattle.mo_outside.specs.Written.{Written}

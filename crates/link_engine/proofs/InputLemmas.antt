@@ -7,8 +7,8 @@ use Rattle.std.specs.Cmp.{nat_cmp_is}
 use Rattle.std.specs.declared.cmp.Ordering.TheVariants.{Less}
 use Rattle.std.proofs.lemmas.List.{append-nil, drop_all}
 use Rattle.list_lemmas.proofs.Members.{In}
+use Rattle.list_lemmas.proofs.Places.{from_here}
 use Rattle.input_fetch.specs.declared.content.Content.{Content}
-use Rattle.link_files.proofs.LostLemmas.{from_here}
 use Rattle.member_rounds.specs.Sources.{AreInOrder}
 use Rattle.member_rounds.specs.declared.input.Input.{Input}
 use Rattle.member_rounds.proofs.StateLemmas.{all_from}

@@ -8,7 +8,7 @@ use Rattle.std.specs.Ordering.{is_eq, on}
 use Rattle.std.specs.declared.cmp.Ordering.TheVariants.{Less}
 use Rattle.std.proofs.Math.Nat.{max-le}
 use Rattle.std.proofs.lemmas.List.Elements.{recursion_from_All}
-use Rattle.list_lemmas.proofs.Members.{In, all_at, all_from_in, all_in, find_some, from_filter, from_map}
+use Rattle.list_lemmas.proofs.Members.{In, all_at, all_from_in, all_in, find_some, from_filter, from_map, from_flat, in_either}
 use Rattle.mark_core.specs.Kept.{has}
 use Rattle.mo_types.specs.declared.atom.Atom.{Atom}
 use Rattle.mo_types.specs.declared.key.AtomKey.{AtomKey}
@@ -25,7 +25,6 @@ use Rattle.atom_work.specs.declared.kept.KeptAtom.{KeptAtom}
 use Rattle.resolve.specs.Representatives.{Literal, greatest_align, is_same, literals, literals_in, representative_among, representative_of, representatives_of}
 use Rattle.resolve.specs.declared.representative.Representative.{Representative}
 use Rattle.resolve.proofs.RepresentativeLemmas.{atoms_of_file, keys_before, literal_of, pairs_head, pairs_tail}
-use Rattle.sect_place.proofs.Once.{from_append, from_flat}
 use Rattle.link_files.specs.Linked.{AreLow}
 
 -- a file whose pieces are those of its object
@@ -71,7 +70,7 @@ joined (x ∷ xs) ys first second across = (
 )
   where
     after : (b : KeptAtom) → In b (xs ++ ys) → compare_keys x.atom.key b.atom.key ≡ Less
-    after b h = elim (from_append xs ys b h) [
+    after b h = elim (in_either xs ys b h) [
       | inl here ↦ all_in (λ (c : KeptAtom). compare_keys x.atom.key c.atom.key ≡ Less) xs b first.0 here
       | inr later ↦ across x b (inl refl) later
     ]
@@ -84,7 +83,7 @@ own_file literals keys at file cut one h =
 
 later_file : (literals : List Representative) (keys : List AtomKey) (at : ℕ) (files : List LoadedFile) → AllByRecursion IsCut files → (one : KeptAtom) → In one (flat_map (kept_in literals keys) (enumerate_from at files)) → (file : LoadedFile) × In file files × (one.atom.key.file ≡ file.id)
 later_file literals keys at [] cut one h = absurd h
-later_file literals keys at (file ∷ files) cut one h = elim (from_append (kept_in literals keys (at, file)) (flat_map (kept_in literals keys) (enumerate_from (at + 1) files)) one h) [
+later_file literals keys at (file ∷ files) cut one h = elim (in_either (kept_in literals keys (at, file)) (flat_map (kept_in literals keys) (enumerate_from (at + 1) files)) one h) [
   | inl here ↦ (file, inl refl, own_file literals keys at file cut.0 one here)
   | inr later ↦ let m = later_file literals keys (at + 1) files cut.1 one later in (m.0, inr m.1, m.2)
 ]

@@ -1,8 +1,9 @@
 -- Names that lead nowhere.
-use Rattle.std.proofs.Common.{◌≡◌, ℕ, ◌+◌, ◌<◌, ◌≤◌, Bool, true, false, List, [], ◌∷◌, ◌++◌, length, drop, get_or, Option, Some, None, refl, sym, ap, ◌∙◌, add-one, drop-cons, append_assoc}
+use Rattle.std.proofs.Common.{◌≡◌, ℕ, ◌+◌, ◌<◌, ◌≤◌, Bool, true, false, List, [], ◌∷◌, ◌++◌, length, drop, get_or, Option, Some, None, refl, sym, ap, ◌∙◌, append_assoc}
 use Rattle.std.specs.List.{filter}
 use Rattle.std.specs.Option.{option_map}
 use Rattle.std.proofs.lemmas.List.{append-nil, drop_all}
+use Rattle.list_lemmas.proofs.Places.{from_here}
 use Rattle.kept_refs.specs.Undefined.{is_nobody, undefined}
 use Rattle.kept_refs.specs.declared.lost.Lost.{Lost}
 use Rattle.kept_refs.specs.inner.Lost.{held}
@@ -23,10 +24,6 @@ pub record IsSifted {X : Type 0} (test : X → Bool) (kept xs : List X) (at : �
 
 pub sift_starts : {X : Type 0} (test : X → Bool) (xs : List X) → IsSifted test [] xs 0
 sift_starts test xs = record { same = refl }
-
--- a list from a place on, where the element there is known
-pub from_here : {X : Type 0} (xs : List X) (at : ℕ) (x : X) → at < length xs → x ≡ get_or xs at x → drop at xs ≡ x ∷ drop (at + 1) xs
-from_here xs at x within is = rw (drop-cons xs at x within, ← is, add-one) refl
 
 passing : {X : Type 0} (test : X → Bool) (x : X) (rest : List X) → test x ≡ true → filter test (x ∷ rest) ≡ x ∷ filter test rest
 passing test x rest yes_ = rw yes_ refl

@@ -4,7 +4,7 @@ use Rattle.std.specs.List.{enumerate_from, filter_map, flat_map, list_any}
 use Rattle.std.specs.Option.{option_map_or, option_to_list}
 use Rattle.std.specs.Ordering.{is_eq}
 use Rattle.std.proofs.lemmas.Bool.{and_from, eq-eqb, false≢true, or_right}
-use Rattle.list_lemmas.proofs.Members.{In, any_from_in, find_some, from_map, in_filter, in_map}
+use Rattle.list_lemmas.proofs.Members.{In, any_from_in, find_some, from_map, in_filter, in_map, from_filter_map, from_flat, in_filter_map, in_flat, in_left}
 use Rattle.mo_format.specs.declared.loader.TheConstants.{S_4BYTE_LITERALS, S_8BYTE_LITERALS, S_16BYTE_LITERALS, S_CSTRING_LITERALS}
 use Rattle.mo_types.specs.Atoms.{atoms_of}
 use Rattle.mo_types.specs.Candidates.{word_of}
@@ -38,8 +38,6 @@ use Rattle.resolve.specs.declared.representative.Representative.{Representative}
 use Rattle.resolve.specs.declared.winner.Winner.{Winner}
 use Rattle.lib_bind.specs.Provides.{provider_of}
 use Rattle.lib_bind.specs.declared.provider.Provider.{Provider}
-use Rattle.sect_place.proofs.Listed.{in_chosen, in_flat, in_left}
-use Rattle.sect_place.proofs.Once.{from_flat}
 use Rattle.image_means.specs.Means.{IsGoalAt}
 use Rattle.image_means.proofs.Loading.{from_all}
 use Rattle.image_means.proofs.Stated.{begins_at}
@@ -52,7 +50,7 @@ use Rattle.link_means.specs.Images.{AreOrdered, IsImageOf}
 use Rattle.link_means.specs.Tellings.{AreInForm, AreWhole, HasEntry, made_of}
 use Rattle.link_means.proofs.Cuts.{at_place}
 use Rattle.link_means.proofs.Goals.{AreSolid, IsWinnerIn, name_atom, place_in_file, winner_there}
-use Rattle.link_means.proofs.Lists.{both_empty, from_chosen, from_then, from_when, in_slice, neither, no_some, none_passes, not_none, not_second, some_is}
+use Rattle.link_means.proofs.Lists.{both_empty, from_then, from_when, in_slice, neither, no_some, none_passes, not_none, not_second, some_is}
 use Rattle.link_means.proofs.Standing.{AreLinked, goal_stands, in_all, least_none}
 use Rattle.link_means.proofs.Telling.{are_solid}
 
@@ -78,7 +76,7 @@ plain_section file section form h =
 no_literal : (file : LoadedFile) (l : Literal) → IsWholeFile file → is_later file ≡ false → In l (literals_in file) → ⊥
 unfolding literals_in as_literal
 no_literal file l whole form h =
-    let from = from_chosen (as_literal file.object) file.atoms l h in
+    let from = from_filter_map (as_literal file.object) file.atoms l h in
     let atom : Atom = from.0 in
     let at = from_then _ (section_numbered file.object.sections atom.key.section) l from.2 in
     let section : Section = at.0 in
@@ -122,7 +120,7 @@ plain_there command files known name winner are whole form e =
     let won : winner_named known.winners symbol.name ≡ Some winner = are.winners.each symbol.name ∙ ap (winner_of command files) (sym is.named) ∙ e in
     let word : (winner.word == word_of file.id is.index symbol) ≡ true = eq-eqb winner.word (word_of file.id is.index symbol) (sym is.word) in
     let chosen : winning_atom known.winners file (is.index, symbol) ≡ Some is.place.atom = rw (won, word, is.external, is.stands) refl in
-    let among : In is.place.atom (winning_atoms known.winners file) = in_chosen (winning_atom known.winners file) (enumerate_from 0 file.object.symbols) (is.index, symbol) is.place.atom (in_all file.object.symbols is.index symbol is.numbered) chosen in
+    let among : In is.place.atom (winning_atoms known.winners file) = in_filter_map (winning_atom known.winners file) (enumerate_from 0 file.object.symbols) (is.index, symbol) is.place.atom (in_all file.object.symbols is.index symbol is.numbered) chosen in
     let wins_there : has_atom (winning_atoms known.winners file) atom.key ≡ true = any_from_in (same_atom atom.key) (winning_atoms known.winners file) is.place.atom among (ap (same_atom atom.key) (sym there.2) ∙ same_itself atom.key) in
     let own : stands_for known.literals atom.key ≡ atom.key = ap (λ (ls : List Representative). stands_for ls atom.key) are.literals ∙ itself files atom.key whole form in
     let plain : is_plain known.literals (external_atoms file) (winning_atoms known.winners file) atom.key ≡ true =
@@ -130,7 +128,7 @@ plain_there command files known name winner are whole form e =
     (ap (λ (k : AtomKey). same_atom k atom.key) own ∙ same_itself atom.key) (or_right (not (has_atom (external_atoms file) atom.key)) (has_atom (winning_atoms known.winners file) atom.key) wins_there) in
     let root : In atom.key (plain_roots known file) =
     in_left (filter_map (plain_root known.literals (external_atoms file) (winning_atoms known.winners file)) file.atoms) _ atom.key
-    (in_chosen (plain_root known.literals (external_atoms file) (winning_atoms known.winners file)) file.atoms atom atom.key there.1 (rw plain refl)) in
+    (in_filter_map (plain_root known.literals (external_atoms file) (winning_atoms known.winners file)) file.atoms atom atom.key there.1 (rw plain refl)) in
     subst (λ (k : AtomKey). In k (flat_map (plain_roots known) files)) (there.2 ∙ is.atom) (in_flat (plain_roots known) files file atom.key is.among root)
 
 -- that of the entry's winner is a root, where what isn't reached is stripped

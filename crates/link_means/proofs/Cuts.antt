@@ -3,7 +3,7 @@ use Rattle.std.proofs.Common.{◌≡◌, ℕ, zero, suc, ◌+◌, ◌-◌, ◌<�
 use Rattle.std.specs.Prelude.{slice_get, slice_index_or}
 use Rattle.std.specs.List.{range_with_len}
 use Rattle.std.proofs.lemmas.Bool.{false≢true, ltb-true, ne_eqb}
-use Rattle.list_lemmas.proofs.Members.{In, in_filter}
+use Rattle.list_lemmas.proofs.Members.{In, in_filter, in_left, in_right}
 use Rattle.mo_types.specs.Atoms.{atoms_from, atoms_of, cut_of, cuts, is_cut, piece, pieces, section_atoms}
 use Rattle.mo_types.specs.RelocationRules.{section_numbered}
 use Rattle.mo_types.specs.Whole.{IsWhole, IsWholeSection, is_dropped}
@@ -16,7 +16,6 @@ use Rattle.atom_cut.specs.Laws.{HasItsBytes}
 use Rattle.atom_cut.proofs.OwnBytes.{atoms_have_bytes}
 use Rattle.atom_cut.proofs.TileLemmas.{greatest_cut}
 use Rattle.image_means.proofs.Loading.{from_all}
-use Rattle.sect_place.proofs.Listed.{in_left, in_right}
 use Rattle.link_means.proofs.Lists.{in_range, in_slice, no_some, some_is}
 
 abbrev pub key_at : FileId → ℕ → ℕ → AtomKey

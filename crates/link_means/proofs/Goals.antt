@@ -8,7 +8,7 @@ use Rattle.std.specs.Str.{bytes_eq}
 use Rattle.std.proofs.lemmas.Bool.{and_parts, false≢true}
 use Rattle.std.proofs.lemmas.Option.{slice_get-map}
 use Rattle.std.proofs.lemmas.Slice.Eq.{bytes_eq-Decides}
-use Rattle.list_lemmas.proofs.Members.{In, find_some, from_filter, from_map}
+use Rattle.list_lemmas.proofs.Members.{In, find_some, from_filter, from_map, from_filter_map, from_flat}
 use Rattle.mo_types.specs.Atoms.{atoms_of, cut_of}
 use Rattle.mo_types.specs.Candidates.{has_place, is_candidate, least, word_of}
 use Rattle.mo_types.specs.Keys.{compare_keys}
@@ -37,10 +37,9 @@ use Rattle.resolve.specs.Winners.{found_word, winner_from, winner_of, winning}
 use Rattle.resolve.specs.declared.places.Place.{Place}
 use Rattle.resolve.specs.declared.representative.Representative.{Representative}
 use Rattle.resolve.specs.declared.winner.Winner.{Winner}
-use Rattle.sect_place.proofs.Once.{from_flat}
 use Rattle.member_rounds.specs.Form.{is_common}
 use Rattle.link_means.proofs.Cuts.{HasKey, atom_there, key_at}
-use Rattle.link_means.proofs.Lists.{from_chosen, from_mapped, from_numbered, from_then, from_when, in_slice, no_some, some_is}
+use Rattle.link_means.proofs.Lists.{from_mapped, from_numbered, from_then, from_when, in_slice, no_some, some_is}
 
 -- an atom of one of the files has the key
 pub record IsAtomIn (files : List LoadedFile) (key : AtomKey) : Type 0 where
@@ -80,7 +79,7 @@ literal_in : (files : List LoadedFile) (l : Literal) → In l (literals files) �
 unfolding literals literals_in
 literal_in files l h =
     let file = from_flat literals_in files l h in
-    let atom = from_chosen (as_literal file.0.object) file.0.atoms l file.2 in
+    let atom = from_filter_map (as_literal file.0.object) file.0.atoms l file.2 in
     record { file = file.0; among = file.1; atom = atom.0; of_file = atom.1; named = literal_key file.0.object atom.0 l atom.2 }
 
 among_in : (files : List LoadedFile) (l : Literal) (some : List Literal) → ((other : Literal) → In other some → In other (literals files)) → In l (literals files) → IsAtomIn files (representative_among l some).representative
@@ -166,7 +165,7 @@ winner_there command files name winner e =
     let among = (find_some (λ (g : Found). found_word g == least files name) (found_for files name) f one.1).0 in
     let chosen = from_filter (λ (g : Found). bytes_eq name g.symbol.name) (found files) f among in
     let of = from_flat found_in files f chosen.0 in
-    let p = from_chosen (found_at of.0) (enumerate_from 0 of.0.object.symbols) f of.2 in
+    let p = from_filter_map (found_at of.0) (enumerate_from 0 of.0.object.symbols) f of.2 in
     let candidate = from_when (is_candidate of.0.object.sections p.0.1) _ f p.2 in
     let numbered = from_numbered 0 of.0.object.symbols p.0 p.1 in
     let first : numbered.0 ≡ 0 + numbered.0 = omega arith in

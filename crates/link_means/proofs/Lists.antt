@@ -4,10 +4,9 @@ use Rattle.std.specs.Prelude.{nat_lt, slice_get, option_and_then}
 use Rattle.std.specs.List.{enumerate_from, filter_map, list_any, range_with_len}
 use Rattle.std.specs.Option.{option_map}
 use Rattle.std.proofs.lemmas.Bool.{cases_Bool, false≢true, ltb-false, ltb-true}
-use Rattle.list_lemmas.proofs.Members.{In, any_from_in}
+use Rattle.list_lemmas.proofs.Members.{In, any_from_in, in_filter_map}
 use Rattle.mo_types.specs.Rows.{when}
 use Rattle.mo_types.specs.Scan.{first_some}
-use Rattle.sect_place.proofs.Listed.{in_chosen}
 
 pub some_is : {X : Type 0} (x y : X) → Some x ≡ Some y → x ≡ y
 some_is x y e = cc
@@ -91,23 +90,12 @@ from_numbered n (y ∷ ys) p (inr h) =
     let at : n + 1 + rest.0 ≡ p.0 = rest.1 in
     (suc rest.0, omega (arith, at), rest.2)
 
-pub from_chosen : {X Y : Type 0} (f : X → Option Y) (xs : List X) (y : Y) → In y (filter_map f xs) → (x : X) × In x xs × (f x ≡ Some y)
-from_chosen f [] y h = absurd h
-from_chosen {X = X} {Y = Y} f (x ∷ xs) y h = by (f x) refl (from_chosen f xs y)
-  where
-    by : (o : Option Y) → f x ≡ o → (In y (filter_map f xs) → (z : X) × In z xs × (f z ≡ Some y)) → (z : X) × In z (x ∷ xs) × (f z ≡ Some y)
-    by None e rest = let later = rest (rw e at h) in (later.0, inr later.1, later.2)
-    by (Some w) e rest = elim (rw e at h) [
-      | inl same ↦ (x, inl refl, e ∙ ap Some same)
-      | inr there ↦ let later = rest there in (later.0, inr later.1, later.2)
-    ]
-
 pub none_chosen : {X Y : Type 0} (f : X → Option Y) (xs : List X) (x : X) → filter_map f xs ≡ [] → In x xs → f x ≡ None
 none_chosen {Y = Y} f xs x none h = by (f x) refl
   where
     by : (o : Option Y) → f x ≡ o → f x ≡ None
     by None e = e
-    by (Some y) e = absurd (subst (λ (ys : List Y). In y ys) none (in_chosen f xs x y h e))
+    by (Some y) e = absurd (subst (λ (ys : List Y). In y ys) none (in_filter_map f xs x y h e))
 
 pub none_first : {X Y : Type 0} (f : X → Option Y) (xs : List X) (x : X) → first_some f xs ≡ None → In x xs → f x ≡ None
 none_first f [] x e h = absurd h

@@ -4,7 +4,7 @@ use Rattle.std.specs.Prelude.{slice_get}
 use Rattle.std.specs.List.{range_with_len}
 use Rattle.std.specs.Option.{option_map, option_map_or}
 use Rattle.std.proofs.lemmas.Bool.{false≢true, ltb-true}
-use Rattle.list_lemmas.proofs.Members.{In}
+use Rattle.list_lemmas.proofs.Members.{In, from_filter_map, in_either}
 use Rattle.mo_types.specs.Atoms.{cut_of}
 use Rattle.mo_types.specs.Refs.{or_fault, or_unsupported, has_absolute, has_authenticated, minus_of, place_of, reference, reference_at, refs_from, refs_of, section_refs, target_of}
 use Rattle.mo_types.specs.RelocationRules.{RelocationRule, faults_from, faults_in, field_at, field_number, first_fault, is_bad_target, is_outside, is_unnameable, is_within, least, pair_fault, place_fault, section_numbered, shape_fault, target_fault}
@@ -24,10 +24,9 @@ use Rattle.mo_types.specs.declared.reference.Target.TheVariants.{Name, Local}
 use Rattle.mo_types.specs.declared.reference_fault.RefFault.{RefFault}
 use Rattle.mo_types.specs.declared.reference_fault.RefFault.TheVariants.{BadPair, BadShape, BadPlace, BadTarget}
 use Rattle.atom_cut.proofs.TileLemmas.{greatest_cut}
-use Rattle.sect_place.proofs.Once.{from_append}
 use Rattle.link_means.proofs.Cuts.{key_at}
 use Rattle.link_means.proofs.Going.{no_value, same_value}
-use Rattle.link_means.proofs.Lists.{both_empty, from_chosen, from_mapped, from_then, from_when, neither, no_some, none_chosen, not_none, not_second, not_when, some_is}
+use Rattle.link_means.proofs.Lists.{both_empty, from_mapped, from_then, from_when, neither, no_some, none_chosen, not_none, not_second, not_when, some_is}
 
 -- ---- what the rules leave
 
@@ -90,7 +89,7 @@ record IsOfSection (object : Object) (file : FileId) (number : ℕ) (sections : 
 
 from_sections : (object : Object) (file : FileId) (number : ℕ) (sections : List Section) (r : Ref) → In r (refs_from object file number sections) → IsOfSection object file number sections r
 from_sections object file number [] r h = absurd h
-from_sections object file number (section ∷ sections) r h = elim (from_append (section_refs object file number section) (refs_from object file (number + 1) sections) r h) [
+from_sections object file number (section ∷ sections) r h = elim (in_either (section_refs object file number section) (refs_from object file (number + 1) sections) r h) [
   | inl here ↦ let same : number ≡ number + 0 = omega arith in record { k = 0; section = section; there = refl; among = subst (λ (n : ℕ). In r (section_refs object file n section)) same here }
   | inr there ↦
       let rest = from_sections object file (number + 1) sections r there in
@@ -266,5 +265,5 @@ is_read object file refs r e h =
         with_linked : (b : Bool) → is_dropped section ≡ b → IsRead object file r
         with_linked true f = absurd (rw f at among)
         with_linked false f =
-            let chosen = from_chosen (reference_at object file (1 + k) section) (range_with_len 0 (length section.relocs)) r (rw f at among) in
+            let chosen = from_filter_map (reference_at object file (1 + k) section) (range_with_len 0 (length section.relocs)) r (rw f at among) in
             read_at object file (1 + k) section chosen.0 r chosen.2 (none_in target_fault object (1 + k) section chosen.0 none f chosen.1)

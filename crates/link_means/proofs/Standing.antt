@@ -10,7 +10,7 @@ use Rattle.std.specs.declared.cmp.Ordering.TheVariants.{Less, Equal, Greater}
 use Rattle.std.proofs.lemmas.Bool.{cases_order, false≢true}
 use Rattle.std.proofs.lemmas.Cmp.{tied_itself}
 use Rattle.std.proofs.lemmas.Option.{get_or_from_slice_get, slice_get-map, slice_get_within}
-use Rattle.list_lemmas.proofs.Members.{Contains_from_in, In, find_some, find_none, in_filter, in_from_Contains, in_map}
+use Rattle.list_lemmas.proofs.Members.{Contains_from_in, In, find_some, find_none, in_filter, in_from_Contains, in_map, in_filter_map, in_flat, in_left, in_right}
 use Rattle.mo_types.specs.Scan.{option_or_else}
 use Rattle.mo_types.specs.Keys.{compare_files}
 use Rattle.mo_types.specs.RelocationRules.{section_numbered}
@@ -43,7 +43,6 @@ use Rattle.resolve.proofs.RepresentativeLemmas.{atoms_of_file}
 use Rattle.sect_place.specs.Layout.{base_of}
 use Rattle.sect_place.specs.OutSections.{Home, common_home, home_in, home_of}
 use Rattle.sect_place.specs.declared.layout.Layout.{Layout}
-use Rattle.sect_place.proofs.Listed.{in_chosen, in_flat, in_left, in_right}
 use Rattle.atom_work.specs.Addresses.{target_goal}
 use Rattle.atom_work.specs.Atoms.{kept_as, kept_atoms, kept_in, raised}
 use Rattle.atom_work.specs.Rows.{Row, goals_at}
@@ -304,7 +303,7 @@ target_found command libs files flags keys at file r target inside is h kept amo
     told name e =
         let here : In (name, file.label) (lost_in keys file goals) =
         in_map (λ n. (n, file.label)) (flat_map (lost_names file.object.symbols goals) (kept_refs keys file)) name
-        (in_flat (lost_names file.object.symbols goals) (kept_refs keys file) r name (in_filter (λ x. has keys x.atom) file.refs r h kept) (in_chosen (lost_name file.object.symbols goals) (targets_of r.target r.minus) target name among e)) in
+        (in_flat (lost_names file.object.symbols goals) (kept_refs keys file) r name (in_filter (λ x. has keys x.atom) file.refs r h kept) (in_filter_map (lost_name file.object.symbols goals) (targets_of r.target r.minus) target name among e)) in
         in_flat (lost_at keys (goal_table files libs command)) (enumerate_from 0 files) (at, file) (name, file.label) (in_all files at file is) (rw (table_at files libs command at file is) here)
 
     by : (o : Option (List ℕ)) → lost_name file.object.symbols goals target ≡ o → o ≡ None

@@ -1,3 +1,5 @@
 pub mod Members
+pub mod Inserted
+pub mod Places
 pub mod Rising
 pub mod Ties

@@ -1,6 +1,6 @@
 -- The members of a list, what holds of all of them, and what searches find among them.
-use Rattle.std.proofs.Common.{◌≡◌, ℕ, zero, suc, ◌<◌, ◌⊎◌, Bool, true, false, List, [], ◌∷◌, length, get_or, refl, ap, subst, inl, inr, arith, Some, None, map, Contains}
-use Rattle.std.specs.List.{filter, find, list_any, AllByRecursion}
+use Rattle.std.proofs.Common.{◌≡◌, ℕ, zero, suc, ◌<◌, ◌⊎◌, Bool, true, false, List, [], ◌∷◌, ◌++◌, length, get_or, refl, sym, ap, subst, ◌∙◌, inl, inr, arith, Option, Some, None, map, Contains}
+use Rattle.std.specs.List.{filter, filter_map, find, flat_map, list_any, AllByRecursion}
 use Rattle.std.proofs.lemmas.Bool.{cases_Bool, false≢true}
 
 -- x is one of the list
@@ -118,4 +118,67 @@ any_from_in t (y ∷ ys) x (inr h) passes =
     elim (cases_Bool (t y)) [
       | inl here ↦ rw here refl
       | inr away ↦ rw away (any_from_in t ys x h passes)
+    ]
+
+-- ---- lists that are put together
+
+pub in_left : {X : Type 0} (xs ys : List X) (x : X) → In x xs → In x (xs ++ ys)
+in_left [] ys x h = absurd h
+in_left (y ∷ xs) ys x (inl e) = inl e
+in_left (y ∷ xs) ys x (inr h) = inr (in_left xs ys x h)
+
+pub in_right : {X : Type 0} (xs ys : List X) (x : X) → In x ys → In x (xs ++ ys)
+in_right [] ys x h = h
+in_right (y ∷ xs) ys x h = inr (in_right xs ys x h)
+
+pub in_either : {X : Type 0} (xs ys : List X) (x : X) → In x (xs ++ ys) → In x xs ⊎ In x ys
+in_either [] ys x h = inr h
+in_either (y ∷ xs) ys x (inl e) = inl (inl e)
+in_either (y ∷ xs) ys x (inr h) = elim (in_either xs ys x h) [
+  | inl first ↦ inl (inr first)
+  | inr second ↦ inr second
+]
+
+pub in_last : {X : Type 0} (xs : List X) (x : X) → In x (xs ++ x ∷ [])
+in_last xs x = in_right xs (x ∷ []) x (inl refl)
+
+pub from_last : {X : Type 0} (xs : List X) (y x : X) → In x (xs ++ y ∷ []) → In x xs ⊎ (y ≡ x)
+from_last [] y x (inl e) = inr e
+from_last [] y x (inr h) = absurd h
+from_last (z ∷ xs) y x (inl e) = inl (inl e)
+from_last (z ∷ xs) y x (inr h) = elim (from_last xs y x h) [
+  | inl there ↦ inl (inr there)
+  | inr e ↦ inr e
+]
+
+pub in_flat : {X Y : Type 0} (f : X → List Y) (xs : List X) (x : X) (y : Y) → In x xs → In y (f x) → In y (flat_map f xs)
+in_flat f [] x y h there = absurd h
+in_flat f (z ∷ xs) x y (inl e) there = in_left (f z) (flat_map f xs) y (subst (λ q. In y (f q)) (sym e) there)
+in_flat f (z ∷ xs) x y (inr h) there = in_right (f z) (flat_map f xs) y (in_flat f xs x y h there)
+
+pub from_flat : {X Y : Type 0} (f : X → List Y) (xs : List X) (y : Y) → In y (flat_map f xs) → (x : X) × In x xs × In y (f x)
+from_flat f [] y h = absurd h
+from_flat f (z ∷ xs) y h = elim (in_either (f z) (flat_map f xs) y h) [
+  | inl here ↦ (z, inl refl, here)
+  | inr later ↦ let rest = from_flat f xs y later in (rest.0, inr rest.1, rest.2)
+]
+
+pub in_filter_map : {X Y : Type 0} (f : X → Option Y) (xs : List X) (x : X) (y : Y) → In x xs → f x ≡ Some y → In y (filter_map f xs)
+in_filter_map f [] x y h is = absurd h
+in_filter_map f (z ∷ xs) x y (inl e) is = let here : f z ≡ Some y = ap f e ∙ is in rw here (inl refl)
+in_filter_map {Y = Y} f (z ∷ xs) x y (inr h) is = by (f z) refl (in_filter_map f xs x y h is)
+  where
+    by : (o : Option Y) → f z ≡ o → In y (filter_map f xs) → In y (filter_map f (z ∷ xs))
+    by None e rest = rw e rest
+    by (Some w) e rest = rw e (inr rest)
+
+pub from_filter_map : {X Y : Type 0} (f : X → Option Y) (xs : List X) (y : Y) → In y (filter_map f xs) → (x : X) × In x xs × (f x ≡ Some y)
+from_filter_map f [] y h = absurd h
+from_filter_map {X = X} {Y = Y} f (x ∷ xs) y h = by (f x) refl (from_filter_map f xs y)
+  where
+    by : (o : Option Y) → f x ≡ o → (In y (filter_map f xs) → (z : X) × In z xs × (f z ≡ Some y)) → (z : X) × In z (x ∷ xs) × (f z ≡ Some y)
+    by None e rest = let later = rest (rw e at h) in (later.0, inr later.1, later.2)
+    by (Some w) e rest = elim (rw e at h) [
+      | inl same ↦ (x, inl refl, e ∙ ap Some same)
+      | inr there ↦ let later = rest there in (later.0, inr later.1, later.2)
     ]

@@ -1,12 +1,12 @@
 -- What was reached, by rising key, is what is kept.
-use Rattle.std.proofs.Common.{◌≡◌, ◌⊎◌, Bool, true, not, List, [], ◌∷◌, ◌++◌, map, Contains, sym, ap, subst, ◌∙◌, inl, inr}
+use Rattle.std.proofs.Common.{◌≡◌, ◌⊎◌, Bool, true, not, List, ◌++◌, map, Contains, sym, ap, subst, ◌∙◌, inl, inr}
 use Rattle.std.specs.Prelude.{All, IfOk, Result, Ok, Err}
 use Rattle.std.specs.List.{filter}
 use Rattle.std.specs.List.Sorted.{IsPermutation, IsStrictlySortedBy}
 use Rattle.std.proofs.lemmas.Bool.{cases_Bool}
 use Rattle.std.proofs.lemmas.List.Elements.{All-contains, All-from_recursion}
 use Rattle.std.proofs.lemmas.List.Sorted.{Contains-permutation, IsPermutation-sym}
-use Rattle.list_lemmas.proofs.Members.{In, Contains_from_in, all_from_in, from_filter, from_map, in_filter, in_from_Contains, in_map}
+use Rattle.list_lemmas.proofs.Members.{In, Contains_from_in, all_from_in, from_filter, from_map, in_either, in_filter, in_from_Contains, in_left, in_map, in_right}
 use Rattle.mo_types.specs.declared.edge.Edge.{Edge}
 use Rattle.mo_types.specs.declared.key.AtomKey.{AtomKey}
 use Rattle.mo_types.specs.Keys.{compare_keys}
@@ -15,42 +15,6 @@ use Rattle.mark_core.specs.Kept.{IsClosed, IsKept, begins_away, has, leads_away}
 use Rattle.mark_core.specs.inner.Arrows.{arrows, begins_in, end_of, ends_from, reversed}
 use Rattle.mark_core.specs.inner.Reached.{IsReached}
 use Rattle.mark_core.proofs.SetLemmas.{has_from_in, in_from_has}
-
-key_left : (xs ys : List AtomKey) (x : AtomKey) → In x xs → In x (xs ++ ys)
-key_left [] ys x h = absurd h
-key_left (y ∷ xs) ys x (inl e) = inl e
-key_left (y ∷ xs) ys x (inr h) = inr (key_left xs ys x h)
-
-key_right : (xs ys : List AtomKey) (x : AtomKey) → In x ys → In x (xs ++ ys)
-key_right [] ys x h = h
-key_right (y ∷ xs) ys x h = inr (key_right xs ys x h)
-
-key_either : (xs ys : List AtomKey) (x : AtomKey) → In x (xs ++ ys) → In x xs ⊎ In x ys
-key_either [] ys x h = inr h
-key_either (y ∷ xs) ys x (inl e) = inl (inl e)
-key_either (y ∷ xs) ys x (inr h) = elim (key_either xs ys x h) [
-  | inl first ↦ inl (inr first)
-  | inr second ↦ inr second
-]
-
--- ---- arrows
-
-in_left : (xs ys : List Edge) (x : Edge) → In x xs → In x (xs ++ ys)
-in_left [] ys x h = absurd h
-in_left (y ∷ xs) ys x (inl e) = inl e
-in_left (y ∷ xs) ys x (inr h) = inr (in_left xs ys x h)
-
-in_right : (xs ys : List Edge) (x : Edge) → In x ys → In x (xs ++ ys)
-in_right [] ys x h = h
-in_right (y ∷ xs) ys x h = inr (in_right xs ys x h)
-
-in_either : (xs ys : List Edge) (x : Edge) → In x (xs ++ ys) → In x xs ⊎ In x ys
-in_either [] ys x h = inr h
-in_either (y ∷ xs) ys x (inl e) = inl (inl e)
-in_either (y ∷ xs) ys x (inr h) = elim (in_either xs ys x h) [
-  | inl first ↦ inl (inr first)
-  | inr second ↦ inr second
-]
 
 an_edge : (edges supports : List Edge) (edge : Edge) → In edge edges → Contains (arrows edges supports) edge
 unfolding arrows
@@ -80,13 +44,13 @@ pub record AreMarked (edges supports all : List Edge) (roots ends found kept : L
   pub same : (atom : AtomKey) → has kept atom ≡ has (roots ++ found) atom
 
 keep_root : (edges supports all : List Edge) (roots ends found kept : List AtomKey) → AreMarked edges supports all roots ends found kept → (atom : AtomKey) → In atom roots → has kept atom ≡ true
-keep_root edges supports all roots ends found kept marked atom h = marked.same atom ∙ has_from_in (roots ++ found) atom (key_left roots found atom h)
+keep_root edges supports all roots ends found kept marked atom h = marked.same atom ∙ has_from_in (roots ++ found) atom (in_left roots found atom h)
 
 to_kept : (edges supports all : List Edge) (roots ends found kept : List AtomKey) → AreMarked edges supports all roots ends found kept → (atom : AtomKey) → Contains found atom → has kept atom ≡ true
-to_kept edges supports all roots ends found kept marked atom h = marked.same atom ∙ has_from_in (roots ++ found) atom (key_right roots found atom (in_from_Contains found atom h))
+to_kept edges supports all roots ends found kept marked atom h = marked.same atom ∙ has_from_in (roots ++ found) atom (in_right roots found atom (in_from_Contains found atom h))
 
 from_kept : (edges supports all : List Edge) (roots ends found kept : List AtomKey) → AreMarked edges supports all roots ends found kept → (atom : AtomKey) → has kept atom ≡ true → In atom roots ⊎ In atom found
-from_kept edges supports all roots ends found kept marked atom h = key_either roots found atom (in_from_has (roots ++ found) atom (sym (marked.same atom) ∙ h))
+from_kept edges supports all roots ends found kept marked atom h = in_either roots found atom (in_from_has (roots ++ found) atom (sym (marked.same atom) ∙ h))
 
 -- those that were followed are arrows
 followed : (edges supports all : List Edge) (arrow : Edge) → IsPermutation (arrows edges supports) all → Contains all arrow → Contains (arrows edges supports) arrow

@@ -1,10 +1,10 @@
 -- Atoms that arrows lead to.
-use Rattle.std.proofs.Common.{◌≡◌, ℕ, ◌+◌, ◌<◌, ◌≤◌, ◌⊎◌, Bool, true, false, List, [], ◌∷◌, ◌++◌, length, map, take, get_or, Contains, refl, sym, ap, subst, ◌∙◌, inl, inr, arith, append_assoc}
-use Rattle.std.specs.List.{list_any}
-use Rattle.std.proofs.lemmas.List.{append-nil, map-append, take-append-le, take_all, take_more}
+use Rattle.std.proofs.Common.{◌≡◌, ℕ, ◌+◌, ◌<◌, ◌≤◌, ◌⊎◌, Bool, true, List, [], ◌∷◌, ◌++◌, length, map, take, get_or, Contains, sym, ap, subst, ◌∙◌, inl, inr, arith}
+use Rattle.std.proofs.lemmas.List.{map-append, take-append-le, take_all, take_more}
 use Rattle.std.proofs.lemmas.List.Sums.{fold-append}
 use Rattle.indexmap.specs.IndexSet.{insert_all, insert_key}
-use Rattle.list_lemmas.proofs.Members.{In, in_from_Contains, Contains_from_in, any_true, from_map, in_map}
+use Rattle.list_lemmas.proofs.Inserted.{behind, from_inserted, in_inserted, kept_inserted}
+use Rattle.list_lemmas.proofs.Members.{In, in_from_Contains, Contains_from_in, from_last, from_map, in_map}
 use Rattle.mo_types.specs.declared.edge.Edge.{Edge}
 use Rattle.mo_types.specs.declared.key.AtomKey.{AtomKey}
 use Rattle.mark_core.specs.inner.Arrows.{AreFrom, end_of}
@@ -23,68 +23,6 @@ end_one before now new arrows i d within all key =
     key ∙ ap (λ ks. insert_key same_atom ks (end_of (get_or arrows i d))) all
     ∙ sym (ap (insert_all same_atom before) (ap (map end_of) (take_more arrows i d within) ∙ map-append end_of (take i arrows) (get_or arrows i d ∷ [])) ∙ fold-append (insert_key same_atom) before (map end_of (take i arrows)) (end_of (get_or arrows i d) ∷ []))
 
-in_left : (xs ys : List AtomKey) (x : AtomKey) → In x xs → In x (xs ++ ys)
-in_left [] ys x h = absurd h
-in_left (y ∷ xs) ys x (inl e) = inl e
-in_left (y ∷ xs) ys x (inr h) = inr (in_left xs ys x h)
-
-in_last : (xs : List AtomKey) (x : AtomKey) → In x (xs ++ x ∷ [])
-in_last [] x = inl refl
-in_last (y ∷ xs) x = inr (in_last xs x)
-
-from_longer : (xs : List AtomKey) (k x : AtomKey) → In x (xs ++ k ∷ []) → In x xs ⊎ (k ≡ x)
-from_longer [] k x (inl e) = inr e
-from_longer [] k x (inr h) = absurd h
-from_longer (y ∷ xs) k x (inl e) = inl (inl e)
-from_longer (y ∷ xs) k x (inr h) = elim (from_longer xs k x h) [
-  | inl there ↦ inl (inr there)
-  | inr e ↦ inr e
-]
-
-key_kept : (ks : List AtomKey) (k x : AtomKey) (there : Bool) → list_any (same_atom k) ks ≡ there → In x ks → In x (insert_key same_atom ks k)
-key_kept ks k x true is h = rw is h
-key_kept ks k x false is h = rw is (in_left ks (k ∷ []) x h)
-
-key_in : (ks : List AtomKey) (k : AtomKey) (there : Bool) → list_any (same_atom k) ks ≡ there → In k (insert_key same_atom ks k)
-key_in ks k true is =
-    let found : (x : AtomKey) × In x ks × (same_atom k x ≡ true) = any_true (same_atom k) ks is in
-    rw is (subst (λ (n : AtomKey). In n ks) (sym (same_atoms k found.0 found.2)) found.1)
-key_in ks k false is = rw is (in_last ks k)
-
-key_from : (ks : List AtomKey) (k x : AtomKey) (there : Bool) → list_any (same_atom k) ks ≡ there → In x (insert_key same_atom ks k) → In x ks ⊎ (k ≡ x)
-key_from ks k x true is h = inl (rw is at h)
-key_from ks k x false is h = from_longer ks k x (rw is at h)
-
-all_kept : (ks xs : List AtomKey) (x : AtomKey) → In x ks → In x (insert_all same_atom ks xs)
-all_kept ks [] x h = h
-all_kept ks (y ∷ xs) x h = all_kept (insert_key same_atom ks y) xs x (key_kept ks y x (list_any (same_atom y) ks) refl h)
-
-all_in : (ks xs : List AtomKey) (x : AtomKey) → In x xs → In x (insert_all same_atom ks xs)
-all_in ks [] x h = absurd h
-all_in ks (y ∷ xs) x (inl e) = all_kept (insert_key same_atom ks y) xs x (subst (λ (n : AtomKey). In n (insert_key same_atom ks y)) e (key_in ks y (list_any (same_atom y) ks) refl))
-all_in ks (y ∷ xs) x (inr h) = all_in (insert_key same_atom ks y) xs x h
-
-all_from : (ks xs : List AtomKey) (x : AtomKey) → In x (insert_all same_atom ks xs) → In x ks ⊎ In x xs
-all_from ks [] x h = inl h
-all_from ks (y ∷ xs) x h = elim (all_from (insert_key same_atom ks y) xs x h) [
-  | inl there ↦ elim (key_from ks y x (list_any (same_atom y) ks) refl there) [
-    | inl old ↦ inl old
-    | inr e ↦ inr (inl e)
-  ]
-  | inr later ↦ inr (inr later)
-]
-
-key_front : (ks : List AtomKey) (k : AtomKey) (there : Bool) → list_any (same_atom k) ks ≡ there → (rest : List AtomKey) × (insert_key same_atom ks k ≡ ks ++ rest)
-key_front ks k true is = ([], rw is (sym (append-nil ks)))
-key_front ks k false is = (k ∷ [], rw is refl)
-
-all_front : (ks xs : List AtomKey) → (rest : List AtomKey) × (insert_all same_atom ks xs ≡ ks ++ rest)
-all_front ks [] = ([], sym (append-nil ks))
-all_front ks (y ∷ xs) =
-    let first : (rest : List AtomKey) × (insert_key same_atom ks y ≡ ks ++ rest) = key_front ks y (list_any (same_atom y) ks) refl in
-    let later : (rest : List AtomKey) × (insert_all same_atom (insert_key same_atom ks y) xs ≡ insert_key same_atom ks y ++ rest) = all_front (insert_key same_atom ks y) xs in
-    (first.0 ++ later.0, later.1 ∙ ap (λ (front : List AtomKey). front ++ later.0) first.1 ∙ append_assoc ks first.0 later.0)
-
 -- ---- the search
 
 -- what was found, and that the arrows from the first atoms end in what was found
@@ -101,9 +39,9 @@ first_least roots set rooted atom (inr h) = rooted atom (Contains_from_in roots 
 
 starts_with : (all : List Edge) (roots : List AtomKey) → IsReaching all roots (insert_all same_atom [] roots) 0
 starts_with all roots = record {
-  rooted = λ atom h. all_in [] roots atom h;
+  rooted = λ atom h. in_inserted same_atom same_atoms [] roots atom h;
   closed = λ arrow there h. absurd h;
-  least = λ set rooted led atom h. first_least roots set rooted atom (all_from [] roots atom h);
+  least = λ set rooted led atom h. first_least roots set rooted atom (from_inserted same_atom same_atoms [] roots atom h);
 }
 
 pub starts : (all : List Edge) (roots empty found : List AtomKey) → empty ≡ [] → found ≡ insert_all same_atom empty roots → IsReaching all roots found 0
@@ -127,9 +65,9 @@ next_least all group roots found atom set led from old there k (inr h) =
 next_closed : (all group : List Edge) (found : List AtomKey) (at : ℕ) (atom : AtomKey) → AreFrom all atom group
     → ((arrow : Edge) → Contains all arrow → In arrow.from (take at found) → In arrow.to found)
     → (arrow : Edge) → Contains all arrow → In arrow.from (take at found) ⊎ (atom ≡ arrow.from) → In arrow.to (insert_all same_atom found (map end_of group))
-next_closed all group found at atom from closed arrow there (inl h) = all_kept found (map end_of group) arrow.to (closed arrow there h)
+next_closed all group found at atom from closed arrow there (inl h) = kept_inserted same_atom same_atoms found (map end_of group) arrow.to (closed arrow there h)
 next_closed all group found at atom from closed arrow there (inr e) =
-    all_in found (map end_of group) arrow.to (in_ends group arrow (in_from_Contains group arrow (from.each arrow there (sym e))))
+    in_inserted same_atom same_atoms found (map end_of group) arrow.to (in_ends group arrow (in_from_Contains group arrow (from.each arrow there (sym e))))
 
 front_more : (found rest : List AtomKey) (at : ℕ) (atom : AtomKey) → at < length found → get_or found at atom ≡ atom → take (at + 1) (found ++ rest) ≡ take at found ++ atom ∷ []
 front_more found rest at atom low is =
@@ -138,13 +76,13 @@ front_more found rest at atom low is =
 
 next_with : (all group : List Edge) (roots found : List AtomKey) (at : ℕ) (atom : AtomKey) → IsReaching all roots found at → at < length found → get_or found at atom ≡ atom → AreFrom all atom group → IsReaching all roots (insert_all same_atom found (map end_of group)) (at + 1)
 next_with all group roots found at atom reaching low is from =
-    let front : (rest : List AtomKey) × (insert_all same_atom found (map end_of group) ≡ found ++ rest) = all_front found (map end_of group) in
+    let front : (rest : List AtomKey) × (insert_all same_atom found (map end_of group) ≡ found ++ rest) = behind same_atom same_atoms found (map end_of group) in
     let first : take (at + 1) (insert_all same_atom found (map end_of group)) ≡ take at found ++ atom ∷ [] = ap (take (at + 1)) front.1 ∙ front_more found front.0 at atom low is in
     let there : In atom found = in_from_Contains found atom (at, low, is) in
     record {
-      rooted = λ k h. all_kept found (map end_of group) k (reaching.rooted k h);
-      closed = λ arrow in_all h. next_closed all group found at atom from reaching.closed arrow in_all (from_longer (take at found) atom arrow.from (subst (λ (ks : List AtomKey). In arrow.from ks) first h));
-      least = λ set rooted led k h. next_least all group roots found atom set led from (reaching.least set rooted led) there k (all_from found (map end_of group) k h);
+      rooted = λ k h. kept_inserted same_atom same_atoms found (map end_of group) k (reaching.rooted k h);
+      closed = λ arrow in_all h. next_closed all group found at atom from reaching.closed arrow in_all (from_last (take at found) atom arrow.from (subst (λ (ks : List AtomKey). In arrow.from ks) first h));
+      least = λ set rooted led k h. next_least all group roots found atom set led from (reaching.least set rooted led) there k (from_inserted same_atom same_atoms found (map end_of group) k h);
     }
 
 pub next : (all group : List Edge) (roots found new : List AtomKey) (at : ℕ) (atom : AtomKey) → IsReaching all roots found at → at < length found → get_or found at atom ≡ atom → AreFrom all atom group → new ≡ insert_all same_atom found (map end_of group) → IsReaching all roots new (at + 1)

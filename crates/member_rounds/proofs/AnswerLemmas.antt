@@ -3,7 +3,7 @@ use Rattle.std.proofs.Common.{◌≡◌, ℕ, zero, suc, ◌+◌, ◌<◌, ◌�
 use Rattle.std.proofs.Math.Nat.{le_refl}
 use Rattle.std.specs.List.{range_with_len}
 use Rattle.std.specs.Result.{result_err, result_ok}
-use Rattle.list_lemmas.proofs.Members.{In, in_filter, in_from_Contains, Contains_from_in}
+use Rattle.list_lemmas.proofs.Members.{In, in_filter, in_from_Contains, Contains_from_in, from_filter_map, in_filter_map}
 use Rattle.mo_types.specs.Scan.{first_some}
 use Rattle.mo_types.specs.declared.key.FileId.{FileId}
 use Rattle.mo_types.specs.declared.loaded.Loaded.{Loaded}
@@ -15,7 +15,6 @@ use Rattle.member_rounds.specs.Rounds.{asks, files_of, is_first, loaded_ids, loa
 use Rattle.member_rounds.specs.declared.fault.RoundFault.{RoundFault}
 use Rattle.member_rounds.specs.declared.input.Input.{Input}
 use Rattle.member_rounds.proofs.GrowthLemmas.{in_from_has, round_ends}
-use Rattle.member_rounds.proofs.RoundLemmas.{from_filter_map, in_filter_map}
 
 none_at : {A B : Type 0} (f : A → Option B) (xs : List A) (x : A) → first_some f xs ≡ None → In x xs → f x ≡ None
 none_at f [] x none there = absurd there

@@ -8,7 +8,7 @@ use Rattle.std.proofs.lemmas.List.{length-map, take_all, take_more}
 use Rattle.std.proofs.lemmas.List.Concat.{flat_map-append}
 use Rattle.std.proofs.lemmas.Map.Made.{length-le_from_is_member}
 use Rattle.std.proofs.lemmas.Slice.Eq.{bytes_eq-Decides}
-use Rattle.list_lemmas.proofs.Members.{In, any_from_in}
+use Rattle.list_lemmas.proofs.Members.{In, any_from_in, in_either, in_left, in_right}
 use Rattle.mo_types.specs.declared.answer.Refusal.TheVariants as refusal
 use Rattle.mo_types.specs.declared.cause.Which.TheVariants as which
 use Rattle.mo_types.specs.declared.loaded.LoadedFile.{LoadedFile}
@@ -19,7 +19,6 @@ use Rattle.name_ids.proofs.Once.{distinct}
 use Rattle.member_rounds.specs.Rounds.{names_fault}
 use Rattle.member_rounds.specs.declared.fault.RoundFault.TheVariants.{Refused}
 use Rattle.member_rounds.proofs.StateLemmas.{in_numbered, named_in}
-use Rattle.member_rounds.proofs.WorkLemmas.{in_either, in_left, in_right}
 
 few_pass : {X : Type 0} (p : X → Bool) (xs : List X) → length (filter p xs) ≤ length xs
 few_pass p [] = omega arith

@@ -5,7 +5,7 @@ use Rattle.std.specs.List.Sorted.{IsStrictlySortedBy}
 use Rattle.std.specs.Ordering.{nat_cmp}
 use Rattle.std.specs.declared.cmp.Ordering.TheVariants.{Less}
 use Rattle.std.proofs.lemmas.Cmp.{nat_cmp_total, tied_itself}
-use Rattle.list_lemmas.proofs.Members.{In, all_from_in, all_in, from_map, in_map}
+use Rattle.list_lemmas.proofs.Members.{In, all_from_in, all_in, from_map, in_map, from_flat}
 use Rattle.mo_types.specs.Keys.{compare_files}
 use Rattle.mo_types.specs.Kind.{kind_of}
 use Rattle.mo_types.specs.Gives.{◌>>=◌}
@@ -27,7 +27,6 @@ use Rattle.member_rounds.specs.Sources.{AreInOrder}
 use Rattle.member_rounds.specs.declared.fault.RoundFault.{RoundFault}
 use Rattle.member_rounds.specs.declared.fault.RoundFault.TheVariants as rounds
 use Rattle.member_rounds.specs.declared.input.Input.{Input}
-use Rattle.member_rounds.proofs.WorkLemmas.{from_flat}
 
 -- ---- archives
 

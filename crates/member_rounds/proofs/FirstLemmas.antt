@@ -11,7 +11,7 @@ use Rattle.std.proofs.lemmas.List.{map-append}
 use Rattle.std.proofs.lemmas.List.Elements.{filter-append}
 use Rattle.std.proofs.lemmas.List.Kept.{IsStrictlySortedBy-filter}
 use Rattle.std.proofs.lemmas.List.Sorted.{All-permutation, IsPermutation-filter_both}
-use Rattle.list_lemmas.proofs.Members.{In, all_in, any_from_in, from_filter, from_map, in_filter, in_map}
+use Rattle.list_lemmas.proofs.Members.{In, all_in, any_from_in, from_filter, from_map, in_filter, in_map, in_either}
 use Rattle.mo_types.specs.Gives.{◌>>=◌}
 use Rattle.mo_types.specs.Keys.{compare_files}
 use Rattle.mo_types.specs.Loaded.{IsWholeFile}
@@ -31,7 +31,6 @@ use Rattle.member_rounds.proofs.FileLemmas.{few_ids, id_kept, ids_rise}
 use Rattle.member_rounds.proofs.PlaceLemmas.{other_position}
 use Rattle.member_rounds.proofs.StateLemmas.{all_from, all_has, each_ok}
 use Rattle.member_rounds.proofs.StepLemmas.{in_order}
-use Rattle.member_rounds.proofs.WorkLemmas.{in_either}
 
 -- ---- the input of a file
 

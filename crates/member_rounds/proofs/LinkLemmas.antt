@@ -9,7 +9,7 @@ use Rattle.std.proofs.lemmas.List.{take-append-drop}
 use Rattle.std.proofs.lemmas.List.Sorted.{All-permutation, IsPermutation-refl}
 use Rattle.std.proofs.lemmas.Map.Made.{length-le_from_is_member}
 use Rattle.std.proofs.lemmas.Slice.Eq.{bytes_eq-Decides}
-use Rattle.list_lemmas.proofs.Members.{In, any_from_in}
+use Rattle.list_lemmas.proofs.Members.{In, any_from_in, in_either, in_left, in_right}
 use Rattle.list_lemmas.proofs.Rising.{rising_at}
 use Rattle.mo_types.specs.Keys.{compare_files}
 use Rattle.mo_types.specs.Loaded.{IsWholeFile, IsWholeLoaded}
@@ -36,7 +36,7 @@ use Rattle.member_rounds.proofs.LowLemmas.{low_at}
 use Rattle.member_rounds.proofs.SettledLemmas.{none_settled}
 use Rattle.member_rounds.proofs.StateLemmas.{all_from, all_has, named_in, union_rises}
 use Rattle.member_rounds.proofs.StepLemmas.{ends_early, ends_late, in_order, names_fail, next_round, read_fails, sorted_rises}
-use Rattle.member_rounds.proofs.WorkLemmas.{fresh_in, from_all, in_either, in_left, in_right}
+use Rattle.member_rounds.proofs.WorkLemmas.{fresh_in, from_all}
 
 -- ---- files that can be read
 

@@ -2,7 +2,7 @@
 use Rattle.std.proofs.Common.{◌≡◌, ℕ, ◌+◌, ◌≤◌, ◌^◌, ◌==◌, ◌&&◌, ◌||◌, Bool, true, false, not, nat_lt, List, [], ◌∷◌, All, Option, Some, None, Result, Ok, Err, length, min, inl, inr, refl, sym, ap, subst, ◌∙◌, arith, if◌then◌else◌}
 use Rattle.std.specs.Int.{w64, trailing_zeros}
 use Rattle.std.proofs.lemmas.Bool.{cases_Bool, false≢true, ltb-false}
-use Rattle.list_lemmas.proofs.Members.{In, any_from_in}
+use Rattle.list_lemmas.proofs.Members.{In, any_from_in, in_either}
 use Rattle.mo_types.specs.Atoms.{align_at, atoms_from, atoms_of, cuts, piece, pieces, section_atoms}
 use Rattle.mo_types.specs.Gives.{◌>>=◌, guarded}
 use Rattle.mo_types.specs.Kind.{kind_of}
@@ -28,7 +28,6 @@ use Rattle.member_rounds.specs.Form.{is_later}
 use Rattle.member_rounds.specs.declared.input.Input.{Input}
 use Rattle.member_rounds.proofs.FileLemmas.{read_formed}
 use Rattle.member_rounds.proofs.StateLemmas.{all_from}
-use Rattle.member_rounds.proofs.WorkLemmas.{in_either}
 
 -- ---- an object's sections
 

@@ -5,7 +5,7 @@ use Rattle.std.specs.List.Sorted.{IsStrictlySortedBy}
 use Rattle.std.specs.Ordering.{on}
 use Rattle.std.specs.Result.{result_ok}
 use Rattle.std.specs.declared.cmp.Ordering.TheVariants.{Less}
-use Rattle.list_lemmas.proofs.Members.{all_from_in, all_in}
+use Rattle.list_lemmas.proofs.Members.{all_from_in, all_in, from_filter_map}
 use Rattle.list_lemmas.proofs.Rising.{rising_at}
 use Rattle.mo_types.specs.Keys.{compare_files}
 use Rattle.mo_types.specs.Loaded.{IsBefore}
@@ -20,7 +20,6 @@ use Rattle.member_rounds.specs.declared.fault.RoundFault.{RoundFault}
 use Rattle.member_rounds.specs.declared.input.Input.{Input}
 use Rattle.member_rounds.proofs.AnswerLemmas.{faultless, ok_back}
 use Rattle.member_rounds.proofs.FileLemmas.{id_kept, ids_rise}
-use Rattle.member_rounds.proofs.RoundLemmas.{from_filter_map}
 use Rattle.member_rounds.proofs.StateLemmas.{union_rises}
 
 files_rise : (inputs : List Input) (ids : List FileId) → IsStrictlySortedBy compare_files ids → IsStrictlySortedBy (on (λ (f : LoadedFile). f.id) compare_files) (files_of inputs ids)

@@ -1,8 +1,7 @@
 -- The files that a link loads, by what names ask for.
-use Rattle.std.proofs.Common.{◌≡◌, ℕ, ◌<◌, ◌≤◌, ◌⊎◌, Bool, true, false, List, [], ◌∷◌, Contains, Option, Some, None, nat_lt, refl, sym, ap, ◌∙◌, inl, inr}
-use Rattle.std.specs.List.{filter_map}
+use Rattle.std.proofs.Common.{◌≡◌, ℕ, ◌<◌, ◌≤◌, ◌⊎◌, Bool, true, false, List, Contains, Option, Some, None, nat_lt, refl, inl, inr}
 use Rattle.std.proofs.lemmas.Bool.{ltb-false}
-use Rattle.list_lemmas.proofs.Members.{In, in_from_Contains, Contains_from_in}
+use Rattle.list_lemmas.proofs.Members.{in_from_Contains, Contains_from_in, from_filter_map, in_filter_map}
 use Rattle.mo_types.specs.Scan.{first_some}
 use Rattle.mo_types.specs.declared.key.FileId.{FileId}
 use Rattle.lib_bind.specs.Provides.{offer_of}
@@ -12,27 +11,6 @@ use Rattle.member_rounds.specs.Files.{all_ids}
 use Rattle.member_rounds.specs.Rounds.{asked_by, asked_ids, asks, files_of, is_first, is_header, loaded_ids, missing_names, offer_in, round, unless_before}
 use Rattle.member_rounds.specs.declared.input.Input.{Input}
 use Rattle.member_rounds.proofs.GrowthLemmas.{has_from_in, in_from_has, round_closed, round_reason}
-
-pub in_filter_map : {X Y : Type 0} (f : X → Option Y) (xs : List X) (x : X) (y : Y) → In x xs → f x ≡ Some y → In y (filter_map f xs)
-in_filter_map f [] x y there is = absurd there
-in_filter_map {X = X} {Y = Y} f (z ∷ xs) x y there is = by (λ later. in_filter_map f xs x y later is) there (f z) refl
-  where
-    by : (In x xs → In y (filter_map f xs)) → In x (z ∷ xs) → (o : Option Y) → f z ≡ o → In y (filter_map f (z ∷ xs))
-    by rest (inl e) (Some v) o = rw o (inl (let s : Some v ≡ Some y = sym o ∙ ap f e ∙ is in cc))
-    by rest (inl e) None o = absurd (let s : None ≡ Some y = sym o ∙ ap f e ∙ is in cc)
-    by rest (inr later) (Some v) o = rw o (inr (rest later))
-    by rest (inr later) None o = rw o (rest later)
-
-pub from_filter_map : {X Y : Type 0} (f : X → Option Y) (xs : List X) (y : Y) → In y (filter_map f xs) → (x : X) × In x xs × (f x ≡ Some y)
-from_filter_map f [] y there = absurd there
-from_filter_map {X = X} {Y = Y} f (z ∷ xs) y there = by (λ later. from_filter_map f xs y later) (f z) refl
-  where
-    by : (In y (filter_map f xs) → (x : X) × In x xs × (f x ≡ Some y)) → (o : Option Y) → f z ≡ o → (x : X) × In x (z ∷ xs) × (f x ≡ Some y)
-    by rest (Some v) o = elim (let h : In y (v ∷ filter_map f xs) = rw o at there in h) [
-      | inl e ↦ (z, inl refl, o ∙ ap Some e)
-      | inr later ↦ let r = rest later in (r.0, inr r.1, r.2)
-    ]
-    by rest None o = let r = rest (rw o at there) in (r.0, inr r.1, r.2)
 
 asks_for : (inputs : List Input) (libs : LibraryGraph) (wanted : List (List ℕ)) (ids : List FileId) (name : List ℕ) (id : FileId) → Contains (missing_names (files_of inputs ids) wanted) name → asked_by inputs libs name ≡ Some id → asks inputs libs wanted ids id ≡ true
 unfolding asks asked_ids

@@ -7,7 +7,7 @@ use Rattle.std.proofs.lemmas.List.{take_all, take_more}
 use Rattle.std.proofs.lemmas.List.Concat.{flat_map-append}
 use Rattle.std.proofs.lemmas.List.Folds.{list_any-append}
 use Rattle.std.proofs.lemmas.Slice.Eq.{bytes_eq-Decides}
-use Rattle.list_lemmas.proofs.Members.{In, any_from_in, any_true, from_filter, in_filter}
+use Rattle.list_lemmas.proofs.Members.{In, any_from_in, any_true, from_filter, in_filter, from_filter_map, in_filter_map}
 use Rattle.mo_types.specs.Candidates.{candidates}
 use Rattle.mo_types.specs.Scan.{first_some}
 use Rattle.mo_types.specs.declared.key.FileId.{FileId}
@@ -20,7 +20,6 @@ use Rattle.member_rounds.specs.declared.input.Input.{Input}
 use Rattle.member_rounds.specs.inner.Working.{AreSettled, HaveAsked, asked_of, lists, undefined_name, undefined_of}
 use Rattle.member_rounds.proofs.AskLemmas.{asks_none}
 use Rattle.member_rounds.proofs.GrowthLemmas.{has_from_in, in_from_has}
-use Rattle.member_rounds.proofs.RoundLemmas.{from_filter_map, in_filter_map}
 use Rattle.member_rounds.proofs.SetLemmas.{if_or, turned}
 use Rattle.member_rounds.proofs.WorkLemmas.{and_true, not_from, not_true, or_cases, same_tests}
 

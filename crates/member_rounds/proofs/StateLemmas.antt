@@ -10,7 +10,7 @@ use Rattle.std.proofs.lemmas.List.Kept.{IsStrictlySortedBy-filter}
 use Rattle.std.proofs.lemmas.List.Sorted.{IsPermutation-refl, IsPermutation-filter_both, IsPermutation-append, IsPermutation-trans, IsPermutation-sym, Contains-permutation}
 use Rattle.std.proofs.lemmas.Map.Made.{length-from_same_keys}
 use Rattle.std.proofs.lemmas.Slice.Eq.{bytes_eq-Decides}
-use Rattle.list_lemmas.proofs.Members.{In, in_from_Contains, Contains_from_in, any_from_in, any_true, from_map, in_map, all_in}
+use Rattle.list_lemmas.proofs.Members.{In, in_from_Contains, Contains_from_in, any_from_in, any_true, from_map, in_map, all_in, from_filter_map, from_flat, in_either, in_filter_map, in_flat, in_left, in_right}
 use Rattle.list_lemmas.proofs.Rising.{rising_same}
 use Rattle.mo_types.proofs.KeyOrder.{compare_files_total}
 use Rattle.mo_types.specs.Gives.{◌>>=◌}
@@ -29,8 +29,7 @@ use Rattle.member_rounds.specs.declared.fault.RoundFault.{RoundFault}
 use Rattle.member_rounds.specs.declared.input.Input.{Input}
 use Rattle.member_rounds.specs.inner.Working.{AreKept, before, read_each}
 use Rattle.member_rounds.proofs.GrowthLemmas.{has_from_in, in_from_has}
-use Rattle.member_rounds.proofs.RoundLemmas.{from_filter_map, in_filter_map}
-use Rattle.member_rounds.proofs.WorkLemmas.{kept_files, same_candidates, same_tests, in_either, in_left, in_right, in_flat, from_flat}
+use Rattle.member_rounds.proofs.WorkLemmas.{kept_files, same_candidates, same_tests}
 
 -- ---- members
 

@@ -3,7 +3,7 @@ use Rattle.std.proofs.Common.{◌≡◌, ℕ, zero, suc, ◌⊎◌, ◌&&◌, �
 use Rattle.std.specs.List.{flat_map}
 use Rattle.std.specs.Result.{result_ok}
 use Rattle.std.specs.Str.{bytes_eq}
-use Rattle.list_lemmas.proofs.Members.{In, any_from_in, any_true, from_filter, in_filter}
+use Rattle.list_lemmas.proofs.Members.{In, any_from_in, any_true, from_filter, in_filter, from_flat, in_either, in_flat, in_left, in_right, from_filter_map, in_filter_map}
 use Rattle.mo_types.specs.Candidates.{Candidate, candidates, candidates_of}
 use Rattle.mo_types.specs.declared.key.FileId.{FileId}
 use Rattle.mo_types.specs.declared.loaded.LoadedFile.{LoadedFile}
@@ -14,38 +14,8 @@ use Rattle.member_rounds.specs.Rounds.{asked_by, asked_ids, asks, files_of, has_
 use Rattle.member_rounds.specs.declared.input.Input.{Input}
 use Rattle.member_rounds.specs.inner.Working.{asked_of, first_names}
 use Rattle.member_rounds.proofs.GrowthLemmas.{has_from_in, in_from_has}
-use Rattle.member_rounds.proofs.RoundLemmas.{from_filter_map, in_filter_map}
 
 -- ---- members
-
-pub in_left : {X : Type 0} (xs ys : List X) (x : X) → In x xs → In x (xs ++ ys)
-in_left [] ys x there = absurd there
-in_left (z ∷ xs) ys x (inl e) = inl e
-in_left (z ∷ xs) ys x (inr later) = inr (in_left xs ys x later)
-
-pub in_right : {X : Type 0} (xs ys : List X) (x : X) → In x ys → In x (xs ++ ys)
-in_right [] ys x there = there
-in_right (z ∷ xs) ys x there = inr (in_right xs ys x there)
-
-pub in_either : {X : Type 0} (xs ys : List X) (x : X) → In x (xs ++ ys) → In x xs ⊎ In x ys
-in_either [] ys x there = inr there
-in_either (z ∷ xs) ys x (inl e) = inl (inl e)
-in_either (z ∷ xs) ys x (inr later) = elim (in_either xs ys x later) [
-  | inl l ↦ inl (inr l)
-  | inr r ↦ inr r
-]
-
-pub in_flat : {X Y : Type 0} (f : X → List Y) (xs : List X) (x : X) (y : Y) → In x xs → In y (f x) → In y (flat_map f xs)
-in_flat f [] x y there here = absurd there
-in_flat {Y = Y} f (z ∷ xs) x y (inl e) here = in_left (f z) (flat_map f xs) y (subst (λ z'. In y (f z')) (sym e) here)
-in_flat f (z ∷ xs) x y (inr later) here = in_right (f z) (flat_map f xs) y (in_flat f xs x y later here)
-
-pub from_flat : {X Y : Type 0} (f : X → List Y) (xs : List X) (y : Y) → In y (flat_map f xs) → (x : X) × In x xs × In y (f x)
-from_flat f [] y there = absurd there
-from_flat f (z ∷ xs) y there = elim (in_either (f z) (flat_map f xs) y there) [
-  | inl here ↦ (z, inl refl, here)
-  | inr later ↦ let r = from_flat f xs y later in (r.0, inr r.1, r.2)
-]
 
 pub filter_again : {X : Type 0} (p q r : X → Bool) (xs : List X) → ((x : X) → In x xs → (q x && p x) ≡ r x) → filter p (filter q xs) ≡ filter r xs
 filter_again p q r [] same = refl

@@ -7,7 +7,8 @@ use Rattle.std.proofs.lemmas.List.{take_min}
 use Rattle.std.proofs.lemmas.Map.Made.{AllPairs-from_IsDistinct}
 use Rattle.std.proofs.lemmas.Slice.Eq.{bytes_eq-Decides}
 use Rattle.indexmap.specs.IndexSet.{insert_all, insert_key}
-use Rattle.list_lemmas.proofs.Members.{In, in_from_Contains, Contains_from_in, any_true}
+use Rattle.list_lemmas.proofs.Inserted.{from_inserted, in_inserted}
+use Rattle.list_lemmas.proofs.Members.{In, in_from_Contains, Contains_from_in}
 use Rattle.name_ids.specs.Names.{numbered}
 
 not_true : (b : Bool) → (b ≡ true → ⊥) → b ≡ false
@@ -78,57 +79,12 @@ back names id name is =
 
 -- ---- just the names of the list
 
-in_last : (ks : List (List ℕ)) (k : List ℕ) → In k (ks ++ k ∷ [])
-in_last [] k = inl refl
-in_last (x ∷ ks) k = inr (in_last ks k)
-
-in_longer : (ks : List (List ℕ)) (k name : List ℕ) → In name ks → In name (ks ++ k ∷ [])
-in_longer [] k name h = absurd h
-in_longer (x ∷ ks) k name (inl e) = inl e
-in_longer (x ∷ ks) k name (inr h) = inr (in_longer ks k name h)
-
-from_longer : (ks : List (List ℕ)) (k name : List ℕ) → In name (ks ++ k ∷ []) → In name ks ⊎ (k ≡ name)
-from_longer [] k name (inl e) = inr e
-from_longer [] k name (inr h) = absurd h
-from_longer (x ∷ ks) k name (inl e) = inl (inl e)
-from_longer (x ∷ ks) k name (inr h) = elim (from_longer ks k name h) [
-  | inl there ↦ inl (inr there)
-  | inr e ↦ inr e
-]
-
-step_all : (ks : List (List ℕ)) (k name : List ℕ) (there : Bool) → list_any (bytes_eq k) ks ≡ there → In name ks ⊎ (k ≡ name) → In name (insert_key bytes_eq ks k)
-step_all ks k name true is (inl h) = rw is h
-step_all ks k name true is (inr e) =
-    let found : (x : List ℕ) × In x ks × (bytes_eq k x ≡ true) = any_true (bytes_eq k) ks is in
-    let same : found.0 ≡ name = sym ((bytes_eq-Decides k found.0).0 found.2) ∙ e in
-    rw is (subst (λ (n : List ℕ). In n ks) same found.1)
-step_all ks k name false is (inl h) = rw is (in_longer ks k name h)
-step_all ks k name false is (inr e) = rw is (subst (λ (n : List ℕ). In n (ks ++ k ∷ [])) e (in_last ks k))
-
-step_only : (ks : List (List ℕ)) (k name : List ℕ) (there : Bool) → list_any (bytes_eq k) ks ≡ there → In name (insert_key bytes_eq ks k) → In name ks ⊎ (k ≡ name)
-step_only ks k name true is h = inl (rw is at h)
-step_only ks k name false is h = from_longer ks k name (rw is at h)
-
-in_all : (ks xs : List (List ℕ)) (name : List ℕ) → In name ks ⊎ In name xs → In name (insert_all bytes_eq ks xs)
-in_all ks [] name (inl h) = h
-in_all ks [] name (inr h) = absurd h
-in_all ks (x ∷ xs) name (inl h) = in_all (insert_key bytes_eq ks x) xs name (inl (step_all ks x name (list_any (bytes_eq x) ks) refl (inl h)))
-in_all ks (x ∷ xs) name (inr (inl e)) = in_all (insert_key bytes_eq ks x) xs name (inl (step_all ks x name (list_any (bytes_eq x) ks) refl (inr e)))
-in_all ks (x ∷ xs) name (inr (inr h)) = in_all (insert_key bytes_eq ks x) xs name (inr h)
-
-from_all : (ks xs : List (List ℕ)) (name : List ℕ) → In name (insert_all bytes_eq ks xs) → In name ks ⊎ In name xs
-from_all ks [] name h = inl h
-from_all ks (x ∷ xs) name h = elim (from_all (insert_key bytes_eq ks x) xs name h) [
-  | inl there ↦ elim (step_only ks x name (list_any (bytes_eq x) ks) refl there) [
-    | inl old ↦ inl old
-    | inr e ↦ inr (inl e)
-  ]
-  | inr later ↦ inr (inr later)
-]
+same_name : (a b : List ℕ) → bytes_eq a b ≡ true → a ≡ b
+same_name a b = (bytes_eq-Decides a b).0
 
 pub all : (names : List (List ℕ)) (name : List ℕ) → Contains names name → Contains (numbered names) name
 unfolding numbered
-all names name h = Contains_from_in (insert_all bytes_eq [] names) name (in_all [] names name (inr (in_from_Contains names name h)))
+all names name h = Contains_from_in (insert_all bytes_eq [] names) name (in_inserted bytes_eq same_name [] names name (in_from_Contains names name h))
 
 only_listed : (names : List (List ℕ)) (name : List ℕ) → In name [] ⊎ In name names → Contains names name
 only_listed names name (inl h) = absurd h
@@ -136,7 +92,7 @@ only_listed names name (inr h) = Contains_from_in names name h
 
 pub only : (names : List (List ℕ)) (name : List ℕ) → Contains (numbered names) name → Contains names name
 unfolding numbered
-only names name h = only_listed names name (from_all [] names name (in_from_Contains (insert_all bytes_eq [] names) name h))
+only names name h = only_listed names name (from_inserted bytes_eq same_name [] names name (in_from_Contains (insert_all bytes_eq [] names) name h))
 
 pub ruleset numbers = (once, back, all, only)
 

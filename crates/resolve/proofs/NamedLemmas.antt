@@ -2,7 +2,7 @@
 use Rattle.std.proofs.Common.{◌≡◌, ℕ, ◌+◌, ◌⊎◌, Bool, true, false, ◌&&◌, List, [], ◌∷◌, ◌++◌, Contains, length, nat_lt, ◌^◌, Ok, Err, refl, ap, subst, inl, inr}
 use Rattle.std.specs.List.{enumerate_from, filter_map}
 use Rattle.std.proofs.lemmas.List.Elements.{All-from_recursion}
-use Rattle.list_lemmas.proofs.Members.{In, Contains_from_in, all_from_in}
+use Rattle.list_lemmas.proofs.Members.{In, Contains_from_in, all_from_in, in_either, in_left, in_right}
 use Rattle.mo_types.specs.Candidates.{Candidate, candidate_at, candidates, candidates_of, is_candidate, has_place}
 use Rattle.mo_types.specs.declared.loaded.LoadedFile.{LoadedFile}
 use Rattle.mo_types.specs.declared.object.Symbol.{Symbol}
@@ -10,23 +10,6 @@ use Rattle.name_ids.specs.Names.{external_names, external_of, gathered, limited,
 use Rattle.name_ids.specs.declared.fault.GatherFault.TheVariants.{Names}
 use Rattle.name_ids.proofs.Once.{all}
 use Rattle.resolve.specs.Found.{AreNamed}
-
-in_first : {X : Type 0} (x : X) (xs ys : List X) → In x xs → In x (xs ++ ys)
-in_first x [] ys h = absurd h
-in_first x (z ∷ xs) ys (inl e) = inl e
-in_first x (z ∷ xs) ys (inr h) = inr (in_first x xs ys h)
-
-in_second : {X : Type 0} (x : X) (xs ys : List X) → In x ys → In x (xs ++ ys)
-in_second x [] ys h = h
-in_second x (z ∷ xs) ys h = inr (in_second x xs ys h)
-
-pub in_either : {X : Type 0} (x : X) (xs ys : List X) → In x (xs ++ ys) → In x xs ⊎ In x ys
-in_either x [] ys h = inr h
-in_either x (z ∷ xs) ys (inl e) = inl (inl e)
-in_either x (z ∷ xs) ys (inr h) = elim (in_either x xs ys h) [
-  | inl a ↦ inl (inr a)
-  | inr b ↦ inr b
-]
 
 both : (a b : Bool) → (a && b) ≡ true → a ≡ true
 both true b e = refl
@@ -64,16 +47,16 @@ in_file file n (symbol ∷ symbols) c h = by (λ later. in_file file (n + 1) sym
 in_files : (files : List LoadedFile) (c : Candidate) → In c (candidates files) → In c.symbol.name (external_names files)
 unfolding candidates external_names candidates_of
 in_files [] c h = absurd h
-in_files (file ∷ files) c h = elim (in_either c (candidates_of file) (candidates files) h) [
-  | inl here ↦ in_first c.symbol.name (external_of file.object.symbols) (external_names files) (in_file file 0 file.object.symbols c here)
-  | inr rest ↦ in_second c.symbol.name (external_of file.object.symbols) (external_names files) (in_files files c rest)
+in_files (file ∷ files) c h = elim (in_either (candidates_of file) (candidates files) c h) [
+  | inl here ↦ in_left (external_of file.object.symbols) (external_names files) c.symbol.name (in_file file 0 file.object.symbols c here)
+  | inr rest ↦ in_right (external_of file.object.symbols) (external_names files) c.symbol.name (in_files files c rest)
 ]
 
 pub are_named : (files : List LoadedFile) (extra : List (List ℕ)) → AreNamed (numbered (external_names files ++ extra)) files
 are_named files extra = All-from_recursion (λ (c : Candidate). Contains (numbered (external_names files ++ extra)) c.symbol.name) (candidates files)
     (all_from_in (λ (c : Candidate). Contains (numbered (external_names files ++ extra)) c.symbol.name) (candidates files)
     (λ c h. all (external_names files ++ extra) c.symbol.name
-    (Contains_from_in (external_names files ++ extra) c.symbol.name (in_first c.symbol.name (external_names files) extra (in_files files c h)))))
+    (Contains_from_in (external_names files ++ extra) c.symbol.name (in_left (external_names files) extra c.symbol.name (in_files files c h)))))
 
 limited_is : (all names : List (List ℕ)) → limited all ≡ Ok names → all ≡ names
 limited_is all names is = by (nat_lt (length all) (2 ^ 24)) refl

@@ -10,7 +10,7 @@ use Rattle.std.specs.Cmp.{nat_cmp_is}
 use Rattle.std.proofs.lemmas.Bool.{eqb-true, eq-eqb}
 use Rattle.std.proofs.lemmas.Cmp.{tied_itself}
 use Rattle.std.proofs.lemmas.Slice.Eq.{bytes_eq-Decides}
-use Rattle.list_lemmas.proofs.Members.{In, Contains_from_in, all_from_in, all_in, from_filter, in_filter, in_from_Contains}
+use Rattle.list_lemmas.proofs.Members.{In, Contains_from_in, all_from_in, all_in, from_filter, in_filter, in_from_Contains, in_either}
 use Rattle.mo_types.specs.declared.atom.Atom.{Atom}
 use Rattle.mo_types.specs.declared.key.AtomKey.{AtomKey}
 use Rattle.mo_types.specs.declared.key.FileId.{FileId}
@@ -28,7 +28,6 @@ use Rattle.atom_cut.specs.Laws as cut_laws
 use Rattle.atom_cut.proofs.KeyLemmas.{atoms_rise}
 use Rattle.resolve.specs.inner.Literals.{AreInOrder, literal_key as key_in}
 use Rattle.resolve.specs.Representatives.{representatives_of, IsRepresentative, Literal, is_same, literal_at, literals, literals_in, is_literal, representative_among, representative_of}
-use Rattle.resolve.proofs.NamedLemmas.{in_either}
 
 -- ---- literals that are the same
 
@@ -94,7 +93,7 @@ joined : (xs ys : List Literal) → InOrder xs → InOrder ys → ((x y : Litera
 unfolding InOrder
 joined [] ys h k across = k
 joined (x ∷ xs) ys h k across = (
-  all_from_in (Precedes x) (xs ++ ys) (λ y there. elim (in_either y xs ys there) [
+  all_from_in (Precedes x) (xs ++ ys) (λ y there. elim (in_either xs ys y there) [
     | inl first ↦ all_in (Precedes x) xs y h.0 first
     | inr second ↦ across x y (inl refl) second
   ]),
@@ -135,7 +134,7 @@ section_of_file object file number section atom h = by (is_dropped section) refl
 
 sections_of_file : (object : Object) (file : FileId) (number : ℕ) (sections : List Section) (atom : Atom) → In atom (atoms_from object file number sections) → atom.key.file ≡ file
 sections_of_file object file number [] atom h = absurd h
-sections_of_file object file number (section ∷ sections) atom h = elim (in_either atom (section_atoms object file number section) (atoms_from object file (number + 1) sections) h) [
+sections_of_file object file number (section ∷ sections) atom h = elim (in_either (section_atoms object file number section) (atoms_from object file (number + 1) sections) atom h) [
   | inl here ↦ section_of_file object file number section atom here
   | inr later ↦ sections_of_file object file (number + 1) sections atom later
 ]
@@ -243,7 +242,7 @@ in_files (file ∷ files) l whole h = elim (in_either_of l (literals_in file) (l
 ]
   where
     in_either_of : (x : Literal) (xs ys : List Literal) → In x (xs ++ ys) → In x xs ⊎ In x ys
-    in_either_of x xs ys h = in_either x xs ys h
+    in_either_of x xs ys h = in_either xs ys x h
 
 files_order : (files : List LoadedFile) → AllPairs (λ a b. IsBefore a.id b.id) files → AllByRecursion IsWholeFile files → InOrder (literals files)
 unfolding literals InOrder

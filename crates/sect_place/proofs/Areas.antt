@@ -6,7 +6,7 @@ use Rattle.std.specs.Ordering.{on, is_eq, is_lt, ordering_reverse}
 use Rattle.std.specs.declared.cmp.Ordering.{Ordering}
 use Rattle.std.specs.declared.cmp.Ordering.TheVariants.{Less, Equal, Greater}
 use Rattle.std.proofs.lemmas.Cmp.{tied_itself}
-use Rattle.list_lemmas.proofs.Members.{In, all_in}
+use Rattle.list_lemmas.proofs.Members.{In, all_in, in_left, in_right}
 use Rattle.mo_types.proofs.KeyOrder.{compare_keys_total}
 use Rattle.mo_types.specs.Keys.{compare_keys}
 use Rattle.mo_types.specs.declared.atom.Atom.{Atom}
@@ -15,7 +15,6 @@ use Rattle.key_hints.proofs.Keys.{same_key}
 use Rattle.sect_place.specs.Places.{bytes_behind, islands_bytes}
 use Rattle.sect_place.specs.declared.island.IslandArea.{IslandArea}
 use Rattle.sect_place.specs.Moved.{counts, areas_bytes}
-use Rattle.sect_place.proofs.Listed.{in_left, in_right}
 use Rattle.sect_place.proofs.Once.{Apart}
 use Rattle.sect_place.proofs.Pushed.{total}
 

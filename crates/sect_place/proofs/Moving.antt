@@ -7,7 +7,7 @@ use Rattle.std.specs.declared.cmp.Ordering.TheVariants.{Less}
 use Rattle.std.proofs.lemmas.Bool.{cases_Bool, cases_lt}
 use Rattle.std.proofs.lemmas.List.{map-append}
 use Rattle.std.proofs.lemmas.List.Elements.{recursion_from_All}
-use Rattle.list_lemmas.proofs.Members.{In, in_from_Contains, Contains_from_in, all_in, all_from_in, in_map, from_filter}
+use Rattle.list_lemmas.proofs.Members.{In, in_from_Contains, Contains_from_in, all_in, all_from_in, in_map, from_filter, from_flat, in_either, in_left, in_right}
 use Rattle.mo_cmd.specs.declared.command.Command.{Command}
 use Rattle.mo_types.specs.Keys.{compare_keys}
 use Rattle.mo_types.specs.declared.atom.Atom.{Atom}
@@ -30,8 +30,7 @@ use Rattle.sect_place.specs.declared.part.Part.{Part}
 use Rattle.sect_place.specs.declared.size.PlaceSizes.{PlaceSizes}
 use Rattle.sect_place.proofs.Areas.{CountsIn, areas_sum, before_code, before_other}
 use Rattle.sect_place.proofs.Fitting.{islands_whole, later_all, later_fits, text_fits}
-use Rattle.sect_place.proofs.Listed.{in_left, in_right}
-use Rattle.sect_place.proofs.Once.{Apart, apart_append, from_append, from_flat}
+use Rattle.sect_place.proofs.Once.{Apart, apart_append}
 use Rattle.sect_place.proofs.Positions.{apart_split, atoms_join, chosen_in_text, chosen_there, filter_keys_apart, finds, found_atom, from_pairs, group_keys, groups_keys, kept_apart, kept_keys, kept_listed, one_choice, part_keys, text_keys}
 use Rattle.sect_place.proofs.Pushed.{IsPushed, IsWhole, groups_moved, part_atoms, parts_end_moved, parts_pushed, total, whole_sum}
 use Rattle.sect_place.proofs.Sound.{groups_split, later_groups}
@@ -110,7 +109,7 @@ module _ (kept : List Atom) (sections : List OutSection) (areas : List IslandAre
       (λ area h. inl (refl, subst (λ (ks : List AtomKey). In area.last ks) (sym keys) (in_left (kept_keys kept (code_keys sections)) (kept_keys kept (beside_keys sections)) area.last (behind_code kept sections areas behind area h)))))
 
   pub text_moved : (s end : ℕ) (before : List Placed) (p : Placed) → IsPushed areas (area_unit sections) 0 (part_atoms kept (text_parts sections bytes)) before p → (from : ℕ) × In (record { atom = p.atom; address = from }) before × IsMoved sections areas end p.atom from p.address
-  text_moved s end before p is = by (from_append (kept_keys kept (code_keys sections)) (kept_keys kept (beside_keys sections)) p.atom here)
+  text_moved s end before p is = by (in_either (kept_keys kept (code_keys sections)) (kept_keys kept (beside_keys sections)) p.atom here)
     where
       joined : kept_keys kept (code_keys sections) ++ kept_keys kept (beside_keys sections) ≡ map (λ (a : Atom). a.key) is.first ++ p.atom ∷ map (λ (a : Atom). a.key) is.last
       joined = sym (text_atom_keys kept sections bytes) ∙ (ap (λ (xs : List Atom). map (λ (a : Atom). a.key) xs) is.split ∙ first_keys is.first is.last is.atom p.atom is.key)
@@ -228,7 +227,7 @@ all_moved kept sections areas bytes ordered behind rising base lead p h =
     (by end (parts_places f0 at text) (groups_places f0 (page_up end) 0 later)
     (λ q. text_moved kept sections areas bytes ordered behind rising 0 end (parts_places f0 at text) p (parts_pushed kept areas unit unit at 0 text (text_fits kept sections areas bytes ordered) (0, omega arith) p (subst (λ (n : ℕ). In p (parts_places f1 n text)) (sym here) q)))
     (λ q. later_moved kept sections areas bytes ordered behind rising at p q)
-    (from_append (parts_places f1 at text) (groups_places f1 (page_up (parts_end f1 at text)) 0 later) p there))
+    (in_either (parts_places f1 at text) (groups_places f1 (page_up (parts_end f1 at text)) 0 later) p there))
   where
     by : {A B : Type 0} (end : ℕ) (xs ys : List Placed) → (A → Came sections areas end xs p) → (B → Came sections areas end ys p) → A ⊎ B → Came sections areas end (xs ++ ys) p
     by end xs ys f g (inl a) = let came = f a in (came.0, in_left xs ys _ came.1, came.2)

@@ -10,7 +10,7 @@ use Rattle.std.proofs.lemmas.Cmp.{tied_itself}
 use Rattle.std.proofs.lemmas.List.Elements.{All-from_recursion}
 use Rattle.std.proofs.lemmas.List.Kept.{AllPairs-cons}
 use Rattle.indexmap.specs.IndexSet.{insert_all, insert_key}
-use Rattle.list_lemmas.proofs.Members.{In, all_in, all_from_in, in_map, from_map, from_filter, any_from_in}
+use Rattle.list_lemmas.proofs.Members.{In, all_in, all_from_in, in_map, from_map, from_filter, any_from_in, from_flat, in_either}
 use Rattle.list_lemmas.proofs.Rising.{rising_map}
 use Rattle.mo_types.proofs.KeyOrder.{compare_keys_total}
 use Rattle.mo_types.specs.Destination.{Destination}
@@ -30,27 +30,10 @@ abbrev pub Apart : {X : Type 0} → List X → Type 0
 Apart [] = Unit {0}
 Apart (x ∷ xs) = (In x xs → ⊥) × Apart xs
 
-pub from_append : {X : Type 0} (xs ys : List X) (x : X) → In x (xs ++ ys) → In x xs ⊎ In x ys
-from_append [] ys x h = inr h
-from_append (y ∷ xs) ys x (inl e) = inl (inl e)
-from_append (y ∷ xs) ys x (inr h) = further (from_append xs ys x h)
-  where
-    further : In x xs ⊎ In x ys → In x (y ∷ xs) ⊎ In x ys
-    further (inl first) = inl (inr first)
-    further (inr second) = inr second
-
-pub from_flat : {X Y : Type 0} (f : X → List Y) (xs : List X) (y : Y) → In y (flat_map f xs) → (x : X) × In x xs × In y (f x)
-from_flat f [] y h = absurd h
-from_flat {X = X} f (x ∷ xs) y h = by (from_append (f x) (flat_map f xs) y h) (from_flat f xs y)
-  where
-    by : In y (f x) ⊎ In y (flat_map f xs) → (In y (flat_map f xs) → (z : X) × In z xs × In y (f z)) → (z : X) × In z (x ∷ xs) × In y (f z)
-    by (inl here) rest = (x, inl refl, here)
-    by (inr there) rest = let later = rest there in (later.0, inr later.1, later.2)
-
 pub apart_append : {X : Type 0} (xs ys : List X) → Apart xs → Apart ys → ((x : X) → In x xs → In x ys → ⊥) → Apart (xs ++ ys)
 apart_append [] ys a b none = b
 apart_append (x ∷ xs) ys a b none =
-    (λ h. either (from_append xs ys x h), apart_append xs ys a.1 b (λ z first second. none z (inr first) second))
+    (λ h. either (in_either xs ys x h), apart_append xs ys a.1 b (λ z first second. none z (inr first) second))
   where
     either : In x xs ⊎ In x ys → ⊥
     either (inl first) = a.0 first
@@ -203,18 +186,18 @@ no_bools e = cc
 
 ranked_members : (sections : List OutSection) (section : OutSection) → In section (ranked sections) → In section sections
 unfolding ranked
-ranked_members sections section h = fourth (from_append ((filter is_regular sections ++ filter (is_of 0x11) sections) ++ filter (is_of 0x12) sections) (filter (is_of 1) sections) section h)
+ranked_members sections section h = fourth (in_either ((filter is_regular sections ++ filter (is_of 0x11) sections) ++ filter (is_of 0x12) sections) (filter (is_of 1) sections) section h)
   where
     second : In section (filter is_regular sections) ⊎ In section (filter (is_of 0x11) sections) → In section sections
     second (inl a) = (from_filter is_regular sections section a).0
     second (inr b) = (from_filter (is_of 0x11) sections section b).0
 
     third : In section (filter is_regular sections ++ filter (is_of 0x11) sections) ⊎ In section (filter (is_of 0x12) sections) → In section sections
-    third (inl a) = second (from_append (filter is_regular sections) (filter (is_of 0x11) sections) section a)
+    third (inl a) = second (in_either (filter is_regular sections) (filter (is_of 0x11) sections) section a)
     third (inr b) = (from_filter (is_of 0x12) sections section b).0
 
     fourth : In section ((filter is_regular sections ++ filter (is_of 0x11) sections) ++ filter (is_of 0x12) sections) ⊎ In section (filter (is_of 1) sections) → In section sections
-    fourth (inl a) = third (from_append (filter is_regular sections ++ filter (is_of 0x11) sections) (filter (is_of 0x12) sections) section a)
+    fourth (inl a) = third (in_either (filter is_regular sections ++ filter (is_of 0x11) sections) (filter (is_of 0x12) sections) section a)
     fourth (inr b) = (from_filter (is_of 1) sections section b).0
 
 -- what is regular is of none of the other kinds, and these differ
@@ -238,9 +221,9 @@ ranked_apart sections a =
     (apart_append (filter is_regular sections) (filter (is_of 0x11) sections) (apart_filter is_regular sections a) (apart_filter (is_of 0x11) sections a)
     (λ s p q. regular_apart s 0x11 refl (passed is_regular s p) (passed (is_of 0x11) s q)))
     (apart_filter (is_of 0x12) sections a)
-    (λ s p q. two s (from_append (filter is_regular sections) (filter (is_of 0x11) sections) s p) 0x12 refl (λ e. absurd (omega arith)) (passed (is_of 0x12) s q)))
+    (λ s p q. two s (in_either (filter is_regular sections) (filter (is_of 0x11) sections) s p) 0x12 refl (λ e. absurd (omega arith)) (passed (is_of 0x12) s q)))
     (apart_filter (is_of 1) sections a)
-    (λ s p q. three s (from_append (filter is_regular sections ++ filter (is_of 0x11) sections) (filter (is_of 0x12) sections) s p) (passed (is_of 1) s q))
+    (λ s p q. three s (in_either (filter is_regular sections ++ filter (is_of 0x11) sections) (filter (is_of 0x12) sections) s p) (passed (is_of 1) s q))
   where
     passed : (t : OutSection → Bool) (s : OutSection) → In s (filter t sections) → t s ≡ true
     passed t s h = (from_filter t sections s h).1
@@ -250,7 +233,7 @@ ranked_apart sections a =
     two s (inr p) kind other differ q = apart_kinds s 0x11 kind differ (passed (is_of 0x11) s p) q
 
     three : (s : OutSection) → In s (filter is_regular sections ++ filter (is_of 0x11) sections) ⊎ In s (filter (is_of 0x12) sections) → is_of 1 s ≡ true → ⊥
-    three s (inl p) q = two s (from_append (filter is_regular sections) (filter (is_of 0x11) sections) s p) 1 refl (λ e. absurd (omega arith)) q
+    three s (inl p) q = two s (in_either (filter is_regular sections) (filter (is_of 0x11) sections) s p) 1 refl (λ e. absurd (omega arith)) q
     three s (inr p) q = apart_kinds s 0x12 1 (λ e. absurd (omega arith)) (passed (is_of 0x12) s p) q
 
 in_segment : (sections : List OutSection) (segment : List ℕ) (section : OutSection) → In section (ranked (filter (is_in segment) sections)) → In section sections × (section.segment ≡ segment)

@@ -3,7 +3,7 @@ use Rattle.std.proofs.Common.{◌≡◌, ℕ, ◌+◌, ◌-◌, ◌≤◌, if◌
 use Rattle.std.specs.List.{filter, flat_map, AllByRecursion}
 use Rattle.std.proofs.lemmas.Bool.{cases_Bool, false≢true}
 use Rattle.std.proofs.lemmas.List.{map-append}
-use Rattle.list_lemmas.proofs.Members.{In, all_in, all_from_in, from_filter, from_map, in_filter, in_map}
+use Rattle.list_lemmas.proofs.Members.{In, all_in, all_from_in, from_filter, from_map, in_filter, in_map, from_flat, in_either, in_left, in_right}
 use Rattle.mo_types.specs.declared.atom.Atom.{Atom}
 use Rattle.mo_types.specs.declared.key.AtomKey.{AtomKey}
 use Rattle.mo_types.specs.declared.out_section.OutSection.{OutSection}
@@ -18,10 +18,8 @@ use Rattle.sect_place.specs.declared.part.Group.{Group}
 use Rattle.sect_place.specs.declared.part.Made.TheVariants.{Stubs, UnwindInfo}
 use Rattle.sect_place.specs.declared.part.Part.{Part}
 use Rattle.sect_place.proofs.Fitting.{later_all, text_all, unit_above, unit_below, unit_least}
-use Rattle.sect_place.proofs.Listed.{in_left, in_right}
 use Rattle.sect_place.proofs.Low.{appended}
 use Rattle.sect_place.proofs.Moving.{text_choice}
-use Rattle.sect_place.proofs.Once.{from_append, from_flat}
 use Rattle.sect_place.proofs.Positions.{chosen_is, chosen_there}
 use Rattle.sect_place.proofs.Shifting.{end_past, end_there}
 use Rattle.sect_place.proofs.Sound.{groups_split, later_groups}
@@ -63,7 +61,7 @@ later_known sections bytes =
     (λ name parts all. all) (λ fixed. inr (refl, inr refl)) (λ fixed. inr (refl, inr refl)) (λ choice section h is code beside. inl h)
 
 known_part : (sections : List OutSection) (bytes : MadeBytes) (part : Part) → In part (text_parts sections bytes ++ parts_in (later_groups sections bytes)) → Known sections part.section
-known_part sections bytes part h = by (from_append (text_parts sections bytes) (parts_in (later_groups sections bytes)) part h)
+known_part sections bytes part h = by (in_either (text_parts sections bytes) (parts_in (later_groups sections bytes)) part h)
   where
     by : In part (text_parts sections bytes) ⊎ In part (parts_in (later_groups sections bytes)) → Known sections part.section
     by (inl text) = all_in (λ (p : Part). Known sections p.section) (text_parts sections bytes) part (text_known sections bytes) text

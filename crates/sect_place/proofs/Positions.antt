@@ -8,7 +8,7 @@ use Rattle.std.specs.declared.cmp.Ordering.TheVariants.{Less, Equal, Greater}
 use Rattle.std.proofs.lemmas.Bool.{cases_Bool, false≢true}
 use Rattle.std.proofs.lemmas.Cmp.{tied_itself}
 use Rattle.std.proofs.lemmas.List.{map-append}
-use Rattle.list_lemmas.proofs.Members.{In, in_from_Contains, Contains_from_in, from_map, in_filter, find_some, find_none}
+use Rattle.list_lemmas.proofs.Members.{In, in_from_Contains, Contains_from_in, from_map, in_filter, find_some, find_none, from_flat, in_either, in_flat, in_left, in_right}
 use Rattle.mo_cmd.specs.declared.command.Command.{Command}
 use Rattle.mo_types.proofs.KeyOrder.{compare_keys_total}
 use Rattle.mo_types.specs.Keys.{compare_keys}
@@ -31,8 +31,8 @@ use Rattle.sect_place.specs.declared.part.Made.{Made}
 use Rattle.sect_place.specs.declared.part.Made.TheVariants.{Stubs, UnwindInfo, Got, ThreadPtrs}
 use Rattle.sect_place.specs.declared.part.Part.{Part}
 use Rattle.sect_place.specs.declared.size.PlaceSizes.{PlaceSizes}
-use Rattle.sect_place.proofs.Listed.{in_left, in_right, in_flat, names_equal}
-use Rattle.sect_place.proofs.Once.{Apart, apart_append, apart_flat, from_append, from_flat, pairs}
+use Rattle.sect_place.proofs.Listed.{names_equal}
+use Rattle.sect_place.proofs.Once.{Apart, apart_append, apart_flat, pairs}
 
 -- ---- kept keys of a list
 
@@ -314,7 +314,7 @@ chosen_in_text section (inr beside) = first_true (is_in (codes "__TEXT") section
 
 where_listed : (t : OutSection → Bool) (section : OutSection) (sections : List OutSection) (key : AtomKey) → In key (keys_of (filter t (section ∷ sections))) → ((t section ≡ true) × In key section.atoms) ⊎ In key (keys_of (filter t sections))
 where_listed t section sections key h = elim (cases_Bool (t section)) [
-  | inl here ↦ here_or here (from_append section.atoms (keys_of (filter t sections)) key (rw here at h))
+  | inl here ↦ here_or here (in_either section.atoms (keys_of (filter t sections)) key (rw here at h))
   | inr away ↦ inr (rw away at h)
 ]
   where

@@ -5,7 +5,7 @@ use Rattle.std.specs.List.{AllByRecursion, flat_map}
 use Rattle.std.proofs.lemmas.Bool.{cases_lt}
 use Rattle.std.proofs.lemmas.Nat.{pow_pos, pow-add}
 use Rattle.std.proofs.Math.Nat.{mul-le-mul_right}
-use Rattle.list_lemmas.proofs.Members.{In}
+use Rattle.list_lemmas.proofs.Members.{In, in_either, in_left, in_right}
 use Rattle.mo_bytes.specs.Rounding.{IsLeastMultiple}
 use Rattle.mo_bytes.proofs.Multiples.{same_least}
 use Rattle.mo_types.specs.declared.atom.Atom.{Atom}
@@ -17,8 +17,6 @@ use Rattle.sect_place.specs.declared.island.IslandArea.{IslandArea}
 use Rattle.sect_place.specs.declared.layout.Placed.{Placed}
 use Rattle.sect_place.specs.declared.part.Group.{Group}
 use Rattle.sect_place.specs.declared.part.Part.{Part}
-use Rattle.sect_place.proofs.Listed.{in_left, in_right}
-use Rattle.sect_place.proofs.Once.{from_append}
 
 -- ---- multiples
 
@@ -228,7 +226,7 @@ parts_pushed kept areas unit v at s (part ∷ parts) fit is p h =
     by
     (λ first. here_pushed areas unit s atoms (part_atoms kept parts) before later p (atoms_pushed areas unit v (part_from at part) s atoms fit.0.1 is p (subst (λ (n : ℕ). In p (places (stand n (map (with_area areas unit) atoms)))) from first)))
     (λ second. later_pushed areas unit s atoms (part_atoms kept parts) before later p (parts_pushed kept areas unit v (part_end (spaced kept [] unit) at part) (s + total areas unit atoms) parts fit.1 whole p (subst (λ (n : ℕ). In p (parts_places (spaced kept areas unit) n parts)) next second)))
-    (from_append (places (stand (part_from (at + s) part) (map (with_area areas unit) atoms))) (parts_places (spaced kept areas unit) (part_end (spaced kept areas unit) (at + s) part) parts) p h)
+    (in_either (places (stand (part_from (at + s) part) (map (with_area areas unit) atoms))) (parts_places (spaced kept areas unit) (part_end (spaced kept areas unit) (at + s) part) parts) p h)
 
 -- ---- segments behind `__TEXT`
 
@@ -273,4 +271,4 @@ groups_moved kept areas unit at s (group ∷ groups) fit is p h =
     by
     (λ first. first_moved kept areas unit s group before later p fit.0.1 (parts_pushed kept areas unit 14 (at + 0) s group.parts fit.0.0 is p (subst (λ (n : ℕ). In p (parts_places f1 n group.parts)) turned first)))
     (λ second. later_moved s before later p (groups_moved kept areas unit next0 s groups fit.1 is p (subst (λ (n : ℕ). In p (groups_places f1 n 0 groups)) next second)))
-    (from_append (parts_places f1 (at + s + 0) group.parts) (groups_places f1 (page_up (group_end f1 (at + s) 0 group)) 0 groups) p h)
+    (in_either (parts_places f1 (at + s + 0) group.parts) (groups_places f1 (page_up (group_end f1 (at + s) 0 group)) 0 groups) p h)

@@ -5,7 +5,7 @@ use Rattle.std.specs.List.Sorted.{IsStrictlySortedBy}
 use Rattle.std.specs.Ordering.{on}
 use Rattle.std.proofs.lemmas.List.Elements.{All-from_recursion, recursion_from_All}
 use Rattle.std.proofs.lemmas.List.Sorted.{Contains-permutation, IsPermutation-sym}
-use Rattle.list_lemmas.proofs.Members.{In, Contains_from_in, all_in, from_filter, from_map, in_from_Contains, in_map}
+use Rattle.list_lemmas.proofs.Members.{In, Contains_from_in, all_in, from_filter, from_map, in_from_Contains, in_map, from_flat, in_left}
 use Rattle.mo_cmd.specs.declared.command.Command.{Command}
 use Rattle.mo_types.specs.Keys.{compare_keys}
 use Rattle.mo_types.specs.declared.atom.Atom.{Atom}
@@ -28,9 +28,8 @@ use Rattle.sect_place.specs.declared.shift.Step.{Step}
 use Rattle.sect_place.specs.declared.size.PlaceSizes.{PlaceSizes}
 use Rattle.sect_place.specs.inner.Room.{capped}
 use Rattle.sect_place.proofs.Fitting.{low_section, unit_below}
-use Rattle.sect_place.proofs.Listed.{in_left}
 use Rattle.sect_place.proofs.Moving.{moved_law}
-use Rattle.sect_place.proofs.Once.{from_flat, one_by_map}
+use Rattle.sect_place.proofs.Once.{one_by_map}
 use Rattle.sect_place.proofs.Planned.{AreThose, all_there, listed_back, listed_there, same_unit, text_ends, those}
 use Rattle.sect_place.proofs.Positions.{agree, chosen_there, image_apart, image_keys, kept_listed, part_keys, text_keys}
 use Rattle.sect_place.proofs.Shifting.{steps_come_to, steps_rise}

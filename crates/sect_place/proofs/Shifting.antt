@@ -7,7 +7,7 @@ use Rattle.std.specs.declared.cmp.Ordering.{Ordering}
 use Rattle.std.specs.declared.cmp.Ordering.TheVariants.{Less, Equal, Greater}
 use Rattle.std.proofs.lemmas.Bool.{cases_Bool, cases_lt, false≢true}
 use Rattle.std.proofs.lemmas.List.{drop_all, get_or_default}
-use Rattle.list_lemmas.proofs.Members.{In, Contains_from_in, all_in, all_from_in, from_filter, from_map, in_from_Contains, in_map}
+use Rattle.list_lemmas.proofs.Members.{In, Contains_from_in, all_in, all_from_in, from_filter, from_map, in_from_Contains, in_map, from_flat}
 use Rattle.list_lemmas.proofs.Rising.{rising_at}
 use Rattle.mo_types.proofs.KeyOrder.{compare_keys_total}
 use Rattle.mo_types.specs.Keys.{compare_keys}
@@ -22,7 +22,6 @@ use Rattle.sect_place.specs.declared.island.IslandArea.{IslandArea}
 use Rattle.sect_place.specs.declared.layout.PlacedSection.{PlacedSection}
 use Rattle.sect_place.specs.declared.shift.Region.{Region}
 use Rattle.sect_place.specs.declared.shift.Step.{Step}
-use Rattle.sect_place.proofs.Once.{from_flat}
 use Rattle.sect_place.proofs.Positions.{chosen_there}
 
 -- ---- sections in turn

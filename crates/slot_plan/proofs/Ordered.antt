@@ -21,7 +21,7 @@ use Rattle.slot_plan.specs.Slots.{AreSlots, needed, in_got, in_stubs}
 use Rattle.std.proofs.lemmas.List.Elements.{filter-append}
 use Rattle.std.proofs.lemmas.List.{get_or-map, length-map, map-append, take_more, take_all}
 use Rattle.slot_plan.specs.inner.Held.{held, held_needs, HasTheSame}
-use Rattle.list_lemmas.proofs.Members.{In, in_from_Contains, Contains_from_in, in_map, from_map, in_filter, from_filter}
+use Rattle.list_lemmas.proofs.Members.{In, in_from_Contains, Contains_from_in, in_map, from_map, in_filter, from_filter, from_last, in_last, in_left}
 use Rattle.list_lemmas.proofs.Rising.{rising_map, rising_apart, rising_same, sorted_from_rising}
 
 abbrev pointed : Bor Goal → Goal
@@ -104,38 +104,23 @@ serves_less ways needs i d front within served so_far =
 
 -- ---- the needs without repeats
 
-in_left : {X : Type 0} (x : X) (xs ys : List X) → In x xs → In x (xs ++ ys)
-in_left x [] ys h = absurd h
-in_left x (y ∷ xs) ys (inl e) = inl e
-in_left x (y ∷ xs) ys (inr h) = inr (in_left x xs ys h)
-
-in_last : {X : Type 0} (x : X) (xs : List X) → In x (xs ++ x ∷ [])
-in_last x [] = inl refl
-in_last x (y ∷ xs) = inr (in_last x xs)
-
-from_last : {X : Type 0} (x y : X) (xs : List X) → In x (xs ++ y ∷ []) → In x xs ⊎ (y ≡ x)
-from_last x y [] (inl e) = inr e
-from_last x y [] (inr h) = absurd h
-from_last x y (z ∷ xs) (inl e) = inl (inl e)
-from_last x y (z ∷ xs) (inr h) = elim (from_last x y xs h) [ inl there ↦ inl (inr there) | inr e ↦ inr e ]
-
 pub same_starts : (few : List (Bor Need)) → few ≡ [] → HasTheSame [] (held_needs few)
 same_starts few e = rw e (record { all = λ need h. h; only = λ need h. h })
 
 joined : (front few : List Need) (new : Need) → HasTheSame front few → HasTheSame (front ++ new ∷ []) (few ++ new ∷ [])
 joined front few new same = record {
-  all = λ need h. Contains_from_in (few ++ new ∷ []) need (moved need front few same.all (from_last need new front (in_from_Contains (front ++ new ∷ []) need h)));
-  only = λ need h. Contains_from_in (front ++ new ∷ []) need (moved need few front same.only (from_last need new few (in_from_Contains (few ++ new ∷ []) need h)));
+  all = λ need h. Contains_from_in (few ++ new ∷ []) need (moved need front few same.all (from_last front new need (in_from_Contains (front ++ new ∷ []) need h)));
+  only = λ need h. Contains_from_in (front ++ new ∷ []) need (moved need few front same.only (from_last few new need (in_from_Contains (few ++ new ∷ []) need h)));
 }
   where
     moved : (need : Need) (xs ys : List Need) → ((n : Need) → Contains xs n → Contains ys n) → In need xs ⊎ (new ≡ need) → In need (ys ++ new ∷ [])
-    moved need xs ys there (inl h) = in_left need ys (new ∷ []) (in_from_Contains ys need (there need (Contains_from_in xs need h)))
-    moved need xs ys there (inr e) = subst (λ (n : Need). In n (ys ++ new ∷ [])) e (in_last new ys)
+    moved need xs ys there (inl h) = in_left ys (new ∷ []) need (in_from_Contains ys need (there need (Contains_from_in xs need h)))
+    moved need xs ys there (inr e) = subst (λ (n : Need). In n (ys ++ new ∷ [])) e (in_last ys new)
 
 met : (front few : List Need) (new : Need) → HasTheSame front few → Contains few new → HasTheSame (front ++ new ∷ []) few
 met front few new same there = record {
-  all = λ need h. known need (from_last need new front (in_from_Contains (front ++ new ∷ []) need h));
-  only = λ need h. Contains_from_in (front ++ new ∷ []) need (in_left need front (new ∷ []) (in_from_Contains front need (same.only need h)));
+  all = λ need h. known need (from_last front new need (in_from_Contains (front ++ new ∷ []) need h));
+  only = λ need h. Contains_from_in (front ++ new ∷ []) need (in_left front (new ∷ []) need (in_from_Contains front need (same.only need h)));
 }
   where
     known : (need : Need) → In need front ⊎ (new ≡ need) → Contains few need

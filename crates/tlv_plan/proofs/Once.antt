@@ -5,7 +5,7 @@ use Rattle.std.specs.declared.cmp.Ordering.{Ordering}
 use Rattle.std.specs.declared.cmp.Ordering.TheVariants.{Less, Equal, Greater}
 use Rattle.std.specs.Ordering.{is_eq}
 use Rattle.std.proofs.lemmas.List.{map-append}
-use Rattle.list_lemmas.proofs.Members.{In, in_from_Contains, find_some}
+use Rattle.list_lemmas.proofs.Members.{In, in_from_Contains, find_some, in_either, in_right}
 use Rattle.mo_types.specs.declared.atom.Atom.{Atom}
 use Rattle.mo_types.specs.declared.key.AtomKey.{AtomKey}
 use Rattle.mo_types.specs.declared.out_section.OutSection.{OutSection}
@@ -44,19 +44,10 @@ second_once : (xs ys : List AtomKey) → AreOnce (xs ++ ys) → AreOnce ys
 second_once [] ys once = once
 second_once (x ∷ xs) ys once = second_once xs ys once.1
 
-in_second : (key : AtomKey) (xs ys : List AtomKey) → In key ys → In key (xs ++ ys)
-in_second key [] ys h = h
-in_second key (x ∷ xs) ys h = inr (in_second key xs ys h)
-
 not_both : (xs ys : List AtomKey) (key : AtomKey) → AreOnce (xs ++ ys) → In key xs → In key ys → ⊥
 not_both [] ys key once h i = absurd h
-not_both (x ∷ xs) ys key once (inl e) i = once.0 (in_second x xs ys (subst (λ (k : AtomKey). In k ys) (sym e) i))
+not_both (x ∷ xs) ys key once (inl e) i = once.0 (in_right xs ys x (subst (λ (k : AtomKey). In k ys) (sym e) i))
 not_both (x ∷ xs) ys key once (inr h) i = not_both xs ys key once.1 h i
-
-in_parts : (o : Offset) (xs ys : List Offset) → In o (xs ++ ys) → In o xs ⊎ In o ys
-in_parts o [] ys h = inr h
-in_parts o (x ∷ xs) ys (inl e) = inl (inl e)
-in_parts o (x ∷ xs) ys (inr h) = elim (in_parts o xs ys h) [ inl first ↦ inl (inr first) | inr second ↦ inr second ]
 
 is_equal : (o : Ordering) → is_eq o ≡ true → o ≡ Equal
 is_equal Less e = cc
@@ -129,9 +120,9 @@ no_sections kept at = refl
 
 listed_in : (kept : List Atom) (at : ℕ) (sections : List OutSection) (o : Offset) → In o (offsets (sections_stand kept at sections)) → In o.atom (keys_of sections)
 listed_in kept at [] o h = absurd (subst (λ (os : List Offset). In o os) (no_sections kept at) h)
-listed_in kept at (section ∷ sections) o h = elim (in_parts o _ _ (subst (λ (os : List Offset). In o os) (split kept at section sections) h)) [
+listed_in kept at (section ∷ sections) o h = elim (in_either _ _ o (subst (λ (os : List Offset). In o os) (split kept at section sections) h)) [
   | inl first ↦ in_front o.atom section.atoms (keys_of sections) (listed kept section.atoms (aligned section.align at) o first)
-  | inr second ↦ in_second o.atom section.atoms (keys_of sections) (listed_in kept (end_of (aligned section.align at) (atoms_of kept section.atoms)) sections o second)
+  | inr second ↦ in_right section.atoms (keys_of sections) o.atom (listed_in kept (end_of (aligned section.align at) (atoms_of kept section.atoms)) sections o second)
 ]
   where
     in_front : (key : AtomKey) (xs ys : List AtomKey) → In key xs → In key (xs ++ ys)
@@ -143,8 +134,8 @@ one_in_sections : (kept : List Atom) (at : ℕ) (sections : List OutSection) (o 
 one_in_sections kept at [] o p once same h i = absurd (subst (λ (os : List Offset). In o os) (no_sections kept at) h)
 one_in_sections kept at (section ∷ sections) o p once same h i = which
     (λ a b. one_in_sections kept (end_of (aligned section.align at) (atoms_of kept section.atoms)) sections o p (second_once section.atoms (keys_of sections) once) same a b)
-    (in_parts o _ _ (subst (λ (os : List Offset). In o os) (split kept at section sections) h))
-    (in_parts p _ _ (subst (λ (os : List Offset). In p os) (split kept at section sections) i))
+    (in_either _ _ o (subst (λ (os : List Offset). In o os) (split kept at section sections) h))
+    (in_either _ _ p (subst (λ (os : List Offset). In p os) (split kept at section sections) i))
   where
     which : (In o (offsets (sections_stand kept (end_of (aligned section.align at) (atoms_of kept section.atoms)) sections)) → In p (offsets (sections_stand kept (end_of (aligned section.align at) (atoms_of kept section.atoms)) sections)) → o.offset ≡ p.offset) → In o (offsets (stand (aligned section.align at) (atoms_of kept section.atoms))) ⊎ In o (offsets (sections_stand kept (end_of (aligned section.align at) (atoms_of kept section.atoms)) sections)) → In p (offsets (stand (aligned section.align at) (atoms_of kept section.atoms))) ⊎ In p (offsets (sections_stand kept (end_of (aligned section.align at) (atoms_of kept section.atoms)) sections)) → o.offset ≡ p.offset
     which later (inl a) (inl b) = one_in_section kept section.atoms (aligned section.align at) o p (first_once section.atoms (keys_of sections) once) same a b
