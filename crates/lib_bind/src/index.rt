@@ -1,16 +1,19 @@
 //! The names that libraries provide.
 ghost use Rattle.std.specs.Prelude.{◌≡◌, ℕ, List, None, Some, IfOk, bytes_eq, if◌then◌else◌};
 ghost use Rattle.lib_bind.specs.inner.Index.{known};
+ghost use Rattle.lib_bind.specs.inner.Key.{bytes_of};
 
+use crate::key::Key;
 use crate::provider::Offer;
 use mo_types::OutOfMemory;
+use smallvec::SmallVec;
 use std::alloc::Global;
 use std::collections::HashMap;
 
 /// For each name that is provided, by whom.
 #[derive(Drop)]
 pub struct NameIndex {
-    map: HashMap<Vec<u8>, Offer>,
+    map: HashMap<Key<'static>, Offer>,
 }
 
 impl NameIndex {
@@ -27,7 +30,8 @@ impl NameIndex {
     pub fn get(&self, name: &[u8]) -> Option<Offer>
         ensures { result ≡ known self.now name.now }
     {
-        self.map.get(name).copied()
+        let key = Key::Asked(name);
+        self.map.get(&key).copied()
     }
 
     /// Notes by whom a name is provided, in place of what is known of it.
@@ -40,11 +44,9 @@ impl NameIndex {
     }
 }
 
-// A key for a name.
-fn key_of(alloc: Global, name: &[u8]) -> Result<Vec<u8>, OutOfMemory>
-    ensures { IfOk result (λ key. key.items ≡ name.now) }
+// A key for a name, with a copy of it.
+fn key_of(alloc: Global, name: &[u8]) -> Result<Key<'static>, OutOfMemory>
+    ensures { IfOk result (λ key. bytes_of key ≡ name.now) }
 {
-    let mut key = Vec::with_capacity(alloc, name.len())?;
-    key.extend_from_slice(name)?;
-    Ok(key)
+    Ok(Key::Held(SmallVec::from_slice(alloc, name)?))
 }

@@ -10,6 +10,7 @@ mod closing;
 mod fill;
 mod growing;
 mod index;
+mod key;
 mod laws;
 mod libraries;
 mod library;

@@ -6,10 +6,11 @@ use Rattle.lib_bind.specs.declared.library.LibraryGraph.{LibraryGraph}
 use Rattle.lib_bind.specs.declared.provider.Offer.{Offer}
 use Rattle.lib_bind.specs.Graph.{IsWhole}
 use Rattle.lib_bind.specs.Provides.{offer_of}
+use Rattle.lib_bind.specs.inner.Key.{bytes_of}
 
 -- what an index has of a name
 abbrev pub known : NameIndex → List ℕ → Option Offer
-known index name = get_by (λ key. bytes_eq name key.items) index.map
+known index name = get_by (λ key. bytes_eq name (bytes_of key)) index.map
 
 -- the libraries are whole, and the index has what they provide
 pub record IsIndexed (graph : LibraryGraph) (index : NameIndex) : Type 0 where
