@@ -1,9 +1,10 @@
 -- What the inputs of a command line are, or the fault of the first input that has one.
-use Rattle.std.specs.Prelude.{◌≡◌, List, [], ◌∷◌, Option, None, Some, Result, Ok, Err}
+use Rattle.std.specs.Prelude.{◌≡◌, List, map, Option, None, Some, Result, Ok, Err}
 use Rattle.std.specs.List.{filter_map}
 use Rattle.mo_types.specs.Gives.{◌>>=◌}
 use Rattle.mo_types.specs.declared.loaded.LoadedFile.{LoadedFile}
 use Rattle.lib_bind.specs.declared.named.NamedStub.{NamedStub}
+use Rattle.member_rounds.specs.Collected.{all_of}
 use Rattle.member_rounds.specs.Sources.{inputs_of}
 use Rattle.member_rounds.specs.declared.fault.RoundFault.{RoundFault}
 use Rattle.member_rounds.specs.declared.input.Input.{Input}
@@ -14,8 +15,7 @@ use Rattle.input_read.specs.declared.opening.Opening.TheVariants as opening
 
 -- what each input is, or the fault of the first that has one
 abbrev pub openings_of : List Input → Result (List Opening) RoundFault
-openings_of [] = Ok []
-openings_of (input ∷ inputs) = opening_of input >>= λ first. openings_of inputs >>= λ more. Ok (first ∷ more)
+openings_of inputs = all_of (map opening_of inputs)
 
 -- of an object or an archive the input, of a universal file with the bytes of its slice
 abbrev pub input_in : Opening → Option Input

@@ -2,7 +2,6 @@
 //! fault of the first that has one.
 #![tactic(auto)]
 
-mod collecting;
 mod in_order;
 mod laws;
 mod opened;

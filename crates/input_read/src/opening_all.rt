@@ -9,11 +9,10 @@ ghost use Rattle.input_read.specs.Opened.{Opens};
 ghost use Rattle.input_read.specs.inner.Pieces.{ArePieces};
 ghost use Rattle.input_read.specs.Sound.{IsSound};
 
-use crate::collecting::collect;
 use crate::opened::Opened;
 use crate::opening::{Opening, open_input};
 use crate::sorting::sort;
-use member_rounds::{Input, RoundFault};
+use member_rounds::{Input, RoundFault, collect};
 use mo_outside::Gate;
 use mo_types::{Items, OutOfMemory};
 use par_work::{Task, fan};
@@ -90,7 +89,7 @@ fn openings_of<R: Threads + Sync, G: Gate + Sync>(
     ensures sound { IfOk result (λ openings. All IsSound openings) }
 {
     let pieces = pieces_of(rt, alloc, gate, workers, inputs)?;
-    collect(alloc, pieces)
+    collect(Items::new(alloc), pieces)
 }
 
 /// Reads inputs, each by one of so many workers (none count as one), and answers the objects and archives, the files of the

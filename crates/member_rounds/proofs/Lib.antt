@@ -1,5 +1,6 @@
 pub mod AnswerLemmas
 pub mod AskLemmas
+pub mod CollectedLemmas
 pub mod CountLemmas
 pub mod FileLemmas
 pub mod FirstLemmas

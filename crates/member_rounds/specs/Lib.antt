@@ -1,3 +1,4 @@
+pub mod Collected
 pub mod Files
 pub mod Form
 pub mod Growth

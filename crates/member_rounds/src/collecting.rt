@@ -1,26 +1,26 @@
-//! The files that workers read, in order.
+//! What pieces hold that workers made, in order.
 ghost use Rattle.std.specs.Prelude.{◌≡◌};
 ghost use Rattle.mo_types.specs.Gives.{Gives};
+ghost use Rattle.member_rounds.specs.Collected.{all_of, behind};
 ghost use Rattle.member_rounds.specs.Files.{IsRoundFault};
-ghost use Rattle.member_rounds.specs.inner.Working.{after_files, each_of};
 
 use crate::fault::RoundFault;
-use mo_types::{LoadedFile, LoadedList};
+use mo_types::Items;
 
-/// Files, and those of pieces, or the fault of the first that has one.
-#[tactic(auto, using(crate::proofs::PieceLemmas::collects))]
-pub(crate) fn collect(
-    before: LoadedList,
-    pieces: Vec<Result<LoadedFile, RoundFault>>,
-) -> Result<LoadedList, RoundFault>
-    ensures { Gives IsRoundFault result (after_files before (each_of pieces.items)) }
+/// What is there, and behind it what pieces hold, or the fault of the first that has one.
+#[tactic(auto, using(crate::proofs::CollectedLemmas::collects))]
+pub fn collect<T: Drop>(
+    before: Items<T>,
+    pieces: Vec<Result<T, RoundFault>>,
+) -> Result<Items<T>, RoundFault>
+    ensures { Gives IsRoundFault result (behind before (all_of pieces.items)) }
 {
-    let mut files = before;
+    let mut all = before;
     for piece in pieces {
         match piece {
-            Ok(file) => files.push(file)?,
+            Ok(item) => all.push(item)?,
             Err(fault) => return Err(fault),
         }
     }
-    Ok(files)
+    Ok(all)
 }

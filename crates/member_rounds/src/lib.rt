@@ -27,6 +27,7 @@ mod sources;
 mod taking;
 
 pub use asked::asked_by;
+pub use collecting::collect;
 pub use fault::RoundFault;
 pub use form::is_later;
 pub use input::{Input, InputList};

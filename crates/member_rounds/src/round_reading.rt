@@ -3,11 +3,12 @@ ghost use Rattle.std.specs.Prelude.{◌≡◌, ◌<◌, ◌≤◌, ◌^◌, ◌+
 ghost use Rattle.mo_types.specs.Gives.{Gives};
 ghost use Rattle.mo_types.specs.Loaded.{IsWholeFile};
 ghost use Rattle.mo_types.specs.declared.key.FileId.{FileId};
+ghost use Rattle.member_rounds.specs.Collected.{behind};
 ghost use Rattle.member_rounds.specs.Files as files;
 ghost use Rattle.member_rounds.specs.Files.{IsRoundFault};
 ghost use Rattle.member_rounds.specs.Sources.{AreInOrder, inputs_of};
 ghost use Rattle.member_rounds.specs.inner.Holding.{AreReadable};
-ghost use Rattle.member_rounds.specs.inner.Working.{ArePieces, after_files, read_each};
+ghost use Rattle.member_rounds.specs.inner.Working.{ArePieces, read_each};
 
 use crate::collecting::collect;
 use crate::contents::{Held, content_of};
@@ -101,7 +102,7 @@ fn read_some<R: Threads + Sync, G: Gate + Sync>(
     requires few { length ids.now < 2 ^ 32 }
     requires files { AreReadable sources.now ids.now }
     requires whole { All IsWholeFile before }
-    ensures exact { Gives IsRoundFault result (after_files before (read_each (inputs_of sources.now) ids.now)) }
+    ensures exact { Gives IsRoundFault result (behind before (read_each (inputs_of sources.now) ids.now)) }
     ensures whole { IfOk result (λ all. All IsWholeFile all) }
 {
     let pieces = pieces_of(rt, alloc, gate, workers, sources, ids)?;

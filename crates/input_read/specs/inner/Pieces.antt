@@ -1,6 +1,6 @@
 -- What workers read of inputs.
-use Rattle.std.specs.Prelude.{◌≡◌, ℕ, ◌<◌, false, List, [], ◌∷◌, length, slice_index_or, Result, Ok, IfOk}
-use Rattle.mo_types.specs.Gives.{◌>>=◌, Gives}
+use Rattle.std.specs.Prelude.{◌≡◌, ℕ, ◌<◌, false, List, [], length, slice_index_or, Result, IfOk}
+use Rattle.mo_types.specs.Gives.{Gives}
 use Rattle.member_rounds.specs.Files.{IsRoundFault}
 use Rattle.member_rounds.specs.declared.fault.RoundFault.{RoundFault}
 use Rattle.member_rounds.specs.declared.input.Input.{Input}
@@ -21,8 +21,3 @@ pub record IsReadOf (input : Input) (piece : Result Opening RoundFault) : Type 0
 pub record ArePieces (inputs : List Input) (pieces : List (Result Opening RoundFault)) : Type 0 where
   pub count : length pieces ≡ length inputs
   pub each : (job : ℕ) (other : Result Opening RoundFault) → job < length inputs → IsReadOf (slice_index_or inputs job no_input) (slice_index_or pieces job other)
-
--- what pieces hold, or the fault of the first that has one
-abbrev pub each_of : List (Result Opening RoundFault) → Result (List Opening) RoundFault
-each_of [] = Ok []
-each_of (piece ∷ pieces) = piece >>= λ opening. each_of pieces >>= λ openings. Ok (opening ∷ openings)

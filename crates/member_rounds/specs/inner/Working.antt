@@ -10,6 +10,7 @@ use Rattle.mo_types.specs.declared.key.FileId.{FileId}
 use Rattle.mo_types.specs.declared.loaded.LoadedFile.{LoadedFile}
 use Rattle.mo_types.specs.declared.object.Symbol.{Symbol}
 use Rattle.lib_bind.specs.declared.library.LibraryGraph.{LibraryGraph}
+use Rattle.member_rounds.specs.Collected.{all_of}
 use Rattle.member_rounds.specs.Growth.{is_in}
 use Rattle.member_rounds.specs.Files.{IsRoundFault, all_ids, file_of}
 use Rattle.member_rounds.specs.Rounds.{asked_by, has_candidate, is_undefined, new_ids, round, round_fault}
@@ -52,16 +53,7 @@ undefined_name symbol = if is_undefined symbol.kind then symbol.name ∷ [] else
 
 -- the files of ids, or the fault of the first that has one
 abbrev pub read_each : List Input → List FileId → Result (List LoadedFile) RoundFault
-read_each inputs [] = Ok []
-read_each inputs (id ∷ ids) = file_of inputs id >>= λ file. read_each inputs ids >>= λ files. Ok (file ∷ files)
-
--- the files that were read, or the fault of the first that has one
-abbrev pub each_of : List (Result LoadedFile RoundFault) → Result (List LoadedFile) RoundFault
-each_of [] = Ok []
-each_of (piece ∷ pieces) = piece >>= λ file. each_of pieces >>= λ files. Ok (file ∷ files)
-
-abbrev pub after_files : List LoadedFile → Result (List LoadedFile) RoundFault → Result (List LoadedFile) RoundFault
-after_files before read = read >>= λ files. Ok (before ++ files)
+read_each inputs ids = all_of (map (file_of inputs) ids)
 
 -- an id, where there is none
 abbrev pub no_id : FileId
