@@ -13,7 +13,7 @@ use Rattle.mo_types.specs.declared.reference.RefKind.TheVariants.{Pointer, Diff3
 use Rattle.patch.specs.Field as fields
 use Rattle.patch.specs.Reading.{GivesPage, LeadsTo, Tells}
 use Rattle.patch.specs.declared.met.Met.{Met}
-use Rattle.image_read.specs.Denotes.{DenotesBy, Places, TellsBranch, TellsDistance, TellsTarget, distance_of, itself, offset_in_page, page_of_address, wrapped}
+use Rattle.image_read.specs.Denotes.{DenotesBy, Places, TellsBranch, TellsDistance, TellsLowBits, TellsTarget, distance_of, itself, page_of_address, wrapped}
 use Rattle.image_read.specs.Held.{AtomMap, goal_address, target_of}
 use Rattle.image_read.specs.Meaning.{denote}
 use Rattle.image_read.specs.Reaches.{StopsBy, is_looked_up, is_zero}
@@ -25,9 +25,6 @@ use Rattle.image_means.proofs.Telling.{branch_told, diff32_told, diff64_told, lo
 some_of : (found : Option ℕ) → IsSome found → (n : ℕ) × (found ≡ Some n)
 some_of None is = absurd cc
 some_of (Some n) is = (n, refl)
-
-some_is : {X : Type 0} (x y : X) → Some x ≡ Some y → x ≡ y
-some_is x y e = cc
 
 -- a goal of which the address is the value that was met
 abbrev pub IsMet : List ℕ → AtomMap → Goal → ℕ → Type 0
@@ -60,21 +57,12 @@ page_denotes image addresses p word goal met read gives is stands = record {
   told = page_told image p word gives.target read gives.is_address gives.reached;
 }
 
-stands_by : (image : List ℕ) (addresses : AtomMap) (goal : Goal) (addend target : ℤ) → target_of image addresses goal addend ≡ Some target → Stands image addresses goal
-stands_by image addresses goal addend target e = by (goal_address image addresses goal) e
-  where
-    by : (found : Option ℕ) → option_map (λ (address : ℕ). pos address +ℤ addend) found ≡ Some target → IsSome found
-    by None is = absurd cc
-    by (Some address) is = refl
-
-low12_denotes : (image : List ℕ) (addresses : AtomMap) (p word target : ℕ) (goal : Goal) (met : Met) → Rattle.image_read.specs.Meaning.word_in image p ≡ Some word → low12_of word ≡ twos_complement 64 (fields.target_of met) % 2 ^ 12 → IsMet image addresses goal met.value → target_of image addresses goal met.addend ≡ Some (pos target) → TellsTarget image addresses p PageOff goal met.addend offset_in_page
-low12_denotes image addresses p word target goal met read tells is there =
-    let same : fields.target_of met ≡ pos target = some_is (fields.target_of met) (pos target) (sym (target_met image addresses goal met is (stands_by image addresses goal met.addend (pos target) there)) ∙ there) in
-    record {
-      target = target;
-      stands = there;
-      told = low12_told image p word read ∙ ap Low12 (tells ∙ ap (λ (z : ℤ). twos_complement 64 z % 2 ^ 12) same ∙ low12_same target);
-    }
+low12_denotes : (image : List ℕ) (addresses : AtomMap) (p word : ℕ) (goal : Goal) (met : Met) → Rattle.image_read.specs.Meaning.word_in image p ≡ Some word → low12_of word ≡ twos_complement 64 (fields.target_of met) % 2 ^ 12 → IsMet image addresses goal met.value → Stands image addresses goal → TellsLowBits image addresses p goal met.addend
+low12_denotes image addresses p word goal met read tells is stands = record {
+  target = fields.target_of met;
+  stands = target_met image addresses goal met is stands;
+  told = low12_told image p word read ∙ ap Low12 (tells ∙ low12_same (fields.target_of met));
+}
 
 -- the distance that was met
 distance_met : (image : List ℕ) (addresses : AtomMap) (goal from : Goal) (met : Met) → IsMet image addresses goal met.value → Stands image addresses goal → IsMet image addresses from met.minus → Stands image addresses from → distance_of image addresses goal met.addend (Some from) ≡ Some (fields.difference_of met)
@@ -115,7 +103,7 @@ denotes_by Branch image places address place section goal minus met told is is_f
 denotes_by Page image places address place section goal minus met told is is_from direct =
     page_denotes image places.addresses (address + place) (number 4 told.bytes place) goal met (word_there image told.bytes address place told.there told.room told.low) told.tells is direct
 denotes_by PageOff image places address place section goal minus met told is is_from direct =
-    low12_denotes image places.addresses (address + place) (number 4 told.bytes place) direct.0 goal met (word_there image told.bytes address place told.there told.room told.low) told.tells is direct.1
+    low12_denotes image places.addresses (address + place) (number 4 told.bytes place) goal met (word_there image told.bytes address place told.there told.room told.low) told.tells is direct
 denotes_by Diff32 image places address place section goal minus met told is is_from direct =
     diff32_denotes image places.addresses (address + place) (number 4 told.bytes place) goal minus met (word_there image told.bytes address place told.there told.room told.low) told.tells is direct.0 is_from direct.1
 denotes_by Diff64 image places address place section goal minus met told is is_from direct =

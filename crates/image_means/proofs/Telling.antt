@@ -1,5 +1,5 @@
 -- What fields tell a reader of the image, by what was written.
-use Rattle.std.proofs.Common.{◌≡◌, ℕ, ◌+◌, ◌*◌, ◌/◌, ◌%◌, ◌<◌, ◌≤◌, ◌^◌, pos, ◌+ℤ◌, List, length, get_or, drop, Some, refl, sym, ap, ◌∙◌, arith}
+use Rattle.std.proofs.Common.{◌≡◌, ℕ, ◌+◌, ◌*◌, ◌/◌, ◌%◌, ◌<◌, ◌≤◌, ◌^◌, ℤ, pos, negsuc, ◌+ℤ◌, List, length, get_or, drop, Some, refl, sym, ap, ◌∙◌, arith}
 use Rattle.std.specs.Int.{cast_signed, w32, w64}
 use Rattle.std.proofs.lemmas.Bool.{le-leb, lt-ltb}
 use Rattle.std.proofs.lemmas.List.{get_or-drop}
@@ -88,6 +88,7 @@ pub diff64_told : (image : List ℕ) (at long : ℕ) → long_in image at ≡ So
 unfolding denote
 diff64_told image at long read = rw read refl
 
-pub low12_same : (n : ℕ) → twos_complement 64 (pos n) % 2 ^ 12 ≡ n % 0x1000
+pub low12_same : (number : ℤ) → twos_complement 64 number % 2 ^ 12 ≡ twos_complement 12 number
 unfolding twos_complement
-low12_same n = omega arith
+low12_same (pos n) = omega arith
+low12_same (negsuc n) = omega arith

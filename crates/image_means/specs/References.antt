@@ -1,5 +1,5 @@
 -- The references of an image's atoms, and which of them their own fields tell.
-use Rattle.std.specs.Prelude.{ℕ, ◌+◌, ◌≡◌, ◌&&◌, true, false, ℤ, pos, List, slice_get, Contains, IsSome, Option, Some, None}
+use Rattle.std.specs.Prelude.{ℕ, ◌+◌, ◌≡◌, ◌&&◌, true, false, ℤ, List, slice_get, Contains, IsSome, Option, Some, None}
 use Rattle.std.specs.Option.{option_map}
 use Rattle.mo_types.specs.declared.goal.Goal.{Goal}
 use Rattle.mo_types.specs.declared.loaded.LoadedFile.{LoadedFile}
@@ -13,7 +13,7 @@ use Rattle.atom_work.specs.Mets.{is_ref_of}
 use Rattle.atom_work.specs.Rows.{Row, goals_at}
 use Rattle.image_make.specs.Made.{Making}
 use Rattle.image_read.specs.Denotes.{Denotes, Places}
-use Rattle.image_read.specs.Held.{AtomMap, goal_address, target_of}
+use Rattle.image_read.specs.Held.{AtomMap, goal_address}
 use Rattle.image_read.specs.Reaches.{is_looked_up, is_zero}
 use Rattle.image_means.specs.Means.{addresses_of}
 
@@ -46,11 +46,11 @@ StandsFrom image addresses None = ⊥
 StandsFrom image addresses (Some goal) = Stands image addresses goal
 
 -- The field of a reference tells its goal itself, without a slot, a stub or a fixup: the image has the goal; a branch goes
--- to no stub; the target whose low 12 bits are told isn't below 0; and a difference has both ends.
+-- to no stub; and a difference has both ends.
 abbrev pub IsDirectBy : RefKind → List ℕ → AtomMap → Goal → ℤ → Option Goal → Type 0
 IsDirectBy Branch image addresses goal addend minus = Stands image addresses goal × ((is_looked_up goal && is_zero addend) ≡ false)
 IsDirectBy Page image addresses goal addend minus = Stands image addresses goal
-IsDirectBy PageOff image addresses goal addend minus = (target : ℕ) × (target_of image addresses goal addend ≡ Some (pos target))
+IsDirectBy PageOff image addresses goal addend minus = Stands image addresses goal
 IsDirectBy Diff32 image addresses goal addend minus = Stands image addresses goal × StandsFrom image addresses minus
 IsDirectBy Diff64 image addresses goal addend minus = Stands image addresses goal × StandsFrom image addresses minus
 IsDirectBy _ image addresses goal addend minus = ⊥

@@ -193,7 +193,12 @@ pub page : (places : Places) (key : AtomKey) (offset : ℕ) → in_atom places.a
 page places key offset is = record { target = 0x40b8; stands = rw is refl; told = Page_4084 }
 
 pub page_offset : (places : Places) (key : AtomKey) (offset : ℕ) → in_atom places.addresses key offset ≡ Some 0x40b0 → DenotesBy PageOff example places 0x4088 0 (WeakSelf (codes "_h") key offset) (pos 8) None
-page_offset places key offset is = record { target = 0x40b8; stands = rw is refl; told = PageOff_4088 }
+unfolding twos_complement
+page_offset places key offset is = record { target = pos 0x40b8; stands = rw is refl; told = PageOff_4088 }
+
+pub page_offset_below_zero : (places : Places) (key : AtomKey) (offset : ℕ) → in_atom places.addresses key offset ≡ Some 0x40b0 → DenotesBy PageOff example places 0x4088 0 (Def key offset) (negsuc 0x4ff7) None
+unfolding twos_complement
+page_offset_below_zero places key offset is = record { target = negsuc 0xf47; stands = rw is refl; told = PageOff_4088 }
 
 pub slot_page : (places : Places) → DenotesBy GotPage example places 0x408c 0 imported (pos 0) None
 slot_page places = record { slot = 0x40b0; held = held_f places.addresses; told = GotPage_408c }
@@ -242,4 +247,4 @@ pub offset_in_template : (places : Places) (key : AtomKey) (offset : ℕ) → in
 unfolding twos_complement
 offset_in_template places key offset is = rw is (record { told = pointer_40e0; plain = plain_40e0 })
 
-pub ruleset rows = (branch, branch_by_island, branch_by_stub, page, page_offset, slot_page, variable_page, slot_offset, variable_offset, slot_delta, slot_address, difference, long_difference, pointer, pointer_to_header, pointer_to_import, pointer_by_flat_lookup, pointer_by_weak_lookup, pointer_to_own_weak, offset_in_template)
+pub ruleset rows = (branch, branch_by_island, branch_by_stub, page, page_offset, page_offset_below_zero, slot_page, variable_page, slot_offset, variable_offset, slot_delta, slot_address, difference, long_difference, pointer, pointer_to_header, pointer_to_import, pointer_by_flat_lookup, pointer_by_weak_lookup, pointer_to_own_weak, offset_in_template)

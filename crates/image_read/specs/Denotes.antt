@@ -4,6 +4,7 @@ use Rattle.std.specs.Prelude.{ℕ, ◌*◌, ◌/◌, ◌%◌, ◌≡◌, ◌==�
 use Rattle.std.specs.Int.{cast_signed, w64}
 use Rattle.std.specs.Option.{option_and_then, option_map}
 use Rattle.arm64_insn.specs.Field.{twos_complement}
+use Rattle.mo_format.specs.declared.loader.TheConstants.{S_THREAD_LOCAL_VARIABLES}
 use Rattle.mo_types.specs.declared.goal.Goal.{Goal}
 use Rattle.mo_types.specs.declared.goal.Goal.TheVariants.{Def, WeakSelf, Header, Import, Flat, Nobody}
 use Rattle.mo_types.specs.declared.reference.Ref.{Ref}
@@ -23,16 +24,16 @@ pub record Places : Type 0 where
   pub addresses : AtomMap
   pub offsets : AtomMap
 
--- loader.h: S_THREAD_LOCAL_VARIABLES, the sections of the variables' descriptors
-abbrev pub S_THREAD_LOCAL_VARIABLES : ℕ
-S_THREAD_LOCAL_VARIABLES = 0x13
-
 -- the page of an address, as an address, and the address's offset in it
 abbrev pub page_of_address : ℕ → Meaning
 page_of_address address = Address (address / 0x1000 * 0x1000)
 
 abbrev pub offset_in_page : ℕ → Meaning
 offset_in_page address = Low12 (address % 0x1000)
+
+-- the low 12 bits of a number in two's complement
+abbrev pub low_bits : ℤ → Meaning
+low_bits number = Low12 (twos_complement 12 number)
 
 -- a number as one of 64 bits in two's complement
 abbrev pub wrapped : ℤ → ℤ
@@ -66,6 +67,12 @@ pub record TellsTarget (image : List ℕ) (addresses : AtomMap) (p : ℕ) (kind 
   pub target : ℕ
   pub stands : target_of image addresses goal addend ≡ Some (pos target)
   pub told : denote image p kind ≡ tells target
+
+-- the field tells the low 12 bits of a goal plus an addend, which may be below 0
+pub record TellsLowBits (image : List ℕ) (addresses : AtomMap) (p : ℕ) (goal : Goal) (addend : ℤ) : Type 0 where
+  pub target : ℤ
+  pub stands : target_of image addresses goal addend ≡ Some target
+  pub told : denote image p PageOff ≡ low_bits target
 
 -- the field tells a slot, whose fixup leads to the goal
 pub record TellsSlot (image : List ℕ) (addresses : AtomMap) (p : ℕ) (kind : RefKind) (goal : Goal) (tells : ℕ → Meaning) : Type 0 where
@@ -124,7 +131,7 @@ DenotesBy Diff32 image places p section goal addend minus = TellsDistance image 
 DenotesBy Diff64 image places p section goal addend minus = TellsDistance image places.addresses p Diff64 goal addend minus wrapped
 DenotesBy Branch image places p section goal addend minus = TellsBranch image places.addresses p goal addend
 DenotesBy Page image places p section goal addend minus = TellsTarget image places.addresses p Page goal addend page_of_address
-DenotesBy PageOff image places p section goal addend minus = TellsTarget image places.addresses p PageOff goal addend offset_in_page
+DenotesBy PageOff image places p section goal addend minus = TellsLowBits image places.addresses p goal addend
 DenotesBy GotPage image places p section goal addend minus = TellsSlot image places.addresses p GotPage goal page_of_address
 DenotesBy GotPageOff image places p section goal addend minus = TellsSlot image places.addresses p GotPageOff goal offset_in_page
 DenotesBy GotDelta image places p section goal addend minus = TellsSlot image places.addresses p GotDelta goal Address

@@ -1,6 +1,7 @@
 //! What the definitions mean, each on a call that does nothing.
-ghost use Rattle.std.specs.Prelude.{◌≡◌, ◌≢◌, ℕ, true, false, codes, pos, List, Option, Some, None, Ok, Err};
+ghost use Rattle.std.specs.Prelude.{◌≡◌, ◌≢◌, ℕ, true, false, codes, pos, negsuc, List, Option, Some, None, Ok, Err};
 ghost use Rattle.std.specs.List.{All};
+ghost use Rattle.mo_format.specs.declared.loader.TheConstants.{LC_DYLD_CHAINED_FIXUPS};
 ghost use Rattle.mo_types.specs.declared.goal.Goal.TheVariants.{Def, WeakSelf, Header, Import, Flat};
 ghost use Rattle.mo_types.specs.declared.key.AtomKey.{AtomKey};
 ghost use Rattle.mo_types.specs.declared.reference.RefKind.{RefKind};
@@ -12,7 +13,6 @@ ghost use Rattle.image_read.specs.Denotes.{DenotesBy, Places};
 ghost use Rattle.image_read.specs.Example.{example, imported};
 ghost use Rattle.image_read.specs.Fixups.{fixup_at, held_on, pointer_at};
 ghost use Rattle.image_read.specs.Held.{in_atom};
-ghost use Rattle.image_read.specs.Imports.{LC_DYLD_CHAINED_FIXUPS};
 ghost use Rattle.image_read.specs.Meaning.{denote};
 ghost use Rattle.image_read.specs.declared.fixups.FixupRead.{FixupRead};
 ghost use Rattle.image_read.specs.declared.fixups.FixupRead.TheVariants.{Plain};
@@ -49,6 +49,7 @@ pub fn fields_tell_their_goals()
     ensures branch_by_stub { (places : Places) → DenotesBy Branch example places 0x407c 0 imported (pos 0) None }
     ensures page { (places : Places) (key : AtomKey) (offset : ℕ) → in_atom places.addresses key offset ≡ Some 0x40b0 → DenotesBy Page example places 0x4084 0 (Def key offset) (pos 8) None }
     ensures page_offset { (places : Places) (key : AtomKey) (offset : ℕ) → in_atom places.addresses key offset ≡ Some 0x40b0 → DenotesBy PageOff example places 0x4088 0 (WeakSelf (codes "_h") key offset) (pos 8) None }
+    ensures page_offset_below_zero { (places : Places) (key : AtomKey) (offset : ℕ) → in_atom places.addresses key offset ≡ Some 0x40b0 → DenotesBy PageOff example places 0x4088 0 (Def key offset) (negsuc 0x4ff7) None }
     ensures slot_page { (places : Places) → DenotesBy GotPage example places 0x408c 0 imported (pos 0) None }
     ensures variable_page { (places : Places) → DenotesBy TlvPage example places 0x408c 0 imported (pos 0) None }
     ensures slot_offset { (places : Places) → DenotesBy GotPageOff example places 0x4090 0 imported (pos 0) None }

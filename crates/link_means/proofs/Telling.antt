@@ -5,7 +5,7 @@ use Rattle.std.specs.List.{enumerate_from, filter, list_any}
 use Rattle.std.specs.Option.{option_map}
 use Rattle.std.specs.Ordering.{is_eq}
 use Rattle.std.proofs.lemmas.Bool.{eqb-true}
-use Rattle.list_lemmas.proofs.Members.{In, find_some, from_filter, from_map, in_from_Contains}
+use Rattle.list_lemmas.proofs.Members.{In, find_some, from_filter, from_map, in_from_Contains, from_flat}
 use Rattle.mo_types.specs.Atoms.{atoms_of}
 use Rattle.mo_types.specs.Keys.{compare_keys}
 use Rattle.mo_types.specs.Loaded.{IsWholeFile}
@@ -27,7 +27,6 @@ use Rattle.resolve.specs.Goals.{goal_table}
 use Rattle.resolve.specs.Representatives.{representatives_of}
 use Rattle.resolve.proofs.RepresentativeLemmas.{atoms_of_file}
 use Rattle.sect_place.specs.declared.layout.Layout.{Layout}
-use Rattle.sect_place.proofs.Once.{from_flat}
 use Rattle.atom_work.specs.Addresses.{target_goal}
 use Rattle.atom_work.specs.Atoms.{kept_as, kept_atoms, kept_in, raised}
 use Rattle.atom_work.specs.Mets.{is_ref_of}
@@ -44,7 +43,7 @@ use Rattle.image_means.proofs.Rowed.{IsRowIn, row_in}
 use Rattle.member_rounds.specs.Form.{is_common, is_later, is_later_kind, is_later_section}
 use Rattle.link_files.specs.Linked.{making}
 use Rattle.link_means.specs.Images.{AreOrdered, IsImageOf}
-use Rattle.link_means.specs.Tellings.{AreInForm, AreWhole, IsNotBelow, made_of}
+use Rattle.link_means.specs.Tellings.{AreInForm, AreWhole, made_of}
 use Rattle.link_means.proofs.Cuts.{IsPiece, is_piece, key_at}
 use Rattle.link_means.proofs.Goals.{AreSolid}
 use Rattle.link_means.proofs.Lists.{from_numbered, in_slice, neither, none_passes, some_is}
@@ -145,19 +144,19 @@ MinusBy _ image layout minus = Unit {0}
 zero_goal : (goal : Goal) (addend : ℤ) → is_looked_up goal ≡ false → (is_looked_up goal && is_zero addend) ≡ false
 zero_goal goal addend e = rw e refl
 
-direct_by : (kind : RefKind) (image : List ℕ) (layout : Layout) (goal : Goal) (addend : ℤ) (minus : Option Goal) → is_later_kind kind ≡ false → IsInside image layout goal → MinusBy kind image layout minus → IsNotBelow kind image (addresses_of layout.placed) goal addend → IsDirectBy kind image (addresses_of layout.placed) goal addend minus
-direct_by Branch image layout goal addend minus form inside from low = (inside.stands, zero_goal goal addend inside.unsought)
-direct_by Page image layout goal addend minus form inside from low = inside.stands
-direct_by PageOff image layout goal addend minus form inside from low = low
-direct_by Diff32 image layout goal addend minus form inside from low = (inside.stands, from)
-direct_by Diff64 image layout goal addend minus form inside from low = (inside.stands, from)
-direct_by Pointer image layout goal addend minus form inside from low = absurd cc
-direct_by GotPage image layout goal addend minus form inside from low = absurd cc
-direct_by GotPageOff image layout goal addend minus form inside from low = absurd cc
-direct_by GotDelta image layout goal addend minus form inside from low = absurd cc
-direct_by GotPointer image layout goal addend minus form inside from low = absurd cc
-direct_by TlvPage image layout goal addend minus form inside from low = absurd cc
-direct_by TlvPageOff image layout goal addend minus form inside from low = absurd cc
+direct_by : (kind : RefKind) (image : List ℕ) (layout : Layout) (goal : Goal) (addend : ℤ) (minus : Option Goal) → is_later_kind kind ≡ false → IsInside image layout goal → MinusBy kind image layout minus → IsDirectBy kind image (addresses_of layout.placed) goal addend minus
+direct_by Branch image layout goal addend minus form inside from = (inside.stands, zero_goal goal addend inside.unsought)
+direct_by Page image layout goal addend minus form inside from = inside.stands
+direct_by PageOff image layout goal addend minus form inside from = inside.stands
+direct_by Diff32 image layout goal addend minus form inside from = (inside.stands, from)
+direct_by Diff64 image layout goal addend minus form inside from = (inside.stands, from)
+direct_by Pointer image layout goal addend minus form inside from = absurd cc
+direct_by GotPage image layout goal addend minus form inside from = absurd cc
+direct_by GotPageOff image layout goal addend minus form inside from = absurd cc
+direct_by GotDelta image layout goal addend minus form inside from = absurd cc
+direct_by GotPointer image layout goal addend minus form inside from = absurd cc
+direct_by TlvPage image layout goal addend minus form inside from = absurd cc
+direct_by TlvPageOff image layout goal addend minus form inside from = absurd cc
 
 goal_made : (command : Command) (libs : LibraryGraph) (files : List LoadedFile) (flags : ℕ) (keys : List AtomKey) (row : Row) (target : Target) → goal_of (making command libs files flags keys) row target ≡ target_goal (representatives_of files) (goals_at (goal_table files libs command) row.file) target
 unfolding making
@@ -167,10 +166,9 @@ files_made : (command : Command) (libs : LibraryGraph) (files : List LoadedFile)
 unfolding making
 files_made command libs files flags keys = refl
 
-ref_direct : (command : Command) (libs : LibraryGraph) (files : List LoadedFile) (flags : ℕ) (keys : List AtomKey) (layout : Layout) (image : List ℕ) (row : Row) (file : LoadedFile) (r : Ref) → AreLinked command libs files flags keys layout image → IsWholeFile file → is_later file ≡ false → slice_get files row.file ≡ Some file → In r file.refs → has keys r.atom ≡ true
-    → IsNotBelow r.kind image (addresses_of layout.placed) (goal_of (making command libs files flags keys) row r.target) r.addend → IsDirect (making command libs files flags keys) layout image row r
-ref_direct command libs files flags keys layout image row file r linked whole form is h kept low =
-    direct_by r.kind image layout (goal_of m row r.target) r.addend (minus_of m row r) (not_later file r form h) (inside r.target (first r.minus) read.target) (from r.kind r.minus refl read.minus) low
+ref_direct : (command : Command) (libs : LibraryGraph) (files : List LoadedFile) (flags : ℕ) (keys : List AtomKey) (layout : Layout) (image : List ℕ) (row : Row) (file : LoadedFile) (r : Ref) → AreLinked command libs files flags keys layout image → IsWholeFile file → is_later file ≡ false → slice_get files row.file ≡ Some file → In r file.refs → has keys r.atom ≡ true → IsDirect (making command libs files flags keys) layout image row r
+ref_direct command libs files flags keys layout image row file r linked whole form is h kept =
+    direct_by r.kind image layout (goal_of m row r.target) r.addend (minus_of m row r) (not_later file r form h) (inside r.target (first r.minus) read.target) (from r.kind r.minus refl read.minus)
   where
     m : Making
     m = making command libs files flags keys
@@ -197,9 +195,8 @@ ref_direct command libs files flags keys layout image row file r linked whole fo
     from Diff64 minus e has = subtracted minus e has
     from _ minus e has = tt
 
-pub references_told : (command : Command) (libs : LibraryGraph) (files : List LoadedFile) (image : List ℕ) (is : IsImageOf command libs files image) (offsets : AtomMap) (section : ℕ) (row : Row) (reference : Ref) → AreOrdered files → AreWhole files → AreInForm files → Contains (rows_of (made_of is) is.layout) row → IsReferenceOf (made_of is) row reference
-    → IsNotBelow reference.kind image (addresses_of is.layout.placed) (goal_of (made_of is) row reference.target) reference.addend → TellsGoal (made_of is) is.layout image offsets section row reference
-references_told command libs files image is offsets section row reference ordered whole form among of_row low =
+pub references_told : (command : Command) (libs : LibraryGraph) (files : List LoadedFile) (image : List ℕ) (is : IsImageOf command libs files image) (offsets : AtomMap) (section : ℕ) (row : Row) (reference : Ref) → AreOrdered files → AreWhole files → AreInForm files → Contains (rows_of (made_of is) is.layout) row → IsReferenceOf (made_of is) row reference → TellsGoal (made_of is) is.layout image offsets section row reference
+references_told command libs files image is offsets section row reference ordered whole form among of_row =
     references_lead m layout image offsets section row reference is.rising is.is_image among of_row direct
   where
     m : Making
@@ -232,4 +229,4 @@ references_told command libs files image is offsets section row reference ordere
     direct : IsDirect m layout image row reference
     direct =
         ref_direct command libs files is.flags is.keys layout image row of_row.file reference linked one (from_all (λ (f : LoadedFile). is_later f ≡ false) files of_row.file form h) there of_refs
-        (ap (has is.keys) key ∙ kept.keeps) low
+        (ap (has is.keys) key ∙ kept.keeps)

@@ -1,18 +1,14 @@
 -- What the references of a linked image tell.
-use Rattle.std.specs.Prelude.{ℕ, ◌≡◌, ◌<◌, ◌^◌, false, ℤ, pos, List, All, Some}
+use Rattle.std.specs.Prelude.{ℕ, ◌≡◌, ◌<◌, ◌^◌, false, List, All}
 use Rattle.image_make.specs.Made.{Making}
 use Rattle.image_means.specs.Entry.{BeginsAt}
 use Rattle.image_means.specs.Means.{IsGoalAt}
-use Rattle.image_read.specs.Held.{AtomMap, target_of}
 use Rattle.member_rounds.specs.Form.{is_later}
 use Rattle.lib_bind.specs.declared.library.LibraryGraph.{LibraryGraph}
 use Rattle.link_files.specs.Linked.{making}
 use Rattle.mo_cmd.specs.declared.command.Command.{Command}
 use Rattle.mo_types.specs.Loaded.{IsWholeFile}
-use Rattle.mo_types.specs.declared.goal.Goal.{Goal}
 use Rattle.mo_types.specs.declared.loaded.LoadedFile.{LoadedFile}
-use Rattle.mo_types.specs.declared.reference.RefKind.{RefKind}
-use Rattle.mo_types.specs.declared.reference.RefKind.TheVariants.{PageOff}
 use Rattle.sect_place.specs.declared.layout.Layout.{Layout}
 use Rattle.link_means.specs.Images.{IsImageOf}
 
@@ -27,11 +23,6 @@ AreInForm files = All (λ file. is_later file ≡ false) files
 -- what an image of files is made of
 abbrev pub made_of : {command : Command} {libs : LibraryGraph} {files : List LoadedFile} {image : List ℕ} → IsImageOf command libs files image → Making
 made_of {command = command} {libs = libs} {files = files} is = making command libs files is.flags is.keys
-
--- an instruction that tells the low 12 bits of a target tells those of one that isn't below 0
-abbrev pub IsNotBelow : RefKind → List ℕ → AtomMap → Goal → ℤ → Type 0
-IsNotBelow PageOff image addresses goal addend = (target : ℕ) × (target_of image addresses goal addend ≡ Some (pos target))
-IsNotBelow _ image addresses goal addend = Unit {0}
 
 -- the image has the entry of a program at an address, where the program begins
 pub record HasEntry (m : Making) (layout : Layout) (image : List ℕ) : Type 0 where

@@ -2,8 +2,7 @@
 ghost use Rattle.std.specs.Prelude.{ℕ, ◌≡◌, false, All, Contains, List, Ok};
 ghost use Rattle.atom_work.specs.Rows.{Row};
 ghost use Rattle.image_make.specs.Made.{rows_of};
-ghost use Rattle.image_means.specs.Means.{addresses_of};
-ghost use Rattle.image_means.specs.References.{IsReferenceOf, TellsGoal, goal_of};
+ghost use Rattle.image_means.specs.References.{IsReferenceOf, TellsGoal};
 ghost use Rattle.image_read.specs.Held.{AtomMap};
 ghost use Rattle.lib_bind.specs.declared.library.LibraryGraph.{LibraryGraph};
 ghost use Rattle.link_engine.specs.Told.{Told};
@@ -12,7 +11,7 @@ ghost use Rattle.link_engine.specs.declared.plan.Plan.{Plan};
 ghost use Rattle.link_files.specs.Linked.{IsLinked};
 ghost use Rattle.link_means.specs.Images.{AreCut, AreOrdered, IsImageOf};
 ghost use Rattle.link_means.specs.Plans.{HasBytes, IsPlanOfImage};
-ghost use Rattle.link_means.specs.Tellings.{AreInForm, AreWhole, HasEntry, IsNotBelow, made_of};
+ghost use Rattle.link_means.specs.Tellings.{AreInForm, AreWhole, HasEntry, made_of};
 ghost use Rattle.mo_cmd.specs.declared.command.Command.{Command as Commanded};
 ghost use Rattle.mo_types.specs.declared.loaded.LoadedFile.{LoadedFile};
 ghost use Rattle.mo_types.specs.declared.reference.Ref.{Ref};
@@ -29,11 +28,10 @@ pub fn a_plan_is_a_linked_image()
     ensures { (words : List (List ℕ)) (told : Told) (plan : Plan) → IsVerdict words told (Ok plan) → IsPlanOfImage words told plan }
 {}
 
-/// The field of each reference of an atom with bytes tells the goal of the reference, which the image has, unless it is to
-/// tell an offset in a page of a target below 0: where the files' objects are whole and have the form, no such reference
-/// leads to another image, nowhere, or to an atom that isn't kept.
+/// The field of each reference of an atom with bytes tells the goal of the reference, which the image has: where the files'
+/// objects are whole and have the form, no such reference leads to another image, nowhere, or to an atom that isn't kept.
 pub fn kept_references_tell_their_goals()
-    ensures { (command : Commanded) (libs : LibraryGraph) (files : List LoadedFile) (image : List ℕ) (is : IsImageOf command libs files image) (offsets : AtomMap) (section : ℕ) (row : Row) (reference : Ref) → AreOrdered files → AreWhole files → AreInForm files → Contains (rows_of (made_of is) is.layout) row → IsReferenceOf (made_of is) row reference → IsNotBelow reference.kind image (addresses_of is.layout.placed) (goal_of (made_of is) row reference.target) reference.addend → TellsGoal (made_of is) is.layout image offsets section row reference }
+    ensures { (command : Commanded) (libs : LibraryGraph) (files : List LoadedFile) (image : List ℕ) (is : IsImageOf command libs files image) (offsets : AtomMap) (section : ℕ) (row : Row) (reference : Ref) → AreOrdered files → AreWhole files → AreInForm files → Contains (rows_of (made_of is) is.layout) row → IsReferenceOf (made_of is) row reference → TellsGoal (made_of is) is.layout image offsets section row reference }
 {}
 
 /// A linked program has its entry: the name leads to a place of the image, of its own atoms or its header, which is kept
