@@ -6,6 +6,7 @@ use mo_types::*;
 use std::alloc::{AllocError, Global};
 use std::fmt::Debug;
 use std::test::Fail;
+use test_objects::{defined, file, file_id, object_of, section, symbol};
 
 fn is_named(alloc: Global, variant: &impl Debug, name: &str) -> Result<bool, AllocError> {
     let mut lower_case = format!(in alloc; "{variant:?}")?;
@@ -280,13 +281,10 @@ fn files_are_loaded(alloc: Global) -> Result<bool, OutOfMemory> {
             position: 0,
             member,
         };
+        let object = defining(alloc, 2, b"a\0", 1, 0x100)?;
         files.push(LoadedFile {
-            id,
             label: Bytes::from_static(b"lib.a(a.o)"),
-            object: object_of(alloc, 2, b"a\0", 1, 0x100)?,
-            atoms: AtomList::new(alloc),
-            refs: RefList::new(alloc, id),
-            unwinds: UnwindList::new(alloc),
+            ..file(alloc, id, object)
         })?;
     }
     let loaded = Loaded { files };
@@ -328,11 +326,7 @@ fn reference(sort: u32, number: u32) -> Ref {
 }
 
 fn many_references(alloc: Global) -> Result<RefList, OutOfMemory> {
-    let file = FileId {
-        position: 3,
-        member: 0,
-    };
-    let mut refs = RefList::new(alloc, file);
+    let mut refs = RefList::new(alloc, file_id(3));
     refs.reserve(9000)?;
     for number in 0..9000 {
         refs.push(reference(number % 9, number))?;
@@ -350,12 +344,8 @@ fn are_references(refs: &RefList) -> bool {
 }
 
 fn lists_of_references_lose_nothing(alloc: Global) -> Result<bool, OutOfMemory> {
-    let file = FileId {
-        position: 3,
-        member: 0,
-    };
     let refs = many_references(alloc)?;
-    Ok(RefList::new(alloc, file).is_empty() && are_references(&refs))
+    Ok(RefList::new(alloc, file_id(3)).is_empty() && are_references(&refs))
 }
 
 // Each file's first bytes with what it is.
@@ -388,48 +378,25 @@ const KINDS: [(&[u8], Kind); 26] = [
     (b"", Kind::NotAnInput),
 ];
 
-fn section_of(alloc: Global, kind: u8, bytes: &'static [u8]) -> Section {
-    Section {
-        segment: Bytes::from_static(b"__TEXT"),
-        name: Bytes::from_static(b"__cstring"),
-        address: 0x100,
-        size: bytes.len() as u64,
-        align: 0,
-        kind,
-        attributes: 0,
-        file_offset: 0x200,
-        reloc_offset: 0,
-        bytes: Bytes::from_static(bytes),
-        relocs: RelocList::new(alloc),
-    }
-}
-
 // An object of one section, and a definition in it.
-fn object_of(
+fn defining(
     alloc: Global,
     kind: u8,
     bytes: &'static [u8],
-    section: u8,
+    number: u8,
     value: u64,
 ) -> Result<Object, OutOfMemory> {
-    let mut sections = SectionList::new(alloc);
-    sections.push(section_of(alloc, kind, bytes))?;
     let mut symbols = SymbolList::new(alloc);
     symbols.push(Symbol {
-        name: Bytes::from_static(b"_s"),
-        kind: SymbolKind::Defined { section, value },
         external: true,
-        hidden: false,
-        weak_def: false,
-        weak_ref: false,
-        no_strip: false,
-        alt: false,
+        ..symbol(b"_s", defined(number, value))
     })?;
-    Ok(Object {
-        subsections: true,
-        sections,
-        symbols,
-    })
+    let bytes = Bytes::from_static(bytes);
+    let strings = Section {
+        address: 0x100,
+        ..section(alloc, b"__TEXT", b"__cstring", kind, 0, bytes)
+    };
+    object_of(alloc, strings, symbols)
 }
 
 fn is_whole(
@@ -439,7 +406,7 @@ fn is_whole(
     section: u8,
     value: u64,
 ) -> Result<bool, OutOfMemory> {
-    Ok(object_of(alloc, kind, bytes, section, value)?.is_whole())
+    Ok(defining(alloc, kind, bytes, section, value)?.is_whole())
 }
 
 // Strings end in NUL, literals are whole, and a definition lies in its section or at its end.

@@ -154,69 +154,69 @@ const NOT_BEGUN: Run = Run {
     ..DONE
 };
 
+// What fails, and what is written then.
+const FAILING: [Run; 11] = [
+    DONE,
+    NOT_BEGUN,
+    Run {
+        failing: (0, 2, 0),
+        written: Some((0, false)),
+        ..NOT_BEGUN
+    },
+    Run {
+        failing: (0, 3, 0),
+        written: Some((IMAGE_SIZE, false)),
+        ..NOT_BEGUN
+    },
+    // The room for the last byte is missing.
+    Run {
+        failing: (0, 0, 0),
+        room: ROOM - 1,
+        written: Some((0, false)),
+        ..NOT_BEGUN
+    },
+    Run {
+        failing: (1, 0, 0),
+        line: b"atomld: cannot read main.o\n",
+        ..NOT_BEGUN
+    },
+    Run {
+        failing: (1, 0, 1),
+        line: b"",
+        ..NOT_BEGUN
+    },
+    // The second of two files isn't read.
+    Run {
+        words: "main.o b.o",
+        failing: (2, 0, 0),
+        line: b"atomld: cannot read b.o\n",
+        ..NOT_BEGUN
+    },
+    // A library is looked for, and one of its paths isn't read, or none is there.
+    Run {
+        words: "main.o -lq",
+        failing: (2, 0, 0),
+        line: b"atomld: cannot read /usr/lib/libq.tbd\n",
+        ..NOT_BEGUN
+    },
+    Run {
+        words: "main.o -lq",
+        failing: (5, 0, 0),
+        line: b"atomld: cannot read /usr/local/lib/libq.tbd\n",
+        ..NOT_BEGUN
+    },
+    Run {
+        words: "main.o -lq",
+        failing: (0, 0, 0),
+        code: 1,
+        line: b"atomld: not found: /usr/lib/libq.tbd\n",
+        ..NOT_BEGUN
+    },
+];
+
 #[test]
 fn failing_calls(rt: HostRuntime) -> Result<(), Fail> {
-    for (row, run) in [
-        DONE,
-        NOT_BEGUN,
-        Run {
-            failing: (0, 2, 0),
-            written: Some((0, false)),
-            ..NOT_BEGUN
-        },
-        Run {
-            failing: (0, 3, 0),
-            written: Some((IMAGE_SIZE, false)),
-            ..NOT_BEGUN
-        },
-        // The room for the last byte is missing.
-        Run {
-            failing: (0, 0, 0),
-            room: ROOM - 1,
-            written: Some((0, false)),
-            ..NOT_BEGUN
-        },
-        Run {
-            failing: (1, 0, 0),
-            line: b"atomld: cannot read main.o\n",
-            ..NOT_BEGUN
-        },
-        Run {
-            failing: (1, 0, 1),
-            line: b"",
-            ..NOT_BEGUN
-        },
-        // The second of two files isn't read.
-        Run {
-            words: "main.o b.o",
-            failing: (2, 0, 0),
-            line: b"atomld: cannot read b.o\n",
-            ..NOT_BEGUN
-        },
-        // A library is looked for, and one of its paths isn't read, or none is there.
-        Run {
-            words: "main.o -lq",
-            failing: (2, 0, 0),
-            line: b"atomld: cannot read /usr/lib/libq.tbd\n",
-            ..NOT_BEGUN
-        },
-        Run {
-            words: "main.o -lq",
-            failing: (5, 0, 0),
-            line: b"atomld: cannot read /usr/local/lib/libq.tbd\n",
-            ..NOT_BEGUN
-        },
-        Run {
-            words: "main.o -lq",
-            failing: (0, 0, 0),
-            code: 1,
-            line: b"atomld: not found: /usr/lib/libq.tbd\n",
-            ..NOT_BEGUN
-        },
-    ]
-    .iter()
-    .enumerate()
-    {
+    for (row, run) in FAILING.iter().enumerate() {
         assert!(rt; is_run(&rt, run)?, "in row {row}");
     }
     Ok(())

@@ -1,11 +1,9 @@
 //! The atoms of a section, against cuts that were counted by hand.
 use atom_cut::{bytes_of, cut};
-use mo_types::{
-    Atom, AtomKey, Bytes, FileId, Object, OutOfMemory, RelocList, Section, SectionList, Symbol,
-    SymbolKind, SymbolList,
-};
+use mo_types::{Atom, AtomKey, Bytes, FileId, Object, OutOfMemory, Section, Symbol, SymbolList};
 use std::alloc::Global;
 use std::test::Fail;
+use test_objects::{defined, object_of, symbol};
 
 const FILE: FileId = FileId {
     position: 3,
@@ -26,17 +24,8 @@ fn symbols(alloc: Global) -> Result<SymbolList, OutOfMemory> {
     let mut symbols = SymbolList::new(alloc);
     for (name, value, alt) in &SYMBOLS {
         symbols.push(Symbol {
-            name: Bytes::from_static(name),
-            kind: SymbolKind::Defined {
-                section: 1,
-                value: *value,
-            },
-            external: false,
-            hidden: false,
-            weak_def: false,
-            weak_ref: false,
-            no_strip: false,
             alt: *alt,
+            ..symbol(*name, defined(1, *value))
         })?;
     }
     Ok(symbols)
@@ -47,19 +36,7 @@ const MANY: u64 = 5000;
 fn many_symbols(alloc: Global) -> Result<SymbolList, OutOfMemory> {
     let mut symbols = SymbolList::new(alloc);
     for number in 0..MANY {
-        symbols.push(Symbol {
-            name: Bytes::from_static(b"_s"),
-            kind: SymbolKind::Defined {
-                section: 1,
-                value: 0x100 + 4 * number,
-            },
-            external: false,
-            hidden: false,
-            weak_def: false,
-            weak_ref: false,
-            no_strip: false,
-            alt: false,
-        })?;
+        symbols.push(symbol(b"_s", defined(1, 0x100 + 4 * number)))?;
     }
     Ok(symbols)
 }
@@ -72,18 +49,11 @@ fn section(
     size: u64,
     bytes: &'static [u8],
 ) -> Section {
+    let bytes = Bytes::from_static(bytes);
     Section {
-        segment: Bytes::from_static(segment),
-        name: Bytes::from_static(b"__text"),
         address: 0x100,
         size,
-        align: 4,
-        kind,
-        attributes: 0,
-        file_offset: 0x200,
-        reloc_offset: 0,
-        bytes: Bytes::from_static(bytes),
-        relocs: RelocList::new(alloc),
+        ..test_objects::section(alloc, segment, b"__text", kind, 4, bytes)
     }
 }
 
@@ -118,21 +88,6 @@ static CUT_AT_SYMBOLS: [(u8, u64, &'static [u8], &[Row]); 6] = [
         &[(0, 12, 4, 255), (12, 4, 2, 255), (16, 24, 4, 255)],
     ),
 ];
-
-fn object_of(
-    alloc: Global,
-    subsections: bool,
-    section: Section,
-    symbols: SymbolList,
-) -> Result<Object, OutOfMemory> {
-    let mut sections = SectionList::new(alloc);
-    sections.push(section)?;
-    Ok(Object {
-        subsections,
-        sections,
-        symbols,
-    })
-}
 
 fn is_atom(object: &Object, atom: &Atom, row: &Row) -> bool {
     let key = AtomKey {
@@ -169,7 +124,10 @@ fn section_is_cut(
     section: Section,
     rows: &[Row],
 ) -> Result<bool, OutOfMemory> {
-    let object = object_of(alloc, subsections, section, symbols(alloc)?)?;
+    let object = Object {
+        subsections,
+        ..object_of(alloc, section, symbols(alloc)?)?
+    };
     is_cut(alloc, &object, rows)
 }
 
@@ -206,7 +164,7 @@ fn is_cut_into_words(alloc: Global, object: &Object) -> Result<bool, OutOfMemory
 // A section is cut at each of many symbols.
 fn many_are_cut(alloc: Global) -> Result<bool, OutOfMemory> {
     let zeros = section(alloc, b"__DATA", 1, 4 * MANY, &[]);
-    let object = object_of(alloc, true, zeros, many_symbols(alloc)?)?;
+    let object = object_of(alloc, zeros, many_symbols(alloc)?)?;
     is_cut_into_words(alloc, &object)
 }
 

@@ -7,17 +7,13 @@ ghost use Rattle.std.specs.Prelude.{◌<◌};
 use atom_cut::cut;
 use clang::objects_of_clang;
 use mo_types::{
-    AtomKey, Bytes, Feature, FileId, Object, OutOfMemory, RawReloc, Ref, RefFault, RefKind,
-    RefList, RelocList, Section, SectionList, Symbol, SymbolKind, SymbolList, Target,
+    Bytes, Feature, Object, OutOfMemory, RawReloc, Ref, RefFault, RefKind, RefList, RelocList,
+    Section, SectionList, SymbolKind, SymbolList, Target,
 };
 use reloc_read::refs_of;
 use std::alloc::Global;
 use std::test::Fail;
-
-const FILE: FileId = FileId {
-    position: 1,
-    member: 0,
-};
+use test_objects::{defined, file_id, key, object_of, symbol};
 
 // Where the relocations of the first section stand in the file.
 const AT: u64 = 0x1000;
@@ -26,53 +22,26 @@ const AT: u64 = 0x1000;
 type Raw = (u8, u32, u32, bool, u8, bool);
 
 // `_a` of 16 bytes, `_x` of 32, `_b`, `_p` and `_q` of 8, and a number.
-const SYMBOLS: [SymbolKind; 6] = [
-    SymbolKind::Defined {
-        section: 1,
-        value: 0,
-    },
-    SymbolKind::Defined {
-        section: 1,
-        value: 16,
-    },
-    SymbolKind::Defined {
-        section: 1,
-        value: 48,
-    },
-    SymbolKind::Defined {
-        section: 1,
-        value: 56,
-    },
-    SymbolKind::Defined {
-        section: 1,
-        value: 64,
-    },
-    SymbolKind::Absolute,
-];
-
 fn symbols(alloc: Global) -> Result<SymbolList, OutOfMemory> {
     let mut symbols = SymbolList::new(alloc);
-    for kind in &SYMBOLS {
-        symbols.push(Symbol {
-            name: Bytes::from_static(b"_s"),
-            kind: *kind,
-            external: false,
-            hidden: false,
-            weak_def: false,
-            weak_ref: false,
-            no_strip: false,
-            alt: false,
-        })?;
+    for value in [0, 16, 48, 56, 64] {
+        symbols.push(symbol(b"_s", defined(1, value)))?;
     }
+    symbols.push(symbol(b"_s", SymbolKind::Absolute))?;
     Ok(symbols)
 }
 
-fn section(
-    alloc: Global,
-    address: u64,
-    bytes: &[u8],
-    relocs: &[Raw],
-) -> Result<Section, OutOfMemory> {
+// `__data` at an address.
+fn section(alloc: Global, address: u64, bytes: Bytes, relocs: RelocList) -> Section {
+    Section {
+        address,
+        reloc_offset: AT,
+        relocs,
+        ..test_objects::section(alloc, b"__DATA", b"__data", 0, 3, bytes)
+    }
+}
+
+fn relocs_of(alloc: Global, relocs: &[Raw]) -> Result<RelocList, OutOfMemory> {
     let mut list = RelocList::new(alloc);
     for (kind, address, number, pcrel, length, external) in relocs {
         list.push(RawReloc {
@@ -84,19 +53,7 @@ fn section(
             kind: *kind,
         })?;
     }
-    Ok(Section {
-        segment: Bytes::from_static(b"__DATA"),
-        name: Bytes::from_static(b"__data"),
-        address,
-        size: bytes.len() as u64,
-        align: 3,
-        kind: 0,
-        attributes: 0,
-        file_offset: 0x200,
-        reloc_offset: AT,
-        bytes: Bytes::from_slice(alloc, bytes)?,
-        relocs: list,
-    })
+    Ok(list)
 }
 
 // A section of 72 bytes at 0, in which `_p` holds 8 and `_q` the address 0x108, and one of 8 bytes at 0x100.
@@ -105,14 +62,13 @@ fn object(alloc: Global, relocs: &[Raw]) -> Result<Object, OutOfMemory> {
     data[56] = 8;
     data[64] = 8;
     data[65] = 1;
+    let data = Bytes::from_slice(alloc, &data)?;
+    let relocs = relocs_of(alloc, relocs)?;
     let mut sections = SectionList::new(alloc);
-    sections.push(section(alloc, 0, &data, relocs)?)?;
-    sections.push(section(alloc, 0x100, &[0; 8], &[])?)?;
-    Ok(Object {
-        subsections: true,
-        sections,
-        symbols: symbols(alloc)?,
-    })
+    sections.push(section(alloc, 0, data, relocs))?;
+    let zeros = Bytes::from_static(&[0; 8]);
+    sections.push(section(alloc, 0x100, zeros, RelocList::new(alloc)))?;
+    Ok(test_objects::object(sections, symbols(alloc)?))
 }
 
 fn are_read(found: &RefList, wanted: &[Ref]) -> bool {
@@ -149,9 +105,10 @@ fn object_is_read(
     if !object.is_whole() {
         return Ok(false);
     }
-    let atoms = cut(alloc, object, FILE)?;
-    let is_checked = reloc_read::check(alloc, object, &atoms, FILE) == check_of(wanted);
-    let found = refs_of(alloc, object, &atoms, FILE);
+    let file = file_id(1);
+    let atoms = cut(alloc, object, file)?;
+    let is_checked = reloc_read::check(alloc, object, &atoms, file) == check_of(wanted);
+    let found = refs_of(alloc, object, &atoms, file);
     Ok(is_checked && is_answer(&found, wanted))
 }
 
@@ -174,11 +131,7 @@ fn reference(
     addend: i64,
 ) -> Ref {
     Ref {
-        atom: AtomKey {
-            file: FILE,
-            section: 1,
-            offset: u64::from(offset),
-        },
+        atom: key(1, 1, u64::from(offset)),
         place: 0,
         file_place: 0x200 + u64::from(offset),
         kind,
@@ -194,11 +147,7 @@ fn differences(alloc: Global) -> Result<bool, OutOfMemory> {
         (1, 56, 0, false, 3, true),
         (0, 56, 2, false, 3, true),
     ];
-    let last = AtomKey {
-        file: FILE,
-        section: 2,
-        offset: 0,
-    };
+    let last = key(1, 2, 0);
     let wanted = [
         reference(64, RefKind::Pointer, Target::Local(last, 8), None, 0),
         reference(
@@ -276,19 +225,7 @@ const MANY: u32 = 5000;
 fn many_symbols(alloc: Global) -> Result<SymbolList, OutOfMemory> {
     let mut symbols = SymbolList::new(alloc);
     for number in 0..MANY {
-        symbols.push(Symbol {
-            name: Bytes::from_static(b"_s"),
-            kind: SymbolKind::Defined {
-                section: 1,
-                value: 8 * u64::from(number),
-            },
-            external: false,
-            hidden: false,
-            weak_def: false,
-            weak_ref: false,
-            no_strip: false,
-            alt: false,
-        })?;
+        symbols.push(symbol(b"_s", defined(1, 8 * u64::from(number))))?;
     }
     Ok(symbols)
 }
@@ -317,25 +254,8 @@ fn many_relocs(alloc: Global, step: u32) -> Result<RelocList, OutOfMemory> {
 
 fn many(alloc: Global, step: u32) -> Result<Object, OutOfMemory> {
     let bytes = Bytes::from_vec(vec![in alloc; 0; 8 * MANY as usize]?)?;
-    let mut sections = SectionList::new(alloc);
-    sections.push(Section {
-        segment: Bytes::from_static(b"__DATA"),
-        name: Bytes::from_static(b"__data"),
-        address: 0,
-        size: bytes.len() as u64,
-        align: 3,
-        kind: 0,
-        attributes: 0,
-        file_offset: 0x200,
-        reloc_offset: AT,
-        bytes,
-        relocs: many_relocs(alloc, step)?,
-    })?;
-    Ok(Object {
-        subsections: true,
-        sections,
-        symbols: many_symbols(alloc)?,
-    })
+    let section = section(alloc, 0, bytes, many_relocs(alloc, step)?);
+    object_of(alloc, section, many_symbols(alloc)?)
 }
 
 fn is_in_place(found: &RefList, index: u32, number: u32) -> bool {
@@ -362,8 +282,9 @@ fn all_are_read(alloc: Global, object: &Object, step: u32) -> Result<bool, OutOf
     if !object.is_whole() {
         return Ok(false);
     }
-    let atoms = cut(alloc, object, FILE)?;
-    match &refs_of(alloc, object, &atoms, FILE) {
+    let file = file_id(1);
+    let atoms = cut(alloc, object, file)?;
+    match &refs_of(alloc, object, &atoms, file) {
         Ok(found) => Ok(are_in_place(found, step)),
         Err(_) => Ok(false),
     }

@@ -1,13 +1,15 @@
 //! Objects that clang made, against what llvm-readobj says of them (bench/clang_objects.py).
 
 use super::clang_objects::{ClangObject, ClangSection, OBJECTS};
+use super::relocs_of;
 use atom_cut::cut;
 use mo_types::{
-    Atom, AtomKey, Bytes, FileId, Object, OutOfMemory, RawReloc, Ref, RefList, RelocList, Section,
-    SectionList, Symbol, SymbolKind, SymbolList, Target,
+    Atom, AtomKey, Bytes, FileId, Object, OutOfMemory, Ref, RefList, Section, SectionList, Symbol,
+    SymbolKind, SymbolList, Target,
 };
 use reloc_read::refs_of;
 use std::alloc::Global;
+use test_objects::{defined, symbol};
 
 const FILE: FileId = FileId {
     position: 3,
@@ -15,20 +17,10 @@ const FILE: FileId = FileId {
 };
 
 fn section(alloc: Global, section: &ClangSection) -> Result<Section, OutOfMemory> {
-    let mut relocs = RelocList::new(alloc);
-    for (kind, address, number, pcrel, length, external) in section.relocs {
-        relocs.push(RawReloc {
-            address: *address,
-            number: *number,
-            pcrel: *pcrel,
-            length: *length,
-            external: *external,
-            kind: *kind,
-        })?;
-    }
+    let relocs = relocs_of(alloc, section.relocs)?;
     Ok(Section {
-        segment: Bytes::from_slice(alloc, section.names.0)?,
-        name: Bytes::from_slice(alloc, section.names.1)?,
+        segment: Bytes::from_static(section.names.0),
+        name: Bytes::from_static(section.names.1),
         address: section.place.0,
         size: section.place.1,
         align: section.place.2,
@@ -36,7 +28,7 @@ fn section(alloc: Global, section: &ClangSection) -> Result<Section, OutOfMemory
         attributes: section.flags.1,
         file_offset: section.offsets.0,
         reloc_offset: section.offsets.1,
-        bytes: Bytes::from_slice(alloc, section.bytes)?,
+        bytes: Bytes::from_static(section.bytes),
         relocs,
     })
 }
@@ -46,20 +38,12 @@ fn symbols(alloc: Global, object: &ClangObject) -> Result<SymbolList, OutOfMemor
     for (name, section, value, external, alt) in object.symbols {
         let kind = match *section {
             0 => SymbolKind::Undefined,
-            section => SymbolKind::Defined {
-                section,
-                value: *value,
-            },
+            section => defined(section, *value),
         };
         symbols.push(Symbol {
-            name: Bytes::from_slice(alloc, name)?,
-            kind,
             external: *external,
-            hidden: false,
-            weak_def: false,
-            weak_ref: false,
-            no_strip: false,
             alt: *alt,
+            ..symbol(*name, kind)
         })?;
     }
     Ok(symbols)
