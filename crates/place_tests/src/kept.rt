@@ -1,20 +1,11 @@
 //! The sections of an image with the atoms that are kept, against lists that were written down by hand.
-ghost use Rattle.std.specs.Prelude.{IfOk};
-ghost use Rattle.std.specs.List.{AllPairs};
-ghost use Rattle.mo_types.specs.Loaded.{IsBefore};
-
 use mo_types::{
-    Atom, AtomKey, AtomList, Bytes, FileId, Loaded, LoadedFile, LoadedList, Object, OutOfMemory,
-    OutSection, RefList, RelocList, Section, SectionList, SymbolList, UnwindList,
+    AtomList, Bytes, Object, OutOfMemory, OutSection, Section, SectionList, SymbolList,
 };
 use sect_place::out_sections;
 use std::alloc::Global;
 use std::test::Fail;
-
-const FILE: FileId = FileId {
-    position: 0,
-    member: 0,
-};
+use test_objects::{atom, file_id, key, only};
 
 // A section of the object: its segment, its name, its type and its attributes.
 type Given = (&'static [u8], &'static [u8], u8, u32);
@@ -25,69 +16,28 @@ type Kept = (u16, u64, u8);
 // A section of the image: its segment, its name, its flags, the power of its alignment, and its atoms.
 type Wanted<'a> = (&'static [u8], &'static [u8], u32, u8, &'a [(u16, u64)]);
 
-fn key(section: u16, offset: u64) -> AtomKey {
-    AtomKey {
-        file: FILE,
-        section,
-        offset,
-    }
-}
-
 fn atoms(alloc: Global, rows: &[Kept]) -> Result<AtomList, OutOfMemory> {
     let mut atoms = AtomList::new(alloc);
     for (section, offset, align) in rows {
-        atoms.push(Atom {
-            key: key(*section, *offset),
-            size: 4,
-            align: *align,
-        })?;
+        atoms.push(atom(key(0, *section, *offset), 4, *align))?;
     }
     Ok(atoms)
 }
 
 fn section(alloc: Global, given: &Given) -> Section {
     Section {
-        segment: Bytes::from_static(given.0),
-        name: Bytes::from_static(given.1),
-        address: 0,
         size: 64,
-        align: 0,
-        kind: given.2,
         attributes: given.3,
-        file_offset: 0,
-        reloc_offset: 0,
-        bytes: Bytes::new(),
-        relocs: RelocList::new(alloc),
+        ..test_objects::section(alloc, given.0, given.1, given.2, 0, Bytes::new())
     }
 }
 
-fn file(alloc: Global, rows: &[Given]) -> Result<LoadedFile, OutOfMemory> {
+fn object(alloc: Global, rows: &[Given]) -> Result<Object, OutOfMemory> {
     let mut sections = SectionList::new(alloc);
     for given in rows {
         sections.push(section(alloc, given))?;
     }
-    Ok(LoadedFile {
-        id: FILE,
-        label: Bytes::new(),
-        object: Object {
-            subsections: true,
-            sections,
-            symbols: SymbolList::new(alloc),
-        },
-        atoms: AtomList::new(alloc),
-        refs: RefList::new(alloc, FILE),
-        unwinds: UnwindList::new(alloc),
-    })
-}
-
-fn only(alloc: Global, file: LoadedFile) -> Result<Loaded, OutOfMemory>
-    ensures { IfOk result (λ loaded. AllPairs (λ a b. IsBefore a.id b.id) loaded.files) }
-{
-    let mut files = Vec::new(alloc);
-    files.push(file)?;
-    Ok(Loaded {
-        files: LoadedList::from_vec(files),
-    })
+    Ok(test_objects::object(sections, SymbolList::new(alloc)))
 }
 
 fn is_wanted(section: &OutSection, wanted: &Wanted) -> bool {
@@ -118,7 +68,8 @@ fn go_to(
     wanted: &[Wanted],
 ) -> Result<bool, OutOfMemory> {
     let kept = atoms(alloc, kept)?;
-    let loaded = only(alloc, file(alloc, given)?)?;
+    let file = test_objects::file(alloc, file_id(0), object(alloc, given)?);
+    let loaded = only(alloc, file)?;
     let sections = out_sections(alloc, &loaded, &kept)?;
     Ok(are_wanted(sections.as_slice(), wanted))
 }

@@ -2,8 +2,8 @@
 use crate::order::{are_low, are_low_sections, is_rising};
 use mo_cmd::{Command, UsageFault, read_all_words};
 use mo_types::{
-    Arg, ArgList, Atom, AtomKey, AtomList, Bytes, FileId, Goal, Items, KeyList, OutOfMemory,
-    OutSection, OutSections,
+    Arg, ArgList, Atom, AtomKey, AtomList, Goal, Items, KeyList, OutOfMemory, OutSection,
+    OutSections,
 };
 use sect_place::{
     AreaList, BranchTarget, BranchTargetList, IslandArea, IslandPlan, IslandShifts, Layout,
@@ -118,23 +118,11 @@ const NOTHING: Case = Case {
 };
 
 pub(crate) fn key(row: &Row) -> AtomKey {
-    let file = FileId {
-        position: 0,
-        member: 0,
-    };
-    AtomKey {
-        file,
-        section: row.0,
-        offset: row.1,
-    }
+    test_objects::key(0, row.0, row.1)
 }
 
 fn atom(row: &Row) -> Atom {
-    Atom {
-        key: key(row),
-        size: row.2,
-        align: row.3,
-    }
+    test_objects::atom(key(row), row.2, row.3)
 }
 
 fn atoms(alloc: Global, rows: &[Row]) -> Result<AtomList, OutOfMemory> {
@@ -151,14 +139,7 @@ pub(crate) fn section(alloc: Global, part: &Part) -> Result<OutSection, OutOfMem
         keys.push(key(row))?;
     }
     let (segment, name) = names(part.0);
-    Ok(OutSection {
-        segment: Bytes::from_static(segment),
-        name: Bytes::from_static(name),
-        kind: part.1,
-        flags: u32::from(part.1),
-        align: part.2,
-        atoms: keys,
-    })
+    Ok(test_objects::out_section(segment, name, part.1, part.2, keys))
 }
 
 fn sections(alloc: Global, parts: &[Part]) -> Result<OutSections, OutOfMemory> {

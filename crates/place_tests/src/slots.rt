@@ -1,20 +1,9 @@
 //! Lists of slots against orders that were written down by hand.
-use mo_types::{AtomKey, Bytes, FileId, Goal, OutOfMemory};
+use mo_types::{Bytes, Goal, OutOfMemory};
 use slot_plan::{Need, NeedList, SlotList, Slots, Way, slots};
 use std::alloc::Global;
 use std::test::Fail;
-
-fn key(position: u16, section: u16, offset: u64) -> AtomKey {
-    let file = FileId {
-        position,
-        member: 0,
-    };
-    AtomKey {
-        file,
-        section,
-        offset,
-    }
-}
+use test_objects::key;
 
 // Goals of every kind, in the order of slots: names byte by byte, whatever their kind, then the header,
 // then places by file, section, offset of the atom and offset in it.

@@ -1,8 +1,6 @@
 //! Templates against offsets that were counted by hand.
 use crate::order::{are_low, are_low_sections, is_rising};
-use mo_types::{
-    Atom, AtomKey, AtomList, Bytes, FileId, KeyList, OutOfMemory, OutSection, OutSections,
-};
+use mo_types::{Atom, AtomKey, AtomList, KeyList, OutOfMemory, OutSection, OutSections};
 use std::alloc::Global;
 use std::test::Fail;
 use tlv_plan::{Template, fits, offset_of, template};
@@ -17,23 +15,11 @@ const DATA: u8 = 0x11;
 const ZEROFILL: u8 = 0x12;
 
 fn key(row: &Row) -> AtomKey {
-    let file = FileId {
-        position: row.0,
-        member: 0,
-    };
-    AtomKey {
-        file,
-        section: row.1,
-        offset: row.2,
-    }
+    test_objects::key(row.0, row.1, row.2)
 }
 
 fn atom(row: &Row) -> Atom {
-    Atom {
-        key: key(row),
-        size: row.3,
-        align: row.4,
-    }
+    test_objects::atom(key(row), row.3, row.4)
 }
 
 fn atoms(alloc: Global, rows: &[Row]) -> Result<AtomList, OutOfMemory> {
@@ -50,14 +36,7 @@ fn section(alloc: Global, kind: u8, align: u8, rows: &[Row]) -> Result<OutSectio
     for row in rows {
         keys.push(key(row))?;
     }
-    Ok(OutSection {
-        segment: Bytes::from_static(b"__DATA"),
-        name: Bytes::from_static(b"__thread"),
-        kind,
-        flags: u32::from(kind),
-        align,
-        atoms: keys,
-    })
+    Ok(test_objects::out_section(b"__DATA", b"__thread", kind, align, keys))
 }
 
 // The template, where it may be asked for.

@@ -5,12 +5,13 @@ ghost use Rattle.mo_types.specs.Loaded.{IsBefore, IsWholeFile, IsWholeLoaded};
 
 use atom_cut::cut;
 use mo_types::{
-    Bytes, FileId, Loaded, LoadedFile, LoadedList, Object, OutOfMemory, RelocList, Section,
-    SectionList, Symbol, SymbolKind, SymbolList, UnwindList,
+    Bytes, FileId, Loaded, LoadedFile, LoadedList, Object, OutOfMemory, Section, Symbol,
+    SymbolKind, SymbolList, UnwindList,
 };
 use reloc_read::refs_of;
 use std::alloc::Global;
 use std::cmp::Ordering;
+use test_objects::{defined, object_of, section};
 
 /// What a symbol is.
 #[derive(Clone, Copy)]
@@ -46,11 +47,8 @@ pub fn id_of(place: (u16, u32)) -> FileId {
 
 fn kind_of(is: Is) -> SymbolKind {
     match is {
-        Is::Strong | Is::Weak | Is::Hidden | Is::HiddenWeak => SymbolKind::Defined {
-            section: 1,
-            value: 0,
-        },
-        Is::At(value) | Is::Local(value) => SymbolKind::Defined { section: 1, value },
+        Is::Strong | Is::Weak | Is::Hidden | Is::HiddenWeak => defined(1, 0),
+        Is::At(value) | Is::Local(value) => defined(1, value),
         Is::Common(size, align) => SymbolKind::Common { size, align },
         Is::Undefined | Is::MayBeMissing => SymbolKind::Undefined,
     }
@@ -59,31 +57,20 @@ fn kind_of(is: Is) -> SymbolKind {
 /// A symbol.
 pub fn symbol(name: &'static [u8], is: Is) -> Symbol {
     Symbol {
-        name: Bytes::from_static(name),
-        kind: kind_of(is),
         external: !matches!(is, Is::Local(_)),
         hidden: matches!(is, Is::Hidden | Is::HiddenWeak),
         weak_def: matches!(is, Is::Weak | Is::HiddenWeak),
         weak_ref: matches!(is, Is::MayBeMissing),
-        no_strip: false,
-        alt: false,
+        ..test_objects::symbol(name, kind_of(is))
     }
 }
 
 /// `__TEXT,__text` with one return.
 pub fn text(alloc: Global) -> Section {
+    let code = Bytes::from_static(b"\xc0\x03\x5f\xd6");
     Section {
-        segment: Bytes::from_static(b"__TEXT"),
-        name: Bytes::from_static(b"__text"),
-        address: 0,
-        size: 4,
-        align: 2,
-        kind: 0,
         attributes: 0x8000_0400,
-        file_offset: 0,
-        reloc_offset: 0,
-        bytes: Bytes::from_static(b"\xc0\x03\x5f\xd6"),
-        relocs: RelocList::new(alloc),
+        ..section(alloc, b"__TEXT", b"__text", 0, 2, code)
     }
 }
 
@@ -92,18 +79,17 @@ pub type Section1 = (u16, &'static [u8], u8, u8, &'static [u8]);
 
 /// `__TEXT` with a section of literals.
 pub fn literal_section(alloc: Global, row: &Section1) -> Section {
+    let (_, name, kind, align, bytes) = *row;
     Section {
-        segment: Bytes::from_static(b"__TEXT"),
-        name: Bytes::from_static(row.1),
         address: 0x40,
-        size: row.4.len() as u64,
-        align: row.3,
-        kind: row.2,
-        attributes: 0,
-        file_offset: 0x200,
-        reloc_offset: 0,
-        bytes: Bytes::from_static(row.4),
-        relocs: RelocList::new(alloc),
+        ..section(
+            alloc,
+            b"__TEXT",
+            name,
+            kind,
+            align,
+            Bytes::from_static(bytes),
+        )
     }
 }
 
@@ -113,17 +99,11 @@ pub fn object(
     section: Section,
     rows: &[(&'static [u8], Is)],
 ) -> Result<Object, OutOfMemory> {
-    let mut sections = SectionList::new(alloc);
-    sections.push(section)?;
     let mut symbols = SymbolList::new(alloc);
     for (name, is) in rows {
         symbols.push(symbol(*name, *is))?;
     }
-    Ok(Object {
-        subsections: true,
-        sections,
-        symbols,
-    })
+    object_of(alloc, section, symbols)
 }
 
 /// The file of a whole object.

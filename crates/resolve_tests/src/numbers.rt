@@ -1,44 +1,26 @@
 //! Numbers of names, against tables that were written by hand.
 use mo_types::{
-    AtomList, Bytes, FileId, Loaded, LoadedFile, LoadedList, NameList, Object, OutOfMemory,
-    RefList, SectionList, Symbol, SymbolKind, SymbolList, UnwindList,
+    Bytes, Loaded, LoadedFile, LoadedList, NameList, OutOfMemory, SectionList, Symbol, SymbolKind,
+    SymbolList,
 };
 use name_ids::{NameTable, gather};
 use std::alloc::Global;
 use std::test::Fail;
+use test_objects::{file_id, object, only};
 
 // An undefined symbol.
 fn symbol(name: Bytes, external: bool) -> Symbol {
     Symbol {
         name,
-        kind: SymbolKind::Undefined,
         external,
-        hidden: false,
-        weak_def: false,
-        weak_ref: false,
-        no_strip: false,
-        alt: false,
+        ..test_objects::symbol(b"", SymbolKind::Undefined)
     }
 }
 
 // A file with these symbols.
 fn file(alloc: Global, position: u16, symbols: SymbolList) -> LoadedFile {
-    let id = FileId {
-        position,
-        member: 0,
-    };
-    LoadedFile {
-        id,
-        label: Bytes::new(),
-        object: Object {
-            subsections: true,
-            sections: SectionList::new(alloc),
-            symbols,
-        },
-        atoms: AtomList::new(alloc),
-        refs: RefList::new(alloc, id),
-        unwinds: UnwindList::new(alloc),
-    }
+    let object = object(SectionList::new(alloc), symbols);
+    test_objects::file(alloc, file_id(position), object)
 }
 
 // Two files and two further names. A name that begins with `l` is local.
@@ -108,9 +90,7 @@ fn large(alloc: Global, count: u32, names: u32) -> Result<Loaded, OutOfMemory> {
         let number = i.checked_rem(names).unwrap_or(0);
         symbols.push(symbol(name_of(alloc, number)?, true))?;
     }
-    let mut files = LoadedList::new(alloc);
-    files.push(file(alloc, 0, symbols))?;
-    Ok(Loaded { files })
+    only(alloc, file(alloc, 0, symbols))
 }
 
 fn leads_to(alloc: Global, table: &NameTable, id: u32, name: &[u8]) -> Result<bool, OutOfMemory> {

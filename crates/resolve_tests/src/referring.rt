@@ -3,23 +3,12 @@
 use kept_refs::{GoalTable, Lost, ref_order, spots_of_atom, undefined};
 use mark_core::kept;
 use mo_types::{
-    AtomKey, AtomList, Bytes, EdgeList, FileId, Goal, GoalList, KeyList, Loaded, LoadedFile,
-    LoadedList, Object, OutOfMemory, Ref, RefKind, RefList, SectionList, Symbol, SymbolKind,
-    SymbolList, Target, UnwindList,
+    AtomKey, Bytes, EdgeList, Goal, GoalList, KeyList, Loaded, LoadedFile, LoadedList, OutOfMemory,
+    Ref, RefKind, RefList, SectionList, Symbol, SymbolKind, SymbolList, Target,
 };
 use std::alloc::Global;
 use std::test::Fail;
-
-fn key(position: u16, offset: u64) -> AtomKey {
-    AtomKey {
-        file: FileId {
-            position,
-            member: 0,
-        },
-        section: 1,
-        offset,
-    }
-}
+use test_objects::{file, file_id, key, object, symbol};
 
 // A reference of an atom to a symbol, less another one perhaps.
 fn reference(atom: AtomKey, target: u32, minus: Option<u32>) -> Ref {
@@ -38,15 +27,9 @@ fn reference(atom: AtomKey, target: u32, minus: Option<u32>) -> Ref {
 type Row = (u64, u32, Option<u32>);
 
 fn refs_of(alloc: Global, position: u16, rows: &[Row]) -> Result<RefList, OutOfMemory> {
-    let mut refs = RefList::new(
-        alloc,
-        FileId {
-            position,
-            member: 0,
-        },
-    );
+    let mut refs = RefList::new(alloc, file_id(position));
     for (offset, target, minus) in rows {
-        refs.push(reference(key(position, *offset), *target, *minus))?;
+        refs.push(reference(key(position, 1, *offset), *target, *minus))?;
     }
     Ok(refs)
 }
@@ -55,14 +38,8 @@ fn symbols(alloc: Global, names: &[&'static [u8]]) -> Result<SymbolList, OutOfMe
     let mut list = SymbolList::new(alloc);
     for name in names {
         list.push(Symbol {
-            name: Bytes::from_static(*name),
-            kind: SymbolKind::Undefined,
             external: true,
-            hidden: false,
-            weak_def: false,
-            weak_ref: false,
-            no_strip: false,
-            alt: false,
+            ..symbol(*name, SymbolKind::Undefined)
         })?;
     }
     Ok(list)
@@ -86,20 +63,12 @@ fn link(alloc: Global, files: &[File]) -> Result<(Loaded, GoalTable), OutOfMemor
     for (i, (label, names, rows)) in files.iter().enumerate() {
         let position = (i % 100) as u16;
         table.push(goals(alloc, names.len())?)?;
+        let refs = refs_of(alloc, position, rows)?;
+        let object = object(SectionList::new(alloc), symbols(alloc, names)?);
         loaded.push(LoadedFile {
-            id: FileId {
-                position,
-                member: 0,
-            },
             label: Bytes::from_static(*label),
-            object: Object {
-                subsections: true,
-                sections: SectionList::new(alloc),
-                symbols: symbols(alloc, names)?,
-            },
-            atoms: AtomList::new(alloc),
-            refs: refs_of(alloc, position, rows)?,
-            unwinds: UnwindList::new(alloc),
+            refs,
+            ..file(alloc, file_id(position), object)
         })?;
     }
     Ok((Loaded { files: loaded }, table))
@@ -108,7 +77,7 @@ fn link(alloc: Global, files: &[File]) -> Result<(Loaded, GoalTable), OutOfMemor
 fn keys(alloc: Global, list: &[(u16, u64)]) -> Result<KeyList, OutOfMemory> {
     let mut keys = KeyList::new(alloc);
     for (position, offset) in list {
-        keys.push(key(*position, *offset))?;
+        keys.push(key(*position, 1, *offset))?;
     }
     Ok(keys)
 }

@@ -1,14 +1,14 @@
 //! Fields against the words of an assembler, and atoms against images that were put together by hand.
 
 use mo_types::{
-    Atom, AtomKey, AtomList, Bytes, FileId, Loaded, LoadedFile, LoadedList, Object, OutOfMemory,
-    RangeKind, RefKind, RefList, RelocList, Section, SectionList, SymbolList, UnwindList,
+    AtomKey, Bytes, Loaded, LoadedList, Object, OutOfMemory, RangeKind, RefKind, SymbolList,
 };
 use patch::{
     Met, PlacedWork, RangeFault, fields_are_in_order, patch_atom, patch_range, work_is_in_order,
 };
 use std::alloc::Global;
 use std::test::Fail;
+use test_objects::{atom, file, file_id, key, object_of, section};
 
 // ---- one field
 
@@ -500,26 +500,9 @@ fn thousands_are_written(alloc: Global) -> Result<bool, OutOfMemory> {
 // ---- atoms in a piece of an image
 
 // An object of one section of code.
-fn object(alloc: Global, bytes: Bytes) -> Result<Object, OutOfMemory> {
-    let mut sections = SectionList::new(alloc);
-    sections.push(Section {
-        segment: Bytes::from_static(b"__TEXT"),
-        name: Bytes::from_static(b"__text"),
-        address: 0,
-        size: bytes.len() as u64,
-        align: 2,
-        kind: 0,
-        attributes: 0,
-        file_offset: 0x200,
-        reloc_offset: 0,
-        bytes,
-        relocs: RelocList::new(alloc),
-    })?;
-    Ok(Object {
-        subsections: true,
-        sections,
-        symbols: SymbolList::new(alloc),
-    })
+pub(crate) fn object(alloc: Global, bytes: Bytes) -> Result<Object, OutOfMemory> {
+    let section = section(alloc, b"__TEXT", b"__text", 0, 2, bytes);
+    object_of(alloc, section, SymbolList::new(alloc))
 }
 
 // Two files, of which the second has these contents.
@@ -531,41 +514,15 @@ fn loaded(alloc: Global, contents: &[u8]) -> Result<Loaded, OutOfMemory> {
         } else {
             Bytes::from_slice(alloc, contents)?
         };
-        let id = FileId {
-            position,
-            member: 0,
-        };
-        files.push(LoadedFile {
-            id,
-            label: Bytes::from_static(b"a.o"),
-            object: object(alloc, bytes)?,
-            atoms: AtomList::new(alloc),
-            refs: RefList::new(alloc, id),
-            unwinds: UnwindList::new(alloc),
-        })?;
+        files.push(file(alloc, file_id(position), object(alloc, bytes)?))?;
     }
     Ok(Loaded { files })
 }
 
-fn key(position: u16, offset: u64) -> AtomKey {
-    AtomKey {
-        file: FileId {
-            position,
-            member: 0,
-        },
-        section: 1,
-        offset,
-    }
-}
-
-// An atom of 4 bytes that stands at a place of the image, where it has one reference.
-fn work(position: u16, offset: u64, at: u64, first: usize) -> PlacedWork {
+// An atom of 4 bytes with one reference, which stands at a place of an image from 2^32 on.
+pub(crate) fn work(position: u16, offset: u64, at: u64, first: usize) -> PlacedWork {
     PlacedWork {
-        atom: Atom {
-            key: key(position, offset),
-            size: 4,
-            align: 2,
-        },
+        atom: atom(key(position, 1, offset), 4, 2),
         file: usize::from(position),
         at,
         address: 0x1_0000_0000 + at % 0x1_0000_0000,
@@ -639,9 +596,9 @@ fn least_key_is_told(alloc: Global) -> Result<bool, OutOfMemory> {
     let near = 0x1_0000_4000;
     let far = fault(0, 134217728);
     Ok(
-        fault_with(alloc, near, near, key(1, 0), far)?
-            && fault_with(alloc, near, near + 1, key(1, 0), far)?
-            && fault_with(alloc, near + 2, near, key(0, 0), fault(0, -2))?,
+        fault_with(alloc, near, near, key(1, 1, 0), far)?
+            && fault_with(alloc, near, near + 1, key(1, 1, 0), far)?
+            && fault_with(alloc, near + 2, near, key(0, 1, 0), fault(0, -2))?,
     )
 }
 

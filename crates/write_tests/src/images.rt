@@ -3,16 +3,15 @@
 ghost use Rattle.std.specs.Prelude.{◌≡◌, ◌+◌, ◌≤◌, IsTrue, length};
 ghost use Rattle.image_join.specs.Joined.{AreRising};
 
+use crate::fields::{object, work};
 use image_join::{Part, PartList, Parts, fill, join};
 use mo_outside::{FreeGate, Gate, MeetGate};
-use mo_types::{
-    Atom, AtomKey, AtomList, Bytes, FileId, Loaded, LoadedFile, LoadedList, Object, OutOfMemory,
-    RangeKind, RefKind, RefList, RelocList, Section, SectionList, SymbolList, UnwindList,
-};
+use mo_types::{AtomKey, Bytes, Loaded, OutOfMemory, RangeKind, RefKind};
 use patch::{Met, PlacedWork, RangeFault, work_is_in_order};
 use std::alloc::Global;
 use std::test::Fail;
 use std::thread::Threads;
+use test_objects::{file, file_id, key, only};
 
 // ---- parts
 
@@ -105,65 +104,8 @@ fn parts_stand_at_their_places(rt: HostRuntime) -> Result<(), Fail> {
 
 // One file of one section with these contents.
 fn loaded(alloc: Global, contents: &[u8]) -> Result<Loaded, OutOfMemory> {
-    let id = FileId {
-        position: 0,
-        member: 0,
-    };
-    let mut sections = SectionList::new(alloc);
-    sections.push(Section {
-        segment: Bytes::from_static(b"__DATA"),
-        name: Bytes::from_static(b"__data"),
-        address: 0,
-        size: contents.len() as u64,
-        align: 2,
-        kind: 0,
-        attributes: 0,
-        file_offset: 0x200,
-        reloc_offset: 0,
-        bytes: Bytes::from_slice(alloc, contents)?,
-        relocs: RelocList::new(alloc),
-    })?;
-    let mut files = LoadedList::new(alloc);
-    files.push(LoadedFile {
-        id,
-        label: Bytes::from_static(b"a.o"),
-        object: Object {
-            subsections: true,
-            sections,
-            symbols: SymbolList::new(alloc),
-        },
-        atoms: AtomList::new(alloc),
-        refs: RefList::new(alloc, id),
-        unwinds: UnwindList::new(alloc),
-    })?;
-    Ok(Loaded { files })
-}
-
-fn key(offset: u64) -> AtomKey {
-    AtomKey {
-        file: FileId {
-            position: 0,
-            member: 0,
-        },
-        section: 1,
-        offset,
-    }
-}
-
-// An atom of 4 bytes with one reference, which stands at a place of an image from 2^32 on.
-fn work(offset: u64, at: u64, first: usize) -> PlacedWork {
-    PlacedWork {
-        atom: Atom {
-            key: key(offset),
-            size: 4,
-            align: 2,
-        },
-        file: 0,
-        at,
-        address: 0x1_0000_0000 + at % 0x1_0000_0000,
-        first,
-        count: 1,
-    }
+    let object = object(alloc, Bytes::from_slice(alloc, contents)?)?;
+    only(alloc, file(alloc, file_id(0), object))
 }
 
 // A branch at an atom's start to an address.
@@ -209,7 +151,8 @@ fn works(alloc: Global, count: u32, apart: u64) -> Result<Vec<PlacedWork>, OutOf
     let count = u64::from(count);
     let mut items = Vec::new(alloc);
     for i in 0..count {
-        items.push(work(4 * (count - 1 - i), apart.wrapping_mul(i), i as usize))?;
+        let offset = 4 * (count - 1 - i);
+        items.push(work(0, offset, apart.wrapping_mul(i), i as usize))?;
     }
     Ok(items)
 }
@@ -363,7 +306,7 @@ fn the_fault_of_the_least_atom<R: Threads + Sync>(
             alloc,
             workers,
             values,
-            (key(4 * (3 - *place % 4)), fault),
+            (key(0, 1, 4 * (3 - *place % 4)), fault),
         )? {
             return Ok(false);
         }
