@@ -1,12 +1,12 @@
 //! What is to be laid out: files of 250 sections each, with atoms that are all kept.
-use crate::objects::file_of;
 use mo_cmd::{Command, UsageFault, read_all_words};
 use mo_types::{
-    Arg, ArgList, Atom, AtomKey, AtomList, Bytes, FileId, Goal, Items, Loaded, LoadedFile,
-    LoadedList, Object, OutOfMemory, RelocList, Section, SectionList, SymbolList,
+    Arg, ArgList, Atom, AtomKey, AtomList, Bytes, Goal, Items, Loaded, LoadedFile, LoadedList,
+    OutOfMemory, Section, SectionList, SymbolList,
 };
 use sect_place::{BranchTarget, BranchTargetList, IslandArea};
 use std::alloc::Global;
+use test_objects::{file_id, key, object};
 
 // How many sections a file has.
 const SECTIONS: u32 = 250;
@@ -20,27 +20,12 @@ const KINDS: [(&[u8], &[u8], u8, u32); 5] = [
     (b"__DATA", b"__bss", 1, 0),
 ];
 
-fn file_id(position: u16) -> FileId {
-    FileId {
-        position,
-        member: 0,
-    }
-}
-
 fn section(alloc: Global, number: u32) -> Section {
     let (segment, name, kind, attributes) = KINDS[number as usize % 5];
     Section {
-        segment: Bytes::from_static(segment),
-        name: Bytes::from_static(name),
-        address: 0,
         size: 1 << 20,
-        align: 3,
-        kind,
         attributes,
-        file_offset: 0,
-        reloc_offset: 0,
-        bytes: Bytes::new(),
-        relocs: RelocList::new(alloc),
+        ..test_objects::section(alloc, segment, name, kind, 3, Bytes::new())
     }
 }
 
@@ -49,12 +34,8 @@ fn file(alloc: Global, position: u16) -> Result<LoadedFile, OutOfMemory> {
     for number in 0..SECTIONS {
         sections.push(section(alloc, number))?;
     }
-    let object = Object {
-        subsections: true,
-        sections,
-        symbols: SymbolList::new(alloc),
-    };
-    Ok(file_of(alloc, file_id(position), object))
+    let object = object(sections, SymbolList::new(alloc));
+    Ok(test_objects::file(alloc, file_id(position), object))
 }
 
 /// So many files.
@@ -71,16 +52,10 @@ pub(crate) fn loaded_of(alloc: Global, files: u16) -> Result<Loaded, OutOfMemory
 // An atom of a file, of so many in each of its sections.
 fn atom(position: u16, number: u32, each: u32) -> Atom {
     let each = each.max(1);
+    let section = (number / each % SECTIONS) as u16 + 1;
     let offset = u64::from(number % each);
-    Atom {
-        key: AtomKey {
-            file: file_id(position),
-            section: (number / each % SECTIONS) as u16 + 1,
-            offset: 64 * offset,
-        },
-        size: 16 + offset % 5 * 4,
-        align: 2 + (number % 2) as u8,
-    }
+    let key = key(position, section, 64 * offset);
+    test_objects::atom(key, 16 + offset % 5 * 4, 2 + (number % 2) as u8)
 }
 
 /// The atoms of so many files, with so many in each section.

@@ -1,11 +1,11 @@
 ghost use Rattle.std.specs.Prelude.{◌<◌};
 
-use crate::objects::file_of;
 use mo_types::{
     Bytes, FileId, Loaded, LoadedList, Object, OutOfMemory, SectionList, Symbol, SymbolKind,
     SymbolList,
 };
 use std::alloc::Global;
+use test_objects::{file, object, symbol};
 
 // How a name begins: 33 bytes.
 const FRONT: &[u8] = b"_a_name_of_C_that_has_forty_bytes";
@@ -41,13 +41,8 @@ fn symbols_of(alloc: Global, strings: &Bytes) -> Result<SymbolList, OutOfMemory>
         if at + SIZE <= strings.len() {
             symbols.push(Symbol {
                 name: strings.part(at, SIZE)?,
-                kind: SymbolKind::Undefined,
                 external: true,
-                hidden: false,
-                weak_def: false,
-                weak_ref: false,
-                no_strip: false,
-                alt: false,
+                ..symbol(b"", SymbolKind::Undefined)
             })?;
         }
     }
@@ -58,11 +53,8 @@ fn object_of(alloc: Global, first: u32, names: u32) -> Result<Object, OutOfMemor
     requires { 0 < names }
 {
     let strings = strings_of(alloc, first, names)?;
-    Ok(Object {
-        subsections: true,
-        sections: SectionList::new(alloc),
-        symbols: symbols_of(alloc, &strings)?,
-    })
+    let symbols = symbols_of(alloc, &strings)?;
+    Ok(object(SectionList::new(alloc), symbols))
 }
 
 /// So many files of a thousand external symbols each, whose names are so many.
@@ -77,7 +69,7 @@ pub(crate) fn files_of(alloc: Global, count: u32, names: u32) -> Result<Loaded, 
         };
         let first = member.wrapping_mul(SYMBOLS);
         let object = object_of(alloc, first, names)?;
-        files.push(file_of(alloc, id, object))?;
+        files.push(file(alloc, id, object))?;
     }
     Ok(Loaded { files })
 }
