@@ -35,6 +35,7 @@ pub fn is_contents(name: &[u8]) -> bool
 }
 
 #[tactic(auto, unfolding(mo_bytes::specs::Number::number))]
+#[inline(always)]
 fn number(table: &[u8], at: usize) -> u32
     requires { at + 4 ≤ length table.now }
     ensures { result ≡ numbers.number 4 table.now at }
@@ -71,6 +72,7 @@ pub fn strings_part(table: &Bytes) -> Result<Bytes, OutOfMemory>
 }
 
 #[tactic(auto, unfolding(crate::specs::Contents::offer_at, crate::specs::Contents::ran_strx, crate::specs::Contents::ran_off))]
+#[inline(always)]
 fn entry_at(
     table: &[u8],
     strings: &Strings,
@@ -120,7 +122,7 @@ pub fn entries_of(
         let Some(entry) = entry_at(table, strings, cells, places, i) else {
             return Err(FAULT);
         };
-        entries.push(entry)?;
+        entries.push_reserved(entry);
     }
     Ok(entries)
 }

@@ -26,6 +26,7 @@ pub const LONG: usize = 128;
 const STEP: usize = 64;
 
 #[tactic(auto, unfolding(crate::specs::inner::Hash::mixed))]
+#[inline(always)]
 fn mixed(hash: u64, byte: u8) -> u64
     ensures { result ≡ hashes.mixed hash byte }
 {
@@ -54,6 +55,7 @@ fn long_hash(name: &[u8]) -> u64
 }
 
 // The hash of what stands before the next NUL.
+#[inline(always)]
 fn tail(hash: u64, byte: u8) -> u64
     ensures { result ≡ hashes.tail_with hash byte }
 {
@@ -96,6 +98,7 @@ fn long_hash_at(strings: &[u8], marks: &[u64], at: usize, size: usize) -> u64
 }
 
 #[tactic(auto, unfolding(mo_bytes::specs::Number::number))]
+#[inline(always)]
 fn word(name: &[u8], at: usize) -> u64
     requires { at + 8 ≤ length name.now }
     ensures { result ≡ numbers.number 8 name.now at }
@@ -103,6 +106,7 @@ fn word(name: &[u8], at: usize) -> u64
     LittleEndian::read_u64(&name[at..])
 }
 
+#[inline(always)]
 fn folded(product: u64) -> u64
     ensures { result ≡ hashes.folded product }
 {
@@ -110,6 +114,7 @@ fn folded(product: u64) -> u64
 }
 
 #[tactic(auto, unfolding(crate::specs::inner::Hash::stepped))]
+#[inline(always)]
 fn stepped(hash: u64, word: u64) -> u64
     ensures { result ≡ hashes.stepped hash word }
 {
@@ -117,6 +122,7 @@ fn stepped(hash: u64, word: u64) -> u64
 }
 
 #[tactic(auto, using(crate::proofs::HashLemmas::words))]
+#[inline(always)]
 fn words_hash(name: &[u8]) -> u64
     ensures { result ≡ hashes.words_hash (length name.now / 8) name.now }
 {
@@ -128,6 +134,7 @@ fn words_hash(name: &[u8]) -> u64
 }
 
 #[tactic(auto, unfolding(crate::specs::inner::Hash::short_hash))]
+#[inline(always)]
 fn short_hash(name: &[u8]) -> u64
     ensures { result ≡ hashes.short_hash name.now }
 {
@@ -139,6 +146,7 @@ fn short_hash(name: &[u8]) -> u64
 
 /// The hash of a name.
 #[tactic(auto, unfolding(crate::specs::inner::Hash::hash))]
+#[inline(always)]
 pub fn hash(name: &[u8]) -> u64
     ensures { result ≡ hashes.hash name.now }
 {
@@ -152,6 +160,7 @@ pub fn hash(name: &[u8]) -> u64
 /// The hash of a name that stands among the strings and ends before a NUL: it reads at most some 128 bytes of it, where
 /// there are marks.
 #[tactic(auto, unfolding(crate::specs::inner::Hash::hash))]
+#[inline(always)]
 pub fn hash_at(strings: &[u8], marks: &[u64], at: usize, size: usize) -> u64
     requires within { at + size < length strings.now }
     requires ends { first_nul (drop at strings.now) ≡ Some size }

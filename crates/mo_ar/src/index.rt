@@ -53,6 +53,7 @@ fn bucket(strings: &[u8], order: &[Entry], name: &[u8], count: usize) -> usize
 
 // The bucket of an entry's name, of some buckets.
 #[tactic(auto, unfolding(crate::specs::inner::Index::bucket))]
+#[inline(always)]
 fn bucket_at(strings: &[u8], order: &[Entry], marks: &[u64], entry: Entry, count: usize) -> usize
     requires some { 0 < count }
     requires order { All (IsEntry strings.now) order.now }
@@ -70,6 +71,7 @@ fn bucket_at(strings: &[u8], order: &[Entry], marks: &[u64], entry: Entry, count
 
 // Whether an entry has a name, which is known to stand at a place or isn't. At its own place nothing is compared.
 #[tactic(auto, using(crate::proofs::IndexLemmas::places))]
+#[inline(always)]
 fn is_named(strings: &[u8], entry: Entry, name: &[u8], place: Option<u32>) -> bool
     requires entry { IsEntry strings.now entry }
     requires place { IfSome place (StandsAt strings.now name.now) }
@@ -83,6 +85,7 @@ fn is_named(strings: &[u8], entry: Entry, name: &[u8], place: Option<u32>) -> bo
 
 // The index of the node of a name, which is in the bucket that begins at `from`, counted from 1.
 #[tactic(auto, using(crate::proofs::IndexLemmas::finds))]
+#[inline(always)]
 fn find(
     strings: &[u8],
     order: &[Entry],
@@ -111,6 +114,7 @@ fn find(
 }
 
 // Notes one member more for the name of a node.
+#[inline(always)]
 fn lower(nodes: &mut Vec<Node>, at: usize, member: u32)
     requires { at < length nodes.old.items }
     ensures len { length nodes.new.items ≡ length nodes.old.items }
@@ -148,12 +152,12 @@ fn bucket_count(names: usize) -> usize
     (2 * names + 1).min(1 << 32)
 }
 
-// The buckets of the entries' names, of some buckets: before any is looked up, since each look-up waits for memory.
+// The buckets of the entries' names, of some buckets: before any is looked up, since each look-up waits for memory. Hashes
+// of long names need marks, which are made at the first such name.
 fn buckets_of(
     alloc: Global,
     strings: &[u8],
     order: &[Entry],
-    marks: &[u64],
     entries: &[Entry],
     count: usize,
 ) -> Result<Vec<u32>, OutOfMemory>
@@ -161,14 +165,17 @@ fn buckets_of(
     requires few { count ≤ 2 ^ 32 }
     requires entries { All (IsEntry strings.now) entries.now }
     requires order { All (IsEntry strings.now) order.now }
-    requires marks { AreMarks strings.now marks.now }
     ensures buckets { IfOk result (λ buckets. AreBuckets strings.now order.now count entries.now buckets.items) }
     ensures len { IfOk result (λ buckets. length buckets.items ≡ length entries.now) }
 {
+    let mut marks = Vec::new(alloc);
     let mut buckets = Vec::with_capacity(alloc, entries.len())?;
     for i in 0..entries.len() {
-        let b = bucket_at(strings, order, marks, entries[i], count);
-        buckets.push(b as u32)?;
+        if entries[i].size as usize > LONG && marks.is_empty() {
+            marks = marks_of(alloc, strings)?;
+        }
+        let b = bucket_at(strings, order, marks.as_slice(), entries[i], count);
+        buckets.push_reserved(b as u32);
     }
     Ok(buckets)
 }
@@ -221,17 +228,6 @@ fn put(
     }
 }
 
-// Marks for the hashes of names, if some name is long.
-fn marks_for(alloc: Global, strings: &[u8], entries: &[Entry]) -> Result<Vec<u64>, OutOfMemory>
-    ensures { IfOk result (λ marks. AreMarks strings.now marks.items) }
-{
-    if entries.iter().any(|entry| entry.size as usize > LONG) {
-        marks_of(alloc, strings)
-    } else {
-        Ok(Vec::new(alloc))
-    }
-}
-
 // The index of some offers by buckets, or `None` if it is to have no long bucket, and would have one.
 #[tactic(auto, using(crate::proofs::IndexLemmas::builds))]
 fn built(
@@ -247,16 +243,8 @@ fn built(
     ensures index { IfOk result (λ index. IfSome index (IsIndexOf strings.now (offers_of strings.now entries.now))) }
     ensures some { IfOk result (λ index. IfNone index (short ≡ true)) }
 {
-    let marks = marks_for(alloc, strings, entries)?;
     let count = bucket_count(entries.len());
-    let buckets = buckets_of(
-        alloc,
-        strings,
-        order.as_slice(),
-        marks.as_slice(),
-        entries,
-        count,
-    )?;
+    let buckets = buckets_of(alloc, strings, order.as_slice(), entries, count)?;
     let mut heads = vec![in alloc; 0; count]?;
     let mut nodes = Vec::with_capacity(alloc, entries.len())?;
     let mut at = entries.len();

@@ -18,6 +18,7 @@ struct Named<'a> {
 }
 
 /// The name of an entry.
+#[inline(always)]
 pub fn name_of(strings: &[u8], entry: Entry) -> &[u8]
     requires { IsEntry strings.now entry }
     ensures { result.now ≡ part strings.now entry.at entry.size }

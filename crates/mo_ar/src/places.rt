@@ -29,6 +29,7 @@ pub fn numbered(alloc: Global, places: &[usize], size: usize) -> Result<Vec<u32>
 }
 
 // Whether the place with a number is this one.
+#[inline(always)]
 fn stands(places: &[usize], number: u32, at: usize) -> bool
     ensures { result ≡ tables.stands places.now number at }
 {
@@ -38,6 +39,7 @@ fn stands(places: &[usize], number: u32, at: usize) -> bool
 
 /// The number of the member whose header stands at a place.
 #[tactic(auto, using(crate::proofs::PlaceLemmas::finds))]
+#[inline(always)]
 pub fn number_of(cells: &[u32], places: &[usize], at: usize) -> Option<u32>
     requires { IsNumbered cells.now places.now }
     ensures { result ≡ numbers.number_of places.now at }
