@@ -32,13 +32,16 @@ impl Hints {
     }
 
     /// A place in the list at which a value of an atom stands, or `None` exactly where none does. Takes no memory.
+    #[inline(always)]
     pub fn find<T: Keyed>(&self, values: &[T], atom: &AtomKey) -> Option<usize>
         requires { IsSorted (on T.key_of compare_keys) values.now }
         ensures { MatchOption result (All (λ value. T.key_of value ≢ atom.now) values.now) (StandsAt T.key_of values.now atom.now) }
     {
-        match hinted(values, self.table.as_slice(), atom) {
+        let table = self.table.as_slice();
+        let hash = hash_of(atom);
+        match led(values, hint_at(table, hash, 0), hash, atom) {
             Some(at) => Some(at),
-            None => find(values, atom),
+            None => find_behind(values, table, hash, atom),
         }
     }
 }
@@ -73,46 +76,74 @@ fn note(table: &mut [u32], hash: u64, place: u32) {
     }
 }
 
-// The place to which a hint leads. Where none does, the atom's value may be there yet.
-fn hinted<T: Keyed>(values: &[T], table: &[u32], atom: &AtomKey) -> Option<usize>
+// The hint that stands so many places behind the first one of a hash.
+#[inline(always)]
+fn hint_at(table: &[u32], hash: u64, step: usize) -> u32 {
+    let first = first_of(hash, table.len());
+    table
+        .get(first.wrapping_add(step))
+        .copied()
+        .unwrap_or(u32::MAX)
+}
+
+// The place to which a hint leads, if a value of the atom stands there.
+#[inline(always)]
+fn led<T: Keyed>(values: &[T], hint: u32, hash: u64, atom: &AtomKey) -> Option<usize>
     ensures { IfSome result (StandsAt T.key_of values.now atom.now) }
 {
-    let hash = hash_of(atom);
-    let first = first_of(hash, table.len());
-    for step in 0..STEPS {
-        let hint = table
-            .get(first.wrapping_add(step))
-            .copied()
-            .unwrap_or(u32::MAX);
+    let place = (hint & PLACES) as usize;
+    if hint & !PLACES == tag_of(hash) && is_at(values, place, atom) {
+        return Some(place);
+    }
+    None
+}
+
+// The place to which a hint behind the first one leads. Where none does, the atom's value may be there yet.
+fn led_behind<T: Keyed>(values: &[T], table: &[u32], hash: u64, atom: &AtomKey) -> Option<usize>
+    ensures { IfSome result (StandsAt T.key_of values.now atom.now) }
+{
+    for step in 1..STEPS {
+        let hint = hint_at(table, hash, step);
         if hint == u32::MAX {
             return None;
         }
-        let place = (hint & PLACES) as usize;
-        if hint & !PLACES == tag_of(hash) && is_at(values, place, atom) {
+        if let Some(place) = led(values, hint, hash, atom) {
             return Some(place);
         }
     }
     None
 }
 
-// The first place of a hash in a table.
+// The answer where the first hint leads nowhere. It is a call of its own, so that the code of the others stays short.
+#[inline(never)]
+fn find_behind<T: Keyed>(values: &[T], table: &[u32], hash: u64, atom: &AtomKey) -> Option<usize>
+    requires { IsSorted (on T.key_of compare_keys) values.now }
+    ensures { MatchOption result (All (λ value. T.key_of value ≢ atom.now) values.now) (StandsAt T.key_of values.now atom.now) }
+{
+    match led_behind(values, table, hash, atom) {
+        Some(at) => Some(at),
+        None => find(values, atom),
+    }
+}
+
+// The first place of a hash in a table: its upper bits say how far along the table it stands.
+#[inline(always)]
 fn first_of(hash: u64, size: usize) -> usize {
-    (hash >> 32) as usize & size.wrapping_sub(1)
+    ((hash >> 32) as usize).wrapping_mul(size) >> 32
 }
 
-// The bits of a hash that a hint has.
+// The bits of a hash that a hint has: those below the ones that tell its place in the table.
+#[inline(always)]
 fn tag_of(hash: u64) -> u32 {
-    (hash & 0xff00_0000) as u32
+    (hash >> 8 & 0xff00_0000) as u32
 }
 
-// A hash of an atom.
+// A hash of an atom. Its fields mostly have few bits, which are put beside one another before they are multiplied by
+// 2^64 over the golden ratio.
+#[inline(always)]
 fn hash_of(atom: &AtomKey) -> u64 {
-    let file = u64::from(atom.file.position) << 32 | u64::from(atom.file.member);
-    let section = mixed(file, u64::from(atom.section));
-    mixed(section, atom.offset)
-}
-
-// A hash with one word more.
-fn mixed(hash: u64, word: u64) -> u64 {
-    (hash.rotate_left(5) ^ word).wrapping_mul(0x517c_c1b7_2722_0a95)
+    let position = u64::from(atom.file.position).rotate_left(56);
+    let member = u64::from(atom.file.member) << 24;
+    let section = u64::from(atom.section) << 44;
+    (position ^ member ^ section ^ atom.offset).wrapping_mul(0x9e37_79b9_7f4a_7c15)
 }

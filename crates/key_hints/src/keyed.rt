@@ -16,6 +16,7 @@ pub trait Keyed {
 impl Keyed for AtomKey {
     ghost key_of = { λ atom. atom };
 
+    #[inline(always)]
     fn key(&self) -> &AtomKey {
         self
     }

@@ -21,6 +21,7 @@ pub fn find<T: Keyed>(values: &[T], atom: &AtomKey) -> Option<usize>
 }
 
 /// Whether a value of an atom stands at a place.
+#[inline(always)]
 pub fn is_at<T: Keyed>(values: &[T], at: usize, atom: &AtomKey) -> bool
     ensures { IsTrue result → StandsAt T.key_of values.now atom.now at }
 {
@@ -31,6 +32,7 @@ pub fn is_at<T: Keyed>(values: &[T], at: usize, atom: &AtomKey) -> bool
 }
 
 /// Whether two atoms are the same one.
+#[inline(always)]
 pub fn is_same(a: &AtomKey, b: &AtomKey) -> bool
     ensures { IsTrue result → a.now ≡ b.now }
 {

@@ -59,6 +59,7 @@ pub struct Placed {
 impl Keyed for Placed {
     ghost key_of = { λ placed. placed.atom };
 
+    #[inline(always)]
     fn key(&self) -> &AtomKey {
         &self.atom
     }
@@ -91,7 +92,7 @@ impl PlacedList {
         ensures same { IfOk result (IsPermutation placed.items) }
         ensures order { IfOk result (IsSorted (on (λ (p : Placed). p.atom) compare_keys)) }
     {
-        let placed = in_order(placed);
+        let placed = in_order(placed)?;
         let hints = Hints::of(alloc, placed.as_slice())?;
         Ok(PlacedList { placed, hints })
     }
@@ -105,6 +106,7 @@ impl PlacedList {
     }
 
     // The address of an atom.
+    #[inline(always)]
     pub(crate) fn address_of(&self, atom: &AtomKey) -> Option<u64>
         ensures { MatchOption result ((address : ℕ) → ¬ Contains self.now (record { atom = atom.now; address = address })) (λ address. Contains self.now (record { atom = atom.now; address = address })) }
     {
@@ -112,6 +114,7 @@ impl PlacedList {
     }
 
     // The same, of an atom that mostly stands at a place.
+    #[inline(always)]
     pub(crate) fn address_near(&self, near: usize, atom: &AtomKey) -> Option<u64>
         ensures { MatchOption result ((address : ℕ) → ¬ Contains self.now (record { atom = atom.now; address = address })) (λ address. Contains self.now (record { atom = atom.now; address = address })) }
     {
@@ -122,14 +125,14 @@ impl PlacedList {
     }
 }
 
-// Addresses in the order of their atoms.
-fn in_order(placed: Vec<Placed>) -> Vec<Placed>
-    ensures same { IsPermutation placed.items result.items }
-    ensures rising { IsSorted (on (λ (p : Placed). p.atom) compare_keys) result.items }
+// Addresses in the order of their atoms. Those of each section are in order before, which a stable sort makes use of.
+fn in_order(placed: Vec<Placed>) -> Result<Vec<Placed>, OutOfMemory>
+    ensures same { IfOk result (λ sorted. IsPermutation placed.items sorted.items) }
+    ensures rising { IfOk result (λ sorted. IsSorted (on (λ (p : Placed). p.atom) compare_keys) sorted.items) }
 {
     let mut placed = placed;
-    placed.sort_unstable_by(|a, b| compare(&a.atom, &b.atom));
-    placed
+    placed.sort_by(|a, b| compare(&a.atom, &b.atom))?;
+    Ok(placed)
 }
 
 // The order of two atoms.

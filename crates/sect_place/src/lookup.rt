@@ -9,6 +9,7 @@ use key_hints::{Hints, is_at};
 use mo_types::AtomKey;
 
 /// The address of an atom, or `None` exactly where the layout doesn't have it. Takes no memory.
+#[inline(always)]
 pub fn address(layout: &Layout, atom: AtomKey) -> Option<u64>
     ensures { MatchOption result ((address : ℕ) → ¬ Contains layout.now.placed (record { atom = atom; address = address })) (λ address. Contains layout.now.placed (record { atom = atom; address = address })) }
 {
@@ -16,6 +17,7 @@ pub fn address(layout: &Layout, atom: AtomKey) -> Option<u64>
 }
 
 /// The same, of an atom that mostly stands at a place of the list of addresses.
+#[inline(always)]
 pub fn address_near(layout: &Layout, near: usize, atom: AtomKey) -> Option<u64>
     ensures { MatchOption result ((address : ℕ) → ¬ Contains layout.now.placed (record { atom = atom; address = address })) (λ address. Contains layout.now.placed (record { atom = atom; address = address })) }
 {
@@ -23,6 +25,7 @@ pub fn address_near(layout: &Layout, near: usize, atom: AtomKey) -> Option<u64>
 }
 
 // The address of an atom, among addresses in the order of their atoms, by the hints of the list.
+#[inline(always)]
 pub(crate) fn find(placed: &[Placed], hints: &Hints, atom: &AtomKey) -> Option<u64>
     requires { IsSorted (on (λ (p : Placed). p.atom) compare_keys) placed.now }
     ensures { MatchOption result ((address : ℕ) → ¬ Contains placed.now (record { atom = atom.now; address = address })) (λ address. Contains placed.now (record { atom = atom.now; address = address })) }
@@ -34,6 +37,7 @@ pub(crate) fn find(placed: &[Placed], hints: &Hints, atom: &AtomKey) -> Option<u
 }
 
 // The address at a place of the list, if it is that of an atom.
+#[inline(always)]
 pub(crate) fn address_at(placed: &[Placed], at: usize, atom: &AtomKey) -> Option<u64>
     ensures { IfSome result (λ address. Contains placed.now (record { atom = atom.now; address = address })) }
 {

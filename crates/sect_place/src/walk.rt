@@ -240,7 +240,7 @@ pub(crate) fn place_groups(
 {
     let mut segments = before;
     let mut sections = Vec::new(alloc);
-    let mut placed = Vec::new(alloc);
+    let mut placed = Vec::with_capacity(alloc, room.kept.len())?;
     let mut at = base;
     let mut file = 0;
     let mut lead = lead;

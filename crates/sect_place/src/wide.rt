@@ -25,7 +25,7 @@ pub(crate) fn up_near(at: u128, align: u8) -> u128
     ensures small { result < at + 0x4000 }
 {
     let unit = unit_of(align);
-    (at + (unit - 1)) / unit * unit
+    at + (unit - 1) >> align << align
 }
 
 // The sum of two numbers, or want of memory where it has more than 128 bits.

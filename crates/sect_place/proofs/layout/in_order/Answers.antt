@@ -8,6 +8,6 @@ use Rattle.sect_place.proofs.layout.in_order.Goals as goal
 
 pub returns-clause-rising : goal.returns-clause-rising
 returns-clause-rising c =
-    c.sort_unstable_by.ensures.sorted (λ (a : Placed) (b : Placed). is_lt (compare_keys a.atom b.atom))
+    c.in_ok-sort_by.ensures.sorted (λ (a : Placed) (b : Placed). is_lt (compare_keys a.atom b.atom))
     (ranks_by compare_keys_total (λ (a : Placed). a.atom))
     (answers_always _ _ _ (λ f a r f' k. search rules))
