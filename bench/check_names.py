@@ -19,7 +19,7 @@ COMMENT = re.compile(r"(^|\s)(//|--|#(?!\[|!)).*$", re.MULTILINE)
 # Names of the system's headers and of other programs, which the code needn't hold.
 OUTSIDE = re.compile(r"^([nr]_\w+|[A-Z][A-Z0-9_]+|\w+_command(_64)?|section_64|nlist_64|relocation_info|mach_header_64|"
                      r"dyld_\w+|fat_arch|fat_header|ar_hdr|\w+_t|rt|cp|sh|xxd|fsync|nfat_arch|ar_\w+|fixups_version|symbols_format|seg_count|page_size|page_count|"
-                     r"segment_offset|pointer_format|indexmap|prfm|max_valid_pointer|high8|bind|lib_ordinal|weak_import|Wait|perf)$")
+                     r"segment_offset|pointer_format|indexmap|prfm|max_valid_pointer|high8|bind|lib_ordinal|weak_import|Abort|Wait|perf)$")
 CLAUSES = re.compile(r"`[\w:]+`: ((?:`\w+`(?:, | and )?)+)")
 CLAUSE = re.compile(r"^\s*(?:ensures\s+|pub fn |unfoldable )?(\w+)(?:<[^>(]*>)?\s*[{(]", re.MULTILINE)
 

@@ -36,6 +36,8 @@ try 1 'atomld: not found: none.o' none.o
 try 2 'atomld: usage: word 0: noinput'
 try 2 'atomld: usage: word 2: novalue' main.o -o
 try 2 'atomld: usage: word 2: unknown' main.o $'\xff'
+try 2 'atomld: usage: word 1: unknown' -frob $'\xff'
+try 2 'atomld: usage: word 2: unknown' -o $'\xff'
 try 3 'atomld: cannot read folder' folder
 [ "$(id -u)" = 0 ] || try 3 'atomld: cannot read locked.o' locked.o
 try 3 'atomld: cannot write folder' -o folder main.o

@@ -1,2 +1,1 @@
 pub mod ExitLemmas
-pub mod PieceLemmas

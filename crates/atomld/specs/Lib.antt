@@ -1,4 +1,1 @@
 pub mod Exits
-pub mod Faults
-pub mod Mode
-pub mod Pieces

@@ -1,19 +1,10 @@
 //! The program: a static linker for Mach-O on arm64, over real files and standard error.
 #![tactic(auto)]
 
-mod diag;
-mod faults;
-mod files;
-mod out;
-mod pieces;
 mod run;
-mod words;
 
-use crate::diag::WriterDiag;
-use crate::files::DiskFiles;
-use crate::out::DiskOut;
 use crate::run::run;
-use crate::words::gather;
+use disk_outside::{DiskFiles, DiskOut, WriterDiag, gather};
 use std::process::ExitCode;
 
 fn main(rt: HostRuntime) -> ExitCode {
@@ -27,6 +18,3 @@ fn main(rt: HostRuntime) -> ExitCode {
         &mut WriterDiag::new(rt.stderr()),
     ))
 }
-
-#[cfg(test)]
-mod tests;

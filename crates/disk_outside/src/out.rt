@@ -2,14 +2,15 @@
 
 ghost use Rattle.std.specs.Prelude.{◌≡◌, ◌<◌, ◌≤◌, length, take, is_err, None, IfOk, IfSome, IsErr, IsSome, IsUtf8, OnOk, OnErr};
 ghost use Rattle.std.specs.Io.KnownBytes.{Appends};
-ghost use Rattle.atomld.specs.Faults.{counted};
-ghost use Rattle.atomld.specs.Mode.{mode_to_run};
+ghost use Rattle.disk_outside.specs.Faults.{counted};
+ghost use Rattle.disk_outside.specs.Mode.{mode_to_run};
 ghost use Rattle.mo_outside.specs.Faults.{Rises};
 
 use crate::faults::count;
 use crate::pieces::write_piece;
 use mo_outside::{Failed, Out};
 use std::fs::OpenFile;
+use std::marker::Model;
 use std::os::unix::fs::PermissionsExt;
 use std::{fs, io, rt};
 
@@ -22,6 +23,14 @@ pub struct DiskOut<R: rt::Files> {
     // the file that was begun and isn't done
     file: Option<R::File>,
     faults: u64,
+}
+
+impl<R: rt::Files> Model for DiskOut<R> {
+    ghost use Rattle.disk_outside.specs.Adapters.{DiskWrites};
+
+    ghost Value = { DiskWrites R R.File };
+
+    ghost view = { λ out. record { rt = out.rt; file = out.file; faults = out.faults } };
 }
 
 impl<R: rt::Files> DiskOut<R> {

@@ -1,7 +1,7 @@
 //! Counts of faults.
 
 ghost use Rattle.std.specs.Prelude.{◌≡◌, ◌≤◌};
-ghost use Rattle.atomld.specs.Faults.{one_more};
+ghost use Rattle.disk_outside.specs.Faults.{one_more};
 
 /// Counts a fault. A count stands still at the end of its type.
 pub fn count(faults: &mut u64)

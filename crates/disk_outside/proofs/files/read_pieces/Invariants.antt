@@ -1,7 +1,7 @@
 use Rattle.std.proofs.Common.{◌-◌, ◌≤◌, take, vec_len}
 use Rattle.std.specs.Io.KnownBytes.{Consumes}
 use Rattle.mo_outside.specs.Files.{fetch_limit}
-use Rattle.atomld.proofs.files.read_pieces.Given as goal
+use Rattle.disk_outside.proofs.files.read_pieces.Given as goal
 
 abbrev pub invariant-loop-filled : goal.invariant-loop-filled
 invariant-loop-filled g l = record {

@@ -1,7 +1,7 @@
 use Rattle.std.proofs.Common.{arith, length-drop}
 use Rattle.std.proofs.lemmas.List.{take_rest}
-use Rattle.atomld.proofs.PieceLemmas.{written_more}
-use Rattle.atomld.proofs.diag.write_whole.Goals as goal
+use Rattle.disk_outside.proofs.PieceLemmas.{written_more}
+use Rattle.disk_outside.proofs.diag.write_whole.Goals as goal
 
 pub loop-at-preserved : goal.loop-at-preserved
 loop-at-preserved g c = record {

@@ -3,7 +3,7 @@
 ghost use Rattle.std.specs.Prelude.{◌≡◌, ◌+◌, ◌<◌, ◌≤◌, ◌^◌, [], length, take, drop, ◌≢◌, vec_len, false, true, None, IfErr, IfOk, IfSome, IsErrOf, IsUtf8, OnOk, OnErr};
 ghost use Rattle.std.specs.Io.KnownBytes.{Consumes, IsAtEnd};
 ghost use Rattle.std.specs.IoError.{error_kind};
-ghost use Rattle.atomld.specs.Faults.{DiskFetch, counted, is_unread};
+ghost use Rattle.disk_outside.specs.Faults.{DiskFetch, counted, is_unread};
 ghost use Rattle.mo_outside.specs.Answers.{answer_of};
 ghost use Rattle.mo_outside.specs.Faults.{Rises};
 ghost use Rattle.mo_outside.specs.Files.{fetch_limit};
@@ -14,6 +14,7 @@ use mo_outside::{FetchFault, Files};
 use std::alloc::Global;
 use std::fs::OpenFile;
 use std::io::{ErrorKind, Read};
+use std::marker::Model;
 use std::{fs, io, rt};
 
 // The most bytes that are fetched of one file.
@@ -27,6 +28,14 @@ const PIECE_SIZE: usize = 1 << 18;
 pub struct DiskFiles<R> {
     rt: R,
     faults: u64,
+}
+
+impl<R> Model for DiskFiles<R> {
+    ghost use Rattle.disk_outside.specs.Adapters.{DiskReads};
+
+    ghost Value = { DiskReads R };
+
+    ghost view = { λ files. record { rt = files.rt; faults = files.faults } };
 }
 
 impl<R: rt::Files> DiskFiles<R> {

@@ -1,7 +1,7 @@
 use Rattle.std.proofs.Common.{arith}
 use Rattle.mo_outside.specs.Files.{fetch_limit}
-use Rattle.atomld.proofs.PieceLemmas.{ended, reached, read_more}
-use Rattle.atomld.proofs.files.read_pieces.Goals as goal
+use Rattle.disk_outside.proofs.PieceLemmas.{ended, reached, read_more}
+use Rattle.disk_outside.proofs.files.read_pieces.Goals as goal
 
 pub loop-filled-preserved : goal.loop-filled-preserved
 loop-filled-preserved g c = record {

@@ -1,21 +1,30 @@
 //! Messages on a writer, as standard error.
 
 ghost use Rattle.std.specs.Prelude.{◌≡◌, ◌≤◌, length, take, is_err, None, OnOk, OnErr};
-ghost use Rattle.atomld.specs.Faults.{counted};
+ghost use Rattle.disk_outside.specs.Faults.{counted};
 ghost use Rattle.mo_outside.specs.Faults.{Rises};
 ghost use Rattle.std.specs.Io.KnownBytes.{Appends};
-ghost use Rattle.atomld.specs.Pieces.{AppendsPart};
+ghost use Rattle.disk_outside.specs.Pieces.{AppendsPart};
 
 use crate::faults::count;
 use crate::pieces::write_piece;
 use mo_outside::{Diag, Failed};
 use std::io::Write;
+use std::marker::Model;
 
 /// A place for messages, as standard error, which doesn't tell what it holds.
 #[derive(Drop)]
 pub struct WriterDiag<W> {
     to: W,
     faults: u64,
+}
+
+impl<W> Model for WriterDiag<W> {
+    ghost use Rattle.disk_outside.specs.Adapters.{WriterMessages};
+
+    ghost Value = { WriterMessages W };
+
+    ghost view = { λ diag. record { to = diag.to; faults = diag.faults } };
 }
 
 impl<W: Write> WriterDiag<W> {
