@@ -39,3 +39,17 @@ pub chosen_end : (list : List Chosen) (table : List Best) (i : ℕ) → length t
 chosen_end list table i past before = before ∙ ap (filter_map chosen_of) (take_all i table past)
 
 pub ruleset choosing = (chosen_start, chosen_add, chosen_pass, chosen_end)
+
+-- a list taken out one by one
+pub out_start : {X : Type 0} (out list : List X) → out ≡ [] → out ≡ take 0 list
+out_start out list none = none
+
+pub out_more : {X : Type 0} (out new list : List X) (i : ℕ) (x d : X) → i < length list → x ≡ get_or list i d → out ≡ take i list → new ≡ out ++ x ∷ [] → new ≡ take (i + 1) list
+out_more out new list i x d low is before more =
+    more ∙ ap (λ ys. ys ++ x ∷ []) before
+    ∙ sym (take_more list i d low ∙ ap (λ y. take i list ++ y ∷ []) (sym is))
+
+pub out_end : {X : Type 0} (out list : List X) (i : ℕ) → length list ≤ i → out ≡ take i list → out ≡ list
+out_end out list i past before = before ∙ take_all i list past
+
+pub ruleset taking_out = (out_start, out_more, out_end)

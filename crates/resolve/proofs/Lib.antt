@@ -31,3 +31,4 @@ pub mod AtomSetLemmas
 pub mod AwayLemmas
 pub mod EdgeLemmas
 pub mod FollowLemmas
+pub mod FrontLemmas

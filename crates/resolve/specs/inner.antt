@@ -6,3 +6,4 @@ pub mod Index
 pub mod Literals
 pub mod Words
 pub mod Away
+pub mod Front

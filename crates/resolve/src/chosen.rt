@@ -8,6 +8,7 @@ ghost use Rattle.resolve.specs.inner.Best as bests;
 
 use crate::best::Best;
 use crate::found::FoundIn;
+use crate::keyed::Keyed;
 use mo_types::OutOfMemory;
 use std::alloc::Global;
 
@@ -32,25 +33,37 @@ fn chosen_of<'a>(best: &Best<'a>) -> Option<Chosen<'a>>
     }
 }
 
-// Those of a table.
+// Those of a table, with their keys.
 #[tactic(auto, using(crate::proofs::ChosenLemmas::choosing))]
-fn chosen_in<'a>(alloc: Global, table: &[Best<'a>]) -> Result<Vec<Chosen<'a>>, OutOfMemory>
+fn chosen_in<'a>(alloc: Global, table: &[Best<'a>]) -> Result<Vec<Keyed<'a>>, OutOfMemory>
     ensures { IfOk result (λ list. list.items ≡ filter_map bests.chosen_of table.now) }
 {
     let mut list = Vec::new(alloc);
     for best in table {
         if let Some(chosen) = chosen_of(best) {
-            list.push(chosen)?;
+            list.push(Keyed::new(chosen))?;
         }
     }
     Ok(list)
 }
 
-fn put_in_order(list: &mut Vec<Chosen>)
+fn put_in_order(list: &mut Vec<Keyed>)
     ensures permutation { IsPermutation list.old.items list.new.items }
     ensures sorted { IsSortedBy (λ a b. is_lt (slice_cmp nat_cmp (bests.chosen_name a) (bests.chosen_name b))) list.new.items }
 {
-    list.sort_unstable_by(|a, b| a.found.symbol.name.cmp(&b.found.symbol.name));
+    list.sort_unstable_by(|a, b| a.by_name(b));
+}
+
+// The candidates alone, in the order in which they stand.
+#[tactic(auto, using(crate::proofs::ChosenLemmas::taking_out))]
+fn without_keys<'a>(alloc: Global, list: &[Keyed<'a>]) -> Result<Vec<Chosen<'a>>, OutOfMemory>
+    ensures { IfOk result (λ chosen. chosen.items ≡ list.now) }
+{
+    let mut chosen = Vec::with_capacity(alloc, list.len())?;
+    for keyed in list {
+        chosen.push(keyed.chosen())?;
+    }
+    Ok(chosen)
 }
 
 /// Those of a table, in the byte order of their names.
@@ -63,5 +76,5 @@ pub(crate) fn chosen_by_name<'a>(
 {
     let mut list = chosen_in(alloc, table)?;
     put_in_order(&mut list);
-    Ok(list)
+    without_keys(alloc, list.as_slice())
 }
