@@ -1,11 +1,13 @@
 //! The atoms from which all that is kept is reached.
-ghost use Rattle.std.specs.Prelude.{◌≡◌, ◌++◌, ◌<◌, IfOk, All, length, slice_index_or};
+ghost use Rattle.std.specs.Prelude.{◌≡◌, ◌++◌, ◌<◌, IfOk, All, List, length, slice_index_or};
 ghost use Rattle.std.specs.List.{enumerate_from, filter_map, flat_map};
 ghost use Rattle.std.specs.Option.{option_map};
 ghost use Rattle.mo_types.specs.Loaded.{IsWholeFile, IsWholeLoaded};
+ghost use Rattle.mo_types.specs.declared.atom.Atom.{Atom as Cut};
 ghost use Rattle.mo_types.specs.declared.object.Symbol.{Symbol as Declared};
 ghost use Rattle.resolve.specs.Goals.{stands_for};
 ghost use Rattle.resolve.specs.Roots as spec;
+ghost use Rattle.resolve.specs.declared.representative.Representative.{Representative as Standing};
 
 use crate::atom_set::{AtomSet, set_of_atoms};
 use crate::known::Winners;
@@ -77,6 +79,26 @@ fn with_commons(before: Vec<AtomKey>, atoms: &[AtomKey]) -> Result<Vec<AtomKey>,
     Ok(roots)
 }
 
+// The sets of two lists of atoms, the second of which leaves some of the first out; where it leaves none out, no atoms: then
+// no atom is passed over.
+#[tactic(auto, using(crate::proofs::AtomSetLemmas::sets))]
+fn sets_of(
+    alloc: Global,
+    external: &[AtomKey],
+    winning: &[AtomKey],
+) -> Result<(AtomSet, AtomSet), OutOfMemory>
+    requires { length external.now ≡ length winning.now → external.now ≡ winning.now }
+    ensures { IfOk result (λ sets. (literals : List Standing) (atom : Cut) → spec.plain_root literals sets.0 sets.1 atom ≡ spec.plain_root literals external.now winning.now atom) }
+{
+    if external.len() == winning.len() {
+        return Ok((AtomSet::new(alloc), AtomSet::new(alloc)));
+    }
+    Ok((
+        set_of_atoms(alloc, external)?,
+        set_of_atoms(alloc, winning)?,
+    ))
+}
+
 // Roots, and those of a file where nothing is stripped.
 fn with_plain_roots(
     alloc: Global,
@@ -89,10 +111,9 @@ fn with_plain_roots(
 {
     let external = external_atoms(alloc, file)?;
     let winning = winning_atoms(alloc, winners, file)?;
-    let external_set = set_of_atoms(alloc, external.as_slice())?;
-    let winning_set = set_of_atoms(alloc, winning.as_slice())?;
+    let (all, taken_in) = sets_of(alloc, external.as_slice(), winning.as_slice())?;
     let atoms = file.atoms.as_slice();
-    let roots = with_plain(before, winners, &external_set, &winning_set, atoms)?;
+    let roots = with_plain(before, winners, &all, &taken_in, atoms)?;
     Ok(with_commons(roots, winning.as_slice())?)
 }
 
