@@ -4,3 +4,4 @@ pub mod KeptLemmas
 pub mod ListLemmas
 pub mod OrderLemmas
 pub mod SpotLemmas
+pub mod ToldLemmas

@@ -1,8 +1,10 @@
 -- The orders of the references of files.
 use Rattle.std.proofs.Common.{◌≡◌, ℕ, suc, ◌+◌, ◌<◌, ◌≤◌, List, [], ◌∷◌, ◌++◌, length, take, get_or, slice_get, Some, None, zero, ◌⊎◌, inl, inr, refl, sym, ap, ◌∙◌, subst, arith, length-append}
 use Rattle.std.specs.Prelude.{Option}
-use Rattle.std.specs.Option.{option_map_or}
+use Rattle.std.specs.Option.{option_map, option_map_or}
 use Rattle.std.proofs.lemmas.List.{append-nil, take_all, take_more}
+use Rattle.std.proofs.lemmas.Option.{slice_get-map}
+use Rattle.goal_table.specs.Table.{Pooled, Tabled, goals_in, goals_of}
 use Rattle.kept_refs.specs.Order.{AreInOrder}
 use Rattle.kept_refs.specs.declared.order.Spot.{Spot}
 use Rattle.mo_types.specs.declared.goal.Goal.{Goal}
@@ -89,3 +91,18 @@ unfolding kept_mets
 kept_mets_of scene files goals kept file some f is =
     ap (λ (o : Option LoadedFile). option_map_or (λ (x : LoadedFile). mets_of scene (goals_at goals kept.file) x.refs kept.atom.key) o []) f
     ∙ ap (λ (gs : List Goal). mets_of scene gs file.refs kept.atom.key) (sym is)
+
+-- ---- the goals of the symbols of a file
+
+pub goals_here : (table : Tabled) (at : ℕ) (goals : Pooled) (found : Option Pooled) (places : List ℕ) → found ≡ Some goals → option_map (λ (g : Pooled). g.places) found ≡ slice_get table.places at → places ≡ goals.places → goals_in table.pool places ≡ goals_at (goals_of table) at
+unfolding goals_of
+goals_here table at goals found places is there same =
+    ap (goals_in table.pool) same
+    ∙ sym (ap (λ (o : Option (List Goal)). option_map_or (λ (some : List Goal). some) o [])
+    (slice_get-map (goals_in table.pool) table.places at ∙ ap (option_map (goals_in table.pool)) (sym there ∙ ap (option_map (λ (g : Pooled). g.places)) is)))
+
+pub no_goals : (table : Tabled) (at : ℕ) (found : Option Pooled) → found ≡ None → option_map (λ (g : Pooled). g.places) found ≡ slice_get table.places at → goals_in table.pool [] ≡ goals_at (goals_of table) at
+unfolding goals_of goals_in
+no_goals table at found is there =
+    sym (ap (λ (o : Option (List Goal)). option_map_or (λ (some : List Goal). some) o [])
+    (slice_get-map (goals_in table.pool) table.places at ∙ ap (option_map (goals_in table.pool)) (sym there ∙ ap (option_map (λ (g : Pooled). g.places)) is)))

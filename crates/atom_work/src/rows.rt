@@ -4,21 +4,23 @@ ghost use Rattle.std.specs.List.{filter, filter_map, find, flat_map};
 ghost use Rattle.std.specs.List.Sorted.{IsStrictlySortedBy};
 ghost use Rattle.std.specs.Option.{option_map, option_to_list};
 ghost use Rattle.std.specs.Ordering.{is_eq, on};
+ghost use Rattle.goal_table.specs.Table.{goals_in, goals_of};
 ghost use Rattle.mo_types.specs.Keys.{compare_keys};
-ghost use Rattle.mo_types.specs.declared.goal.Goal.{Goal};
 ghost use Rattle.atom_work.specs.Addresses.{AreOnce};
 ghost use Rattle.atom_work.specs.Atoms.{kept_at};
 ghost use Rattle.atom_work.specs.Rows as spec;
 ghost use Rattle.atom_work.specs.declared.kept.KeptAtom.{KeptAtom};
 ghost use Rattle.atom_work.specs.inner.Listed.{AreListed};
 ghost use Rattle.atom_work.specs.inner.Orders.{AreOrders};
+ghost use Rattle.atom_work.specs.inner.Told.{AreTold, scene_of};
 
-use crate::addresses::address_beside;
+use crate::addresses::{Setting, address_beside, addresses_of};
 use crate::kept::KeptAtom;
 use crate::mets::with_mets;
 use crate::orders::orders_of;
-use kept_refs::{GoalTable, SpotList};
-use mo_types::{AtomKey, Goal, Items, Loaded, LoadedFile, LoadedList, OutOfMemory};
+use goal_table::GoalTable;
+use kept_refs::SpotList;
+use mo_types::{AtomKey, Items, Loaded, LoadedFile, LoadedList, OutOfMemory};
 use patch::{Met, PlacedWork};
 use resolve::Winners;
 use sect_place::{Layout, PlacedSection, is_zerofill};
@@ -38,12 +40,16 @@ pub struct Work {
 #[derive(Clone, Copy)]
 struct Sources<'a> {
     files: &'a LoadedList,
-    winners: &'a Winners<'a>,
-    goals: &'a GoalTable,
     orders: &'a Items<SpotList>,
     atoms: &'a [KeptAtom],
-    layout: &'a Layout,
-    base: u64,
+    setting: &'a Setting<'a>,
+}
+
+// Where the next atom of a section mostly is among the kept ones, and its references among those of its file.
+#[derive(Clone, Copy)]
+struct Next {
+    atom: usize,
+    spot: usize,
 }
 
 fn compare(a: &AtomKey, b: &AtomKey) -> Ordering
@@ -94,25 +100,17 @@ fn find_near(atoms: &[KeptAtom], near: usize, key: AtomKey) -> Option<Found>
     find_kept(atoms, key)
 }
 
-// The goals of the symbols of the file at a place.
-fn goals_at(goals: &GoalTable, at: usize) -> &[Goal]
-    ensures { result.now ≡ spec.goals_at goals.now at }
-{
-    match goals.get(at) {
-        Some(some) => some.as_slice(),
-        None => &[],
-    }
-}
-
 // References, and those of a kept atom.
 fn with_kept_mets(
     before: Vec<Met>,
     sources: &Sources,
+    next: &mut usize,
     kept: &KeptAtom,
 ) -> Result<Vec<Met>, OutOfMemory>
-    requires once { AreOnce sources.now.layout.now.placed }
+    requires once { AreOnce sources.now.setting.now.layout.now.placed }
+    requires told { AreTold sources.now.setting.now }
     requires orders { AreOrders sources.now.files.now sources.now.orders.now }
-    ensures { IfOk result (λ new. new.items ≡ before.items ++ spec.kept_mets (record { literals = sources.now.winners.now.literals; base = sources.now.base; placed = sources.now.layout.now.placed }) sources.now.files.now sources.now.goals.now kept.now) }
+    ensures { IfOk result (λ new. new.items ≡ before.items ++ spec.kept_mets (scene_of sources.now.setting.now) sources.now.files.now (goals_of sources.now.setting.now.goals.now) kept.now) }
 {
     let Some(file) = sources.files.get(kept.file) else {
         return Ok(before);
@@ -120,16 +118,20 @@ fn with_kept_mets(
     let Some(order) = sources.orders.get(kept.file) else {
         unreachable!()
     };
-    with_mets(
-        before,
-        sources.winners,
-        sources.layout,
-        sources.base,
-        goals_at(sources.goals, kept.file),
-        &file.refs,
-        order.as_slice(),
-        kept.atom.key,
-    )
+    let order = order.as_slice();
+    let key = kept.atom.key;
+    match sources.setting.goals.file(kept.file) {
+        Some(goals) => with_mets(
+            before,
+            sources.setting,
+            goals.places(),
+            &file.refs,
+            order,
+            next,
+            key,
+        ),
+        None => with_mets(before, sources.setting, &[], &file.refs, order, next, key),
+    }
 }
 
 // Where an address of a section stands in the file. A place of 2^64 or more is answered as want of memory.
@@ -150,16 +152,18 @@ fn with_row(
     before: Work,
     sources: &Sources,
     section: &PlacedSection,
+    next: &mut usize,
     kept: &KeptAtom,
     address: u64,
 ) -> Result<Work, OutOfMemory>
-    requires once { AreOnce sources.now.layout.now.placed }
+    requires once { AreOnce sources.now.setting.now.layout.now.placed }
+    requires told { AreTold sources.now.setting.now }
     requires orders { AreOrders sources.now.files.now sources.now.orders.now }
-    ensures { IfOk result (λ new. (rows : List spec.Row) → AreListed rows before.items.items before.mets.items → AreListed (rows ++ spec.row_at (record { literals = sources.now.winners.now.literals; base = sources.now.base; placed = sources.now.layout.now.placed }) sources.now.files.now sources.now.goals.now section.now kept.now address ∷ []) new.items.items new.mets.items) }
+    ensures { IfOk result (λ new. (rows : List spec.Row) → AreListed rows before.items.items before.mets.items → AreListed (rows ++ spec.row_at (scene_of sources.now.setting.now) sources.now.files.now (goals_of sources.now.setting.now.goals.now) section.now kept.now address ∷ []) new.items.items new.mets.items) }
 {
     let Work { items, mets } = before;
     let first = mets.len();
-    let mets = with_kept_mets(mets, sources, kept)?;
+    let mets = with_kept_mets(mets, sources, next, kept)?;
     let mut items = items;
     items.push(PlacedWork {
         atom: kept.atom,
@@ -172,29 +176,36 @@ fn with_row(
     Ok(Work { items, mets })
 }
 
-// What is written, and the atom with a key in a section, which mostly is the kept one at a place; the next one is looked
-// for behind it.
+// What is written, and the atom with a key in a section, which mostly is the next one; another one is then the next.
 #[tactic(auto, using(crate::proofs::ListLemmas::no_more), unfolding(crate::specs::Rows::row_of))]
 fn with_key(
     before: Work,
     sources: &Sources,
     section: &PlacedSection,
     key: AtomKey,
-    near: &mut usize,
+    next: &mut Next,
 ) -> Result<Work, OutOfMemory>
-    requires once { AreOnce sources.now.layout.now.placed }
+    requires once { AreOnce sources.now.setting.now.layout.now.placed }
+    requires told { AreTold sources.now.setting.now }
     requires orders { AreOrders sources.now.files.now sources.now.orders.now }
     requires rising { IsStrictlySortedBy (on (λ (kept : KeptAtom). kept.atom.key) compare_keys) sources.now.atoms.now }
-    ensures { IfOk result (λ new. (rows : List spec.Row) → AreListed rows before.items.items before.mets.items → AreListed (rows ++ option_to_list (spec.row_of (record { literals = sources.now.winners.now.literals; base = sources.now.base; placed = sources.now.layout.now.placed }) sources.now.files.now sources.now.goals.now sources.now.atoms.now section.now key)) new.items.items new.mets.items) }
+    ensures { IfOk result (λ new. (rows : List spec.Row) → AreListed rows before.items.items before.mets.items → AreListed (rows ++ option_to_list (spec.row_of (scene_of sources.now.setting.now) sources.now.files.now (goals_of sources.now.setting.now.goals.now) sources.now.atoms.now section.now key)) new.items.items new.mets.items) }
 {
-    let Some(found) = find_near(sources.atoms, *near, key) else {
+    let Some(found) = find_near(sources.atoms, next.atom, key) else {
         return Ok(before);
     };
-    *near = found.at.saturating_add(1);
-    let Some(address) = address_beside(sources.layout, found.at, key) else {
+    next.atom = found.at.saturating_add(1);
+    let Some(address) = address_beside(sources.setting.layout, found.at, key) else {
         return Ok(before);
     };
-    with_row(before, sources, section, &found.kept, address)
+    with_row(
+        before,
+        sources,
+        section,
+        &mut next.spot,
+        &found.kept,
+        address,
+    )
 }
 
 // What is written, and the atoms of a section.
@@ -203,10 +214,11 @@ fn with_section(
     sources: &Sources,
     section: &PlacedSection,
 ) -> Result<Work, OutOfMemory>
-    requires once { AreOnce sources.now.layout.now.placed }
+    requires once { AreOnce sources.now.setting.now.layout.now.placed }
+    requires told { AreTold sources.now.setting.now }
     requires orders { AreOrders sources.now.files.now sources.now.orders.now }
     requires rising { IsStrictlySortedBy (on (λ (kept : KeptAtom). kept.atom.key) compare_keys) sources.now.atoms.now }
-    ensures { IfOk result (λ new. (rows : List spec.Row) → AreListed rows before.items.items before.mets.items → AreListed (rows ++ spec.section_rows (record { literals = sources.now.winners.now.literals; base = sources.now.base; placed = sources.now.layout.now.placed }) sources.now.files.now sources.now.goals.now sources.now.atoms.now section.now) new.items.items new.mets.items) }
+    ensures { IfOk result (λ new. (rows : List spec.Row) → AreListed rows before.items.items before.mets.items → AreListed (rows ++ spec.section_rows (scene_of sources.now.setting.now) sources.now.files.now (goals_of sources.now.setting.now.goals.now) sources.now.atoms.now section.now) new.items.items new.mets.items) }
 {
     with_keys(before, sources, section, section.section.atoms.as_slice())
 }
@@ -219,15 +231,16 @@ fn with_keys(
     section: &PlacedSection,
     keys: &[AtomKey],
 ) -> Result<Work, OutOfMemory>
-    requires once { AreOnce sources.now.layout.now.placed }
+    requires once { AreOnce sources.now.setting.now.layout.now.placed }
+    requires told { AreTold sources.now.setting.now }
     requires orders { AreOrders sources.now.files.now sources.now.orders.now }
     requires rising { IsStrictlySortedBy (on (λ (kept : KeptAtom). kept.atom.key) compare_keys) sources.now.atoms.now }
-    ensures { IfOk result (λ new. (rows : List spec.Row) → AreListed rows before.items.items before.mets.items → AreListed (rows ++ filter_map (spec.row_of (record { literals = sources.now.winners.now.literals; base = sources.now.base; placed = sources.now.layout.now.placed }) sources.now.files.now sources.now.goals.now sources.now.atoms.now section.now) keys.now) new.items.items new.mets.items) }
+    ensures { IfOk result (λ new. (rows : List spec.Row) → AreListed rows before.items.items before.mets.items → AreListed (rows ++ filter_map (spec.row_of (scene_of sources.now.setting.now) sources.now.files.now (goals_of sources.now.setting.now.goals.now) sources.now.atoms.now section.now) keys.now) new.items.items new.mets.items) }
 {
     let mut work = before;
-    let mut near = 0;
+    let mut next = Next { atom: 0, spot: 0 };
     for key in keys {
-        work = with_key(work, sources, section, *key, &mut near)?;
+        work = with_key(work, sources, section, *key, &mut next)?;
     }
     Ok(work)
 }
@@ -245,10 +258,11 @@ fn with_sections(
     sources: &Sources,
     sections: &[PlacedSection],
 ) -> Result<Work, OutOfMemory>
-    requires once { AreOnce sources.now.layout.now.placed }
+    requires once { AreOnce sources.now.setting.now.layout.now.placed }
+    requires told { AreTold sources.now.setting.now }
     requires orders { AreOrders sources.now.files.now sources.now.orders.now }
     requires rising { IsStrictlySortedBy (on (λ (kept : KeptAtom). kept.atom.key) compare_keys) sources.now.atoms.now }
-    ensures { IfOk result (λ new. (rows : List spec.Row) → AreListed rows before.items.items before.mets.items → AreListed (rows ++ spec.rows (record { literals = sources.now.winners.now.literals; base = sources.now.base; placed = sources.now.layout.now.placed }) sources.now.files.now sources.now.goals.now sources.now.atoms.now sections.now) new.items.items new.mets.items) }
+    ensures { IfOk result (λ new. (rows : List spec.Row) → AreListed rows before.items.items before.mets.items → AreListed (rows ++ spec.rows (scene_of sources.now.setting.now) sources.now.files.now (goals_of sources.now.setting.now.goals.now) sources.now.atoms.now sections.now) new.items.items new.mets.items) }
 {
     let mut work = before;
     for section in sections {
@@ -284,18 +298,23 @@ pub fn work_of(
 ) -> Result<Work, OutOfMemory>
     requires once { AreOnce layout.now.placed }
     requires rising { IsStrictlySortedBy (on (λ (one : KeptAtom). one.atom.key) compare_keys) kept.now }
-    ensures items { IfOk result (λ work. work.items.items ≡ spec.items_from 0 (spec.rows (record { literals = winners.now.literals; base = base; placed = layout.now.placed }) loaded.now.files goals.now kept.now layout.now.sections)) }
-    ensures mets { IfOk result (λ work. work.mets.items ≡ spec.all_mets (spec.rows (record { literals = winners.now.literals; base = base; placed = layout.now.placed }) loaded.now.files goals.now kept.now layout.now.sections)) }
+    ensures items { IfOk result (λ work. work.items.items ≡ spec.items_from 0 (spec.rows (record { literals = winners.now.literals; base = base; placed = layout.now.placed }) loaded.now.files (goals_of goals.now) kept.now layout.now.sections)) }
+    ensures mets { IfOk result (λ work. work.mets.items ≡ spec.all_mets (spec.rows (record { literals = winners.now.literals; base = base; placed = layout.now.placed }) loaded.now.files (goals_of goals.now) kept.now layout.now.sections)) }
 {
     let orders = orders_of(alloc, loaded.files.as_slice())?;
-    let sources = Sources {
-        files: &loaded.files,
+    let addresses = addresses_of(alloc, layout, base, goals.pool())?;
+    let setting = Setting {
         winners,
-        goals,
-        orders: &orders,
-        atoms: kept,
         layout,
         base,
+        goals,
+        addresses: addresses.as_slice(),
+    };
+    let sources = Sources {
+        files: &loaded.files,
+        orders: &orders,
+        atoms: kept,
+        setting: &setting,
     };
     let none = Work {
         items: Vec::with_capacity(alloc, kept.len())?,

@@ -46,11 +46,11 @@ pub(crate) fn slot_lists(rt: &HostRuntime, count: u32, goals: u32) -> Result<()>
 fn number(rt: &HostRuntime, loaded: &Loaded) -> Result<()> {
     let extra = NameList::new(rt.alloc());
     let start = Instant::now(rt)?;
-    let Ok(table) = gather(rt.alloc(), loaded, &extra) else {
+    let Ok(all) = gather(rt.alloc(), loaded, &extra) else {
         bail!("no memory is left, or there are too many names");
     };
     eprintln!(rt; "{}", start.elapsed(rt)?.as_millis())?;
-    println!(rt; "{}", table.len())?;
+    println!(rt; "{}", all.names.len())?;
     Ok(())
 }
 

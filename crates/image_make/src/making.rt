@@ -4,6 +4,7 @@ ghost use Rattle.std.specs.List.Sorted.{IsStrictlySortedBy};
 ghost use Rattle.std.specs.Ordering.{on};
 ghost use Rattle.atom_work.specs.Atoms.{kept_atoms};
 ghost use Rattle.atom_work.specs.declared.kept.KeptAtom.{KeptAtom};
+ghost use Rattle.goal_table.specs.Table.{goals_of};
 ghost use Rattle.mo_types.specs.Keys.{compare_keys};
 ghost use Rattle.mo_types.specs.Loaded.{IsWholeLoaded};
 ghost use Rattle.image_make.specs.Made.{IsMade};
@@ -13,7 +14,7 @@ use crate::filling::{blank_image, fill_image};
 use crate::front::{base_of, front_of};
 use crate::laying::lay_out;
 use atom_work::{kept_atoms, work_of};
-use kept_refs::GoalTable;
+use goal_table::GoalTable;
 use lib_bind::Libraries;
 use mo_cmd::Command;
 use mo_outside::Gate;
@@ -56,7 +57,7 @@ pub fn make_image<R: Threads + Sync, G: Gate + Sync>(
     requires keys { IsStrictlySortedBy compare_keys scheme.now.keys.now }
     requires rising { IsStrictlySortedBy (on (λ (one : KeptAtom). one.atom.key) compare_keys) (kept_atoms scheme.now.winners.now.literals scheme.now.keys.now scheme.now.loaded.now.files) }
     requires low { All (λ one. one.atom.align ≤ 14) (kept_atoms scheme.now.winners.now.literals scheme.now.keys.now scheme.now.loaded.now.files) }
-    ensures { IsMade (record { command = scheme.now.command.now; libs = scheme.now.libs.now; files = scheme.now.loaded.now.files; goals = scheme.now.goals.now; literals = scheme.now.winners.now.literals; keys = scheme.now.keys.now; flags = scheme.now.flags; entry = scheme.now.entry.now; slots = scheme.now.slots.now; islands = scheme.now.islands.now }) result }
+    ensures { IsMade (record { command = scheme.now.command.now; libs = scheme.now.libs.now; files = scheme.now.loaded.now.files; goals = goals_of scheme.now.goals.now; literals = scheme.now.winners.now.literals; keys = scheme.now.keys.now; flags = scheme.now.flags; entry = scheme.now.entry.now; slots = scheme.now.slots.now; islands = scheme.now.islands.now }) result }
 {
     let kept = kept_atoms(alloc, scheme.loaded, scheme.winners, scheme.keys)?;
     let layout = lay_out(

@@ -3,3 +3,5 @@ mod ListLemmas
 mod LostLemmas
 mod RunLemmas
 mod StableLemmas
+mod NobodyLemmas
+mod TurnLemmas

@@ -145,6 +145,10 @@ unnamed_refs : (file : LoadedFile) (goals : List Goal) (rs : List Ref) → list_
 unnamed_refs file goals [] none = refl
 unnamed_refs file goals (r ∷ rs) none = rw (unnamed_ref file goals r none) (unnamed_refs file goals rs none)
 
+pub unnamed_in : (keys : List AtomKey) (file : LoadedFile) (goals : List Goal) → list_any is_nobody goals ≡ false → lost_in keys file goals ≡ []
+unfolding lost_in
+unnamed_in keys file goals none = ap (labelled file) (unnamed_refs file goals (kept_refs keys file) none)
+
 pub none_lost : (keys : List AtomKey) (file : LoadedFile) (goals : List Goal) (init : Option (List ℕ × List ℕ)) → list_any is_nobody goals ≡ false → init ≡ fold lesser init (lost_in keys file goals)
 unfolding lost_in
 none_lost keys file goals init none = sym (ap (λ names. fold lesser init (labelled file names)) (unnamed_refs file goals (kept_refs keys file) none))

@@ -5,7 +5,8 @@ use Rattle.std.specs.List.{filter}
 use Rattle.std.specs.List.Sorted.{IsNonDecreasingBy, IsPartitionPoint, IsSorted}
 use Rattle.std.specs.Ordering.{is_lt, nat_cmp}
 use Rattle.std.specs.declared.cmp.Ordering.TheVariants.{Less}
-use Rattle.std.proofs.lemmas.Bool.{cases_lt, eq-eqb, ne_eqb, leb-false, leb-true, ltb-false, ltb-true}
+use Rattle.std.proofs.lemmas.Bool.{cases_lt, eq-eqb, ne_eqb, leb-false, leb-true, lt-leb, lt-ltb, ltb-false, ltb-true}
+use Rattle.std.proofs.lemmas.Bool.Decides.{leb_tells}
 use Rattle.std.proofs.lemmas.Cmp.{nat_cmp_total, on_total}
 use Rattle.std.proofs.lemmas.List.Sorted.{ranks_by, sorted_far}
 use Rattle.kept_refs.specs.declared.order.Spot.{Spot}
@@ -109,3 +110,46 @@ pub run_none : (spots : List Spot) (section offset at from to : ℕ) → ArePoin
 run_none spots section offset at from to h down = absurd (never spots at from to h down (some_spot spots to (omega (arith, down, h.low))))
 
 pub ruleset runs = (points, run_is, run_none)
+
+pub same_element : (spots : List Spot) (k : ℕ) (d e : Spot) → k < length spots → get_or spots k d ≡ get_or spots k e
+same_element [] k d e low = absurd (omega (arith, low))
+same_element (x ∷ xs) zero d e low = refl
+same_element (x ∷ xs) (suc k) d e low = same_element xs k d e (omega (arith, low))
+
+-- ---- from the place where another run ended
+
+up_to : (spots : List Spot) (at near k : ℕ) (d : Spot) → IsSorted compare_spots spots → near ≤ length spots → ((e : Spot) → 0 < near → place (get_or spots (near - 1) e) < at) → k < near → place (get_or spots k d) < at
+up_to spots at near k d sorted high before low =
+    let last : place (get_or spots (near - 1) d) < at = before d (omega (arith, low)) in
+    let rise : place (get_or spots k d) ≤ place (get_or spots (near - 1) d) = places_rise spots sorted k (near - 1) d (omega (arith, low)) (omega (arith, low, high)) in
+    omega (arith, last, rise)
+
+on_from : (spots : List Spot) (at near k : ℕ) (d : Spot) → IsSorted compare_spots spots → ((e : Spot) → near < length spots → at ≤ place (get_or spots near e)) → near ≤ k → k < length spots → at ≤ place (get_or spots k d)
+on_from spots at near k d sorted behind over low =
+    let first : at ≤ place (get_or spots near d) = behind d (omega (arith, over, low)) in
+    let rise : place (get_or spots near d) ≤ place (get_or spots k d) = places_rise spots sorted near k d over low in
+    omega (arith, first, rise)
+
+is_at_most : (a b : ℕ) → a ≤ b → nat_le a b ≡ true
+is_at_most a b up = elim (leb_tells a b) [
+  | inl p ↦ p.0
+  | inr p ↦ absurd (omega (arith, p.1, up))
+]
+
+is_not_less : (a b : ℕ) → b ≤ a → nat_lt a b ≡ false
+is_not_less a b up = elim (leb_tells (suc a) b) [
+  | inl p ↦ absurd (omega (arith, p.1, up))
+  | inr p ↦ p.0
+]
+
+pub point_lower : (spots : List Spot) (at near : ℕ) → IsSorted compare_spots spots → near ≤ length spots → ((e : Spot) → 0 < near → place (get_or spots (near - 1) e) < at) → ((e : Spot) → near < length spots → at ≤ place (get_or spots near e)) → IsPartitionPoint (λ spot. nat_lt (place spot) at ≡ true) (λ spot. nat_lt (place spot) at ≡ false) spots near
+point_lower spots at near sorted high before behind = (
+  λ k d from low. lt-ltb (place (get_or spots k d)) at (up_to spots at near k d sorted high before low),
+  λ k d over low. is_not_less (place (get_or spots k d)) at (on_from spots at near k d sorted behind over low),
+)
+
+pub point_upper : (spots : List Spot) (at to : ℕ) → IsSorted compare_spots spots → ((k : ℕ) (d : Spot) → k < to → place (get_or spots k d) ≤ at) → ((e : Spot) → to < length spots → at < place (get_or spots to e)) → IsPartitionPoint (λ spot. nat_le (place spot) at ≡ true) (λ spot. nat_le (place spot) at ≡ false) spots to
+point_upper spots at to sorted before behind = (
+  λ k d from low. is_at_most (place (get_or spots k d)) at (before k d low),
+  λ k d over low. lt-leb (place (get_or spots k d)) at (let up : at + 1 ≤ place (get_or spots k d) = on_from spots (at + 1) to k d sorted (λ e l. let first : at < place (get_or spots to e) = behind e l in omega (arith, first)) over low in omega (arith, up)),
+)

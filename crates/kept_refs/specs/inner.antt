@@ -1,1 +1,3 @@
 pub mod Lost
+pub mod Parted
+pub mod Turned

@@ -8,6 +8,6 @@ mod order;
 mod run;
 
 pub use laws::the_least_name_is_told;
-pub use lost::{GoalTable, Lost, undefined};
+pub use lost::{Lost, undefined};
 pub use order::{Spot, SpotList, ref_order};
-pub use run::spots_of_atom;
+pub use run::{next_spots, spots_of_atom};

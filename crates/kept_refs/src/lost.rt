@@ -4,18 +4,15 @@ ghost use Rattle.std.specs.Prelude.{◌≡◌, ◌<◌, ◌++◌, fold, length};
 ghost use Rattle.std.specs.List.{list_any};
 ghost use Rattle.std.specs.List.Sorted.{IsStrictlySortedBy};
 ghost use Rattle.std.specs.Option.{option_copied, option_map};
+ghost use Rattle.goal_table.specs.Table.{goals_in, goals_of};
 ghost use Rattle.mo_types.specs.Keys.{compare_keys};
 ghost use Rattle.kept_refs.specs.Undefined as spec;
 ghost use Rattle.kept_refs.specs.inner.Lost.{held, labelled, pairs_of};
 
 use crate::kept::{Asked, ask};
+use goal_table::{FileGoals, GoalTable};
 use mark_core::is_kept;
-use mo_types::{
-    AtomKey, Bytes, FileId, Goal, GoalList, Items, KeyList, Loaded, LoadedFile, Ref, Symbol, Target,
-};
-
-/// The goals of each file's symbols, file by file.
-pub type GoalTable = Items<GoalList>;
+use mo_types::{AtomKey, Bytes, FileId, Goal, KeyList, Loaded, LoadedFile, Ref, Symbol, Target};
 
 /// A name that leads nowhere.
 #[derive(Clone, Copy, Debug)]
@@ -31,16 +28,34 @@ fn is_nobody(goal: &Goal) -> bool
     matches!(goal, Goal::Nobody)
 }
 
-// Whether a symbol's goal is nowhere.
+// Whether a goal is nowhere.
 fn has_nobody(goals: &[Goal]) -> bool
     ensures { result ≡ list_any spec.is_nobody goals.now }
 {
     goals.iter().any(is_nobody)
 }
 
+// Whether the goal of a file's symbol is nowhere.
+#[tactic(auto, using(crate::proofs::NobodyLemmas::finds))]
+fn leads_nowhere(goals: &FileGoals) -> bool
+    ensures { result ≡ list_any spec.is_nobody (goals_in goals.now.pool goals.now.places) }
+{
+    for index in 0..goals.places().len() {
+        match goals.get(index) {
+            Some(goal) => {
+                if is_nobody(goal) {
+                    return true;
+                }
+            }
+            None => {}
+        }
+    }
+    false
+}
+
 // The name to which a target goes, where it leads nowhere.
-fn lost_name<'a>(symbols: &'a [Symbol], goals: &[Goal], target: Target) -> Option<&'a Bytes>
-    ensures { option_copied result ≡ spec.lost_name symbols.now goals.now target }
+fn lost_name<'a>(symbols: &'a [Symbol], goals: &FileGoals, target: Target) -> Option<&'a Bytes>
+    ensures { option_copied result ≡ spec.lost_name symbols.now (goals_in goals.now.pool goals.now.places) target }
 {
     let Target::Name(index) = target else {
         return None;
@@ -83,10 +98,10 @@ fn note<'a>(least: Option<Lost<'a>>, name: Option<&'a Bytes>, label: &'a [u8]) -
 fn note_ref<'a>(
     least: Option<Lost<'a>>,
     file: &'a LoadedFile,
-    goals: &[Goal],
+    goals: &FileGoals,
     reference: &Ref,
 ) -> Option<Lost<'a>>
-    ensures { option_map held result ≡ fold spec.lesser (option_map held least.entry) (labelled file.now (spec.lost_names file.now.object.symbols goals.now reference.now)) }
+    ensures { option_map held result ≡ fold spec.lesser (option_map held least.entry) (labelled file.now (spec.lost_names file.now.object.symbols (goals_in goals.now.pool goals.now.places) reference.now)) }
 {
     let symbols = file.object.symbols.as_slice();
     let label = file.label.as_slice();
@@ -111,11 +126,11 @@ const FIRST: AtomKey = AtomKey {
 fn note_file<'a>(
     least: Option<Lost<'a>>,
     file: &'a LoadedFile,
-    goals: &[Goal],
+    goals: &FileGoals,
     keys: &[AtomKey],
 ) -> Option<Lost<'a>>
     requires { IsStrictlySortedBy compare_keys keys.now }
-    ensures { option_map held result ≡ fold spec.lesser (option_map held least.entry) (spec.lost_in keys.now file.now goals.now) }
+    ensures { option_map held result ≡ fold spec.lesser (option_map held least.entry) (spec.lost_in keys.now file.now (goals_in goals.now.pool goals.now.places)) }
 {
     let mut found = least;
     let mut last = Asked {
@@ -136,18 +151,18 @@ fn note_file<'a>(
     found
 }
 
-// The same, which goes through no references where each name of the file leads somewhere.
+// The same, which goes through no references where each symbol of the file leads somewhere.
 #[tactic(auto, using(crate::proofs::LostLemmas::none_lost))]
 fn note_if_any<'a>(
     least: Option<Lost<'a>>,
     file: &'a LoadedFile,
-    goals: &[Goal],
+    goals: &FileGoals,
     keys: &[AtomKey],
 ) -> Option<Lost<'a>>
     requires { IsStrictlySortedBy compare_keys keys.now }
-    ensures { option_map held result ≡ fold spec.lesser (option_map held least.entry) (spec.lost_in keys.now file.now goals.now) }
+    ensures { option_map held result ≡ fold spec.lesser (option_map held least.entry) (spec.lost_in keys.now file.now (goals_in goals.now.pool goals.now.places)) }
 {
-    if has_nobody(goals) {
+    if leads_nowhere(goals) {
         note_file(least, file, goals, keys)
     } else {
         least
@@ -158,16 +173,29 @@ fn note_if_any<'a>(
 #[tactic(auto, using(crate::proofs::LostLemmas::of_files))]
 fn note_files<'a>(files: &'a [LoadedFile], goals: &GoalTable, keys: &[AtomKey]) -> Option<Lost<'a>>
     requires { IsStrictlySortedBy compare_keys keys.now }
-    ensures { option_map held result ≡ spec.least (spec.lost keys.now files.now goals.now) }
+    ensures { option_map held result ≡ spec.least (spec.lost keys.now files.now (goals_of goals.now)) }
 {
     let mut least = None;
     for (at, file) in files.iter().enumerate() {
-        match goals.get(at) {
-            Some(goals) => least = note_if_any(least, file, goals.as_slice(), keys),
+        match goals.file(at) {
+            Some(goals) => least = note_if_any(least, file, &goals, keys),
             None => {}
         }
     }
     least
+}
+
+// The same, which goes through no file where each goal is somewhere.
+#[tactic(auto, using(crate::proofs::NobodyLemmas::no_names))]
+fn note_lost<'a>(files: &'a [LoadedFile], goals: &GoalTable, keys: &[AtomKey]) -> Option<Lost<'a>>
+    requires { IsStrictlySortedBy compare_keys keys.now }
+    ensures { option_map held result ≡ spec.least (spec.lost keys.now files.now (goals_of goals.now)) }
+{
+    if has_nobody(goals.pool()) {
+        note_files(files, goals, keys)
+    } else {
+        None
+    }
 }
 
 // The least name, with those that the command wants more.
@@ -198,8 +226,8 @@ pub fn undefined<'a>(
     names: &'a [Bytes],
 ) -> Option<Lost<'a>>
     requires { IsStrictlySortedBy compare_keys kept.now }
-    ensures { option_map held result ≡ spec.undefined kept.now loaded.now.files goals.now names.now }
+    ensures { option_map held result ≡ spec.undefined kept.now loaded.now.files (goals_of goals.now) names.now }
 {
-    let least = note_files(loaded.files.as_slice(), goals, kept.as_slice());
+    let least = note_lost(loaded.files.as_slice(), goals, kept.as_slice());
     note_wanted(least, names)
 }

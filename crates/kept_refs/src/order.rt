@@ -1,9 +1,10 @@
 //! The references of a file, by the atoms that have them.
 
-ghost use Rattle.std.specs.Prelude.{◌≡◌, ◌<◌, ◌≤◌, ℕ, IfOk, IsPermutation, OnOk, length, map};
+ghost use Rattle.std.specs.Prelude.{◌≡◌, ◌<◌, ◌≤◌, ℕ, IfOk, IsPermutation, IsTrue, OnOk, false, length, map};
 ghost use Rattle.std.specs.List.{enumerate_from, filter, range_with_len};
 ghost use Rattle.std.specs.List.Sorted.{IsSorted};
 ghost use Rattle.kept_refs.specs.Order as spec;
+ghost use Rattle.kept_refs.specs.inner.Turned.{AreTurned, Begins, GoesOn, IsFalling};
 
 use mo_types::{Items, OutOfMemory, RefList};
 use std::alloc::Global;
@@ -69,12 +70,72 @@ fn put_in_order(spots: &mut Vec<Spot>) -> Result<(), OutOfMemory>
     Ok(spots.sort_by(compare)?)
 }
 
+// Whether no reference has an atom before that of the one listed before it.
+fn never_fall(spots: &[Spot]) -> bool
+    ensures { IsTrue result → IsSorted spec.compare_spots spots.now }
+{
+    spots.is_sorted_by(|a, b| !compare(b, a).is_lt())
+}
+
+// Whether no reference has an atom behind that of the one listed before it.
+fn never_rise(spots: &[Spot]) -> bool
+    ensures { IsTrue result → IsFalling spots.now }
+{
+    spots.is_sorted_by(|a, b| !compare(a, b).is_lt())
+}
+
+// Whether the reference at a place has another atom than the one listed before it, or is the first.
+fn begins(spots: &[Spot], at: usize) -> bool
+    requires { at < length spots.now }
+    ensures other { IsTrue result → Begins spots.now at }
+    ensures same { result ≡ false → GoesOn spots.now at }
+{
+    if at == 0 {
+        return true;
+    }
+    compare(&spots[at - 1], &spots[at]) != Ordering::Equal
+}
+
+// References whose atoms never rise, by atom: those of each atom stand together, and are taken from last to first, each as
+// they are listed.
+#[tactic(auto, using(crate::proofs::TurnLemmas::turns))]
+fn turned(alloc: Global, spots: &[Spot]) -> Result<Vec<Spot>, OutOfMemory>
+    requires { IsFalling spots.now }
+    ensures { IfOk result (λ new. AreTurned spots.now new.items) }
+{
+    let mut new = Vec::with_capacity(alloc, spots.len())?;
+    let mut end = spots.len();
+    for step in 0..spots.len() {
+        let start = spots.len() - 1 - step;
+        if begins(spots, start) {
+            new.extend_from_slice(&spots[start..end])?;
+            end = start;
+        }
+    }
+    Ok(new)
+}
+
+// References in the order of their atoms; those of one atom stay as they are listed. Relocations are listed mostly by
+// falling place, so most lists need no sort.
+fn ordered(alloc: Global, spots: Vec<Spot>) -> Result<Vec<Spot>, OutOfMemory>
+    ensures { IfOk result (λ new. AreTurned spots.items new.items) }
+{
+    if never_fall(spots.as_slice()) {
+        return Ok(spots);
+    }
+    if never_rise(spots.as_slice()) {
+        return turned(alloc, spots.as_slice());
+    }
+    let mut spots = spots;
+    put_in_order(&mut spots)?;
+    Ok(spots)
+}
+
 /// All references of a file in the order of their atoms, and of one atom in the order in which the file lists them. A
 /// file with 2^32 of them runs out of memory.
 pub fn ref_order(alloc: Global, refs: &RefList) -> Result<SpotList, OutOfMemory>
     ensures { IfOk result (spec.AreInOrder refs.now) }
 {
-    let mut spots = spots_in(alloc, refs)?;
-    put_in_order(&mut spots)?;
-    Ok(Items::from_vec(spots))
+    let spots = spots_in(alloc, refs)?;
+    Ok(Items::from_vec(ordered(alloc, spots)?))
 }

@@ -1,13 +1,14 @@
 //! Names that two strong definitions have.
 ghost use Rattle.std.specs.Prelude.{◌≡◌, ◌<◌, length, slice_get, unwrap_or, [], IfOk};
 ghost use Rattle.mo_types.specs.Loaded.{IsWholeLoaded};
+ghost use Rattle.name_ids.specs.Names.{numbers_of};
 ghost use Rattle.resolve.specs.Found.{AreNamed};
 ghost use Rattle.link_files.specs.Refusals as spec;
 ghost use Rattle.link_files.specs.inner.Found.{IsTold};
 
 use crate::labels::label_of;
-use mo_types::{Bytes, FileId, Loaded, OutOfMemory, Refusal};
-use name_ids::NameTable;
+use mo_types::{Bytes, FileId, Items, Loaded, OutOfMemory, Refusal};
+use name_ids::{NameTable, NumberList};
 use resolve::duplicate;
 use std::alloc::Global;
 
@@ -44,12 +45,14 @@ pub(crate) fn duplicate_refusal(
     alloc: Global,
     loaded: &Loaded,
     names: &NameTable,
+    numbers: &Items<NumberList>,
 ) -> Result<Option<Refusal>, OutOfMemory>
     requires whole { IsWholeLoaded loaded.now }
     requires named { AreNamed names.now loaded.now.files }
+    requires numbers { numbers.now ≡ numbers_of names.now loaded.now.files }
     ensures { IfOk result (IsTold loaded.now.files names.now) }
 {
-    match duplicate(alloc, loaded, names)? {
+    match duplicate(alloc, loaded, names, numbers)? {
         Some(found) => Ok(Some(twice(alloc, loaded, names, found)?)),
         None => Ok(None),
     }

@@ -1,6 +1,7 @@
 //! The image of the atoms that are kept.
 ghost use Rattle.std.specs.Prelude.{◌≡◌, ℕ, List, Err, IfOk};
 ghost use Rattle.std.specs.List.Sorted.{IsStrictlySortedBy};
+ghost use Rattle.goal_table.specs.Table.{goals_of};
 ghost use Rattle.mo_types.specs.Keys.{compare_keys};
 ghost use Rattle.mo_types.specs.Loaded.{IsWholeLoaded};
 ghost use Rattle.resolve.specs.Goals.{goal_of_name, goal_table};
@@ -10,8 +11,8 @@ ghost use Rattle.link_files.specs.Refusals as refusals;
 ghost use Rattle.link_files.specs.Steps.{Answers};
 
 use crate::labels::label_of;
+use goal_table::GoalTable;
 use image_make::{MakeFault, Scheme, make_image};
-use kept_refs::GoalTable;
 use lib_bind::Libraries;
 use member_rounds::RoundFault;
 use mo_cmd::Command;
@@ -81,7 +82,7 @@ pub(crate) fn image_of<R: Threads + Sync, G: Gate + Sync>(
     requires whole { IsWholeLoaded loaded.now }
     requires low { AreLow loaded.now.files }
     requires literals { winners.now.literals ≡ representatives_of loaded.now.files }
-    requires goals { goals.now ≡ goal_table loaded.now.files libs.now command.now }
+    requires goals { goals_of goals.now ≡ goal_table loaded.now.files libs.now command.now }
     requires keys { IsStrictlySortedBy compare_keys keys.now }
     requires entry { entry.now ≡ goal_of_name loaded.now.files libs.now command.now command.now.entry }
     ensures { Answers (AsMade command.now libs.now loaded.now.files flags keys.now) result }

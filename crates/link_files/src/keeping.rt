@@ -1,12 +1,13 @@
 //! The atoms that a link keeps.
 ghost use Rattle.std.specs.Prelude.{◌≡◌, IfOk};
+ghost use Rattle.goal_table.specs.Table.{goals_of};
 ghost use Rattle.mark_core.specs.Kept.{IsKept};
 ghost use Rattle.mo_types.specs.Loaded.{IsWholeLoaded};
 ghost use Rattle.resolve.specs.Edges.{edges_by, supports_by};
 ghost use Rattle.resolve.specs.Representatives.{representatives_of};
 ghost use Rattle.resolve.specs.Roots.{roots};
 
-use kept_refs::GoalTable;
+use goal_table::GoalTable;
 use mark_core::{KeySet, kept_from};
 use mo_cmd::Command;
 use mo_types::{KeyList, Loaded, OutOfMemory};
@@ -23,7 +24,7 @@ pub(crate) fn kept_keys(
 ) -> Result<KeyList, OutOfMemory>
     requires whole { IsWholeLoaded loaded.now }
     requires literals { winners.now.literals ≡ representatives_of loaded.now.files }
-    ensures { IfOk result (IsKept (edges_by loaded.now.files goals.now) (supports_by loaded.now.files goals.now) (roots command.now winners.now loaded.now.files)) }
+    ensures { IfOk result (IsKept (edges_by loaded.now.files (goals_of goals.now)) (supports_by loaded.now.files (goals_of goals.now)) (roots command.now winners.now loaded.now.files)) }
 {
     let roots = roots(alloc, loaded, winners, command)?;
     let roots = KeySet::from_vec(alloc, roots.into_vec())?;

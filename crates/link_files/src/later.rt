@@ -3,11 +3,12 @@ ghost use Rattle.std.specs.Prelude.{◌≡◌, false, slice_get, IfOk};
 ghost use Rattle.std.specs.List.{list_any};
 ghost use Rattle.std.specs.List.Sorted.{IsStrictlySortedBy};
 ghost use Rattle.std.specs.Option.{option_copied, option_map_or};
+ghost use Rattle.goal_table.specs.Table.{goals_in, goals_of};
 ghost use Rattle.mo_types.specs.Keys.{compare_keys};
 ghost use Rattle.resolve.specs.Goals.{goal_of_name, goal_table};
 ghost use Rattle.link_files.specs.Later as spec;
 
-use kept_refs::GoalTable;
+use goal_table::{FileGoals, GoalTable};
 use lib_bind::Libraries;
 use mark_core::is_kept;
 use mo_cmd::Command;
@@ -31,8 +32,14 @@ fn is_looked_up(goal: &Goal) -> bool
     )
 }
 
-fn is_later_target(goals: &[Goal], target: Target) -> bool
-    ensures { result ≡ spec.is_later_target goals.now target }
+fn any_looked_up(goals: &[Goal]) -> bool
+    ensures { result ≡ list_any spec.is_looked_up goals.now }
+{
+    goals.iter().any(is_looked_up)
+}
+
+fn is_later_target(goals: &FileGoals, target: Target) -> bool
+    ensures { result ≡ spec.is_later_target (goals_in goals.now.pool goals.now.places) target }
 {
     match target {
         Target::Name(index) => match goals.get(index as usize) {
@@ -44,8 +51,8 @@ fn is_later_target(goals: &[Goal], target: Target) -> bool
 }
 
 #[tactic(auto, unfolding(crate::specs::Later::is_later_ref))]
-fn is_later_ref(goals: &[Goal], reference: &Ref) -> bool
-    ensures { result ≡ spec.is_later_ref goals.now reference.now }
+fn is_later_ref(goals: &FileGoals, reference: &Ref) -> bool
+    ensures { result ≡ spec.is_later_ref (goals_in goals.now.pool goals.now.places) reference.now }
 {
     if is_later_target(goals, reference.target) {
         return true;
@@ -57,9 +64,9 @@ fn is_later_ref(goals: &[Goal], reference: &Ref) -> bool
 }
 
 // Whether there is a reference of a kept atom at a place, with such a goal.
-fn is_later_at(keys: &[AtomKey], goals: &[Goal], refs: &RefList, at: usize) -> bool
+fn is_later_at(keys: &[AtomKey], goals: &FileGoals, refs: &RefList, at: usize) -> bool
     requires { IsStrictlySortedBy compare_keys keys.now }
-    ensures { result ≡ option_map_or (spec.is_kept_later keys.now goals.now) (slice_get refs.now at) false }
+    ensures { result ≡ option_map_or (spec.is_kept_later keys.now (goals_in goals.now.pool goals.now.places)) (slice_get refs.now at) false }
 {
     match refs.get(at) {
         Some(reference) => { is_later_ref(goals, &reference) && is_kept(keys, reference.atom) }
@@ -68,9 +75,9 @@ fn is_later_at(keys: &[AtomKey], goals: &[Goal], refs: &RefList, at: usize) -> b
 }
 
 #[tactic(auto, using(member_rounds::proofs::FormLemmas::looks))]
-fn any_later(keys: &[AtomKey], goals: &[Goal], refs: &RefList) -> bool
+fn any_later(keys: &[AtomKey], goals: &FileGoals, refs: &RefList) -> bool
     requires { IsStrictlySortedBy compare_keys keys.now }
-    ensures { result ≡ list_any (spec.is_kept_later keys.now goals.now) refs.now }
+    ensures { result ≡ list_any (spec.is_kept_later keys.now (goals_in goals.now.pool goals.now.places)) refs.now }
 {
     for at in 0..refs.len() {
         if is_later_at(keys, goals, refs, at) {
@@ -89,22 +96,25 @@ fn later_at<'a>(
     file: &'a LoadedFile,
 ) -> Option<&'a Bytes>
     requires { IsStrictlySortedBy compare_keys keys.now }
-    ensures { option_copied result ≡ spec.later_at keys.now goals.now (at, file.now) }
+    ensures { option_copied result ≡ spec.later_at keys.now (goals_of goals.now) (at, file.now) }
 {
-    let goals = goals.get(at)?;
-    if any_later(keys, goals.as_slice(), &file.refs) {
+    let goals = goals.file(at)?;
+    if any_later(keys, &goals, &file.refs) {
         Some(&file.label)
     } else {
         None
     }
 }
 
-// The first such file.
+// The first such file. Where the loader looks up no goal at all, no file is gone through.
 #[tactic(auto, using(crate::proofs::LaterLemmas::finds), unfolding(crate::specs::Later::later_file))]
 fn later_file<'a>(keys: &[AtomKey], goals: &GoalTable, files: &'a [LoadedFile]) -> Option<&'a Bytes>
     requires { IsStrictlySortedBy compare_keys keys.now }
-    ensures { option_copied result ≡ spec.later_file keys.now files.now goals.now }
+    ensures { option_copied result ≡ spec.later_file keys.now files.now (goals_of goals.now) }
 {
+    if !any_looked_up(goals.pool()) {
+        return None;
+    }
     for (at, file) in files.iter().enumerate() {
         if let Some(label) = later_at(keys, goals, at, file) {
             return Some(label);
@@ -135,7 +145,7 @@ pub(crate) fn later_refusal(
     keys: &KeyList,
     entry: &Goal,
 ) -> Result<Option<Refusal>, OutOfMemory>
-    requires goals { goals.now ≡ goal_table loaded.now.files libs.now command.now }
+    requires goals { goals_of goals.now ≡ goal_table loaded.now.files libs.now command.now }
     requires keys { IsStrictlySortedBy compare_keys keys.now }
     requires entry { entry.now ≡ goal_of_name loaded.now.files libs.now command.now command.now.entry }
     ensures { IfOk result (λ found. found ≡ spec.later_refusal command.now libs.now loaded.now.files keys.now) }

@@ -1,7 +1,7 @@
 //! From loaded files to their image: a line of steps, each of which may refuse.
 ghost use Rattle.std.specs.Prelude.{◌≡◌, Ok};
 ghost use Rattle.mo_types.specs.Loaded.{IsWholeLoaded};
-ghost use Rattle.name_ids.specs.Names.{gathered};
+ghost use Rattle.name_ids.specs.Names.{gathered, numbers_of};
 ghost use Rattle.resolve.specs.Known.{AreKnown};
 ghost use Rattle.link_files.specs.Linked.{AreLow, AsKept, AsNamed, IsLinked};
 ghost use Rattle.link_files.specs.Names as spec;
@@ -19,8 +19,8 @@ use lib_bind::Libraries;
 use member_rounds::RoundFault;
 use mo_cmd::Command;
 use mo_outside::Gate;
-use mo_types::{Bytes, Loaded, NameList};
-use name_ids::NameTable;
+use mo_types::{Bytes, Items, Loaded, NameList};
+use name_ids::{NameTable, NumberList};
 use resolve::{Winners, goal_of_name, goal_table, winners};
 use std::alloc::Global;
 use std::thread::Threads;
@@ -34,15 +34,18 @@ fn link_kept<R: Threads + Sync, G: Gate + Sync>(
     libs: &Libraries,
     loaded: &Loaded,
     wanted: &NameList,
+    names: &NameTable,
+    numbers: &Items<NumberList>,
     winners: &Winners,
 ) -> Result<Bytes, RoundFault>
     requires whole { IsWholeLoaded loaded.now }
     requires low { AreLow loaded.now.files }
     requires wanted { wanted.now ≡ spec.wanted command.now }
+    requires numbers { numbers.now ≡ numbers_of names.now loaded.now.files }
     requires known { AreKnown command.now loaded.now.files winners.now }
     ensures { Answers (AsKept command.now libs.now loaded.now.files) result }
 {
-    let goals = goal_table(alloc, loaded, winners, libs, command)?;
+    let goals = goal_table(alloc, loaded, winners, names, numbers, libs, command)?;
     let keys = kept_keys(alloc, loaded, winners, &goals, command)?;
     let lost = undefined_refusal(alloc, winners, libs, loaded, command, &goals, &keys, wanted)?;
     if let Some(refusal) = lost {
@@ -69,20 +72,24 @@ fn link_named<R: Threads + Sync, G: Gate + Sync>(
     loaded: &Loaded,
     wanted: &NameList,
     names: &NameTable,
+    numbers: &Items<NumberList>,
 ) -> Result<Bytes, RoundFault>
     requires whole { IsWholeLoaded loaded.now }
     requires low { AreLow loaded.now.files }
     requires wanted { wanted.now ≡ spec.wanted command.now }
-    requires numbers { gathered loaded.now.files wanted.now ≡ Ok names.now }
+    requires names { gathered loaded.now.files wanted.now ≡ Ok names.now }
+    requires numbers { numbers.now ≡ numbers_of names.now loaded.now.files }
     ensures { Answers (AsNamed command.now libs.now loaded.now.files names.now) result }
 {
-    if let Some(refusal) = duplicate_refusal(alloc, loaded, names)? {
+    if let Some(refusal) = duplicate_refusal(alloc, loaded, names, numbers)? {
         return Err(RoundFault::Refused(refusal));
     }
     let workers = command.threads;
-    let words = raced_words(rt, alloc, gate, workers, loaded, wanted, names)?;
-    let winners = winners(alloc, loaded, names, words.as_slice(), command)?;
-    link_kept(rt, alloc, gate, command, libs, loaded, wanted, &winners)
+    let words = raced_words(rt, alloc, gate, workers, loaded, wanted, names, numbers)?;
+    let winners = winners(alloc, loaded, names, numbers, words.as_slice(), command)?;
+    link_kept(
+        rt, alloc, gate, command, libs, loaded, wanted, names, numbers, &winners,
+    )
 }
 
 /// The image of loaded files, written by as many workers as the command says, or the first refusal of these: 2^24 names;
@@ -102,12 +109,22 @@ pub fn link_files<R: Threads + Sync, G: Gate + Sync>(
     ensures { Answers (IsLinked command.now libs.now loaded.now.files) result }
 {
     let wanted = wanted_names(alloc, command)?;
-    let names = match names_of(alloc, command, loaded, &wanted) {
-        Ok(names) => names,
+    let numbered = match names_of(alloc, command, loaded, &wanted) {
+        Ok(numbered) => numbered,
         Err(fault) => return Err(fault),
     };
     if let Some(refusal) = atoms_refusal(loaded.files.as_slice()) {
         return Err(RoundFault::Refused(refusal));
     }
-    link_named(rt, alloc, gate, command, libs, loaded, &wanted, &names)
+    link_named(
+        rt,
+        alloc,
+        gate,
+        command,
+        libs,
+        loaded,
+        &wanted,
+        &numbered.names,
+        &numbered.numbers,
+    )
 }

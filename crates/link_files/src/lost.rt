@@ -2,6 +2,7 @@
 ghost use Rattle.std.specs.Prelude.{◌≡◌, ◌++◌, IfOk};
 ghost use Rattle.std.specs.List.{filter};
 ghost use Rattle.std.specs.List.Sorted.{IsStrictlySortedBy};
+ghost use Rattle.goal_table.specs.Table.{goals_of};
 ghost use Rattle.kept_refs.specs.Undefined.{is_nobody};
 ghost use Rattle.mo_types.specs.Keys.{compare_keys};
 ghost use Rattle.mo_types.specs.declared.answer.Refusal.TheVariants.{Undefined};
@@ -10,7 +11,8 @@ ghost use Rattle.resolve.specs.Known.{AreKnown};
 ghost use Rattle.link_files.specs.Lost as spec;
 ghost use Rattle.link_files.specs.Names as names;
 
-use kept_refs::{GoalTable, Lost, undefined};
+use goal_table::GoalTable;
+use kept_refs::{Lost, undefined};
 use lib_bind::Libraries;
 use mo_cmd::Command;
 use mo_types::{Bytes, Goal, KeyList, Loaded, NameList, OutOfMemory, Refusal};
@@ -77,7 +79,7 @@ pub(crate) fn undefined_refusal(
     wanted: &NameList,
 ) -> Result<Option<Refusal>, OutOfMemory>
     requires known { AreKnown command.now loaded.now.files winners.now }
-    requires goals { goals.now ≡ goal_table loaded.now.files libs.now command.now }
+    requires goals { goals_of goals.now ≡ goal_table loaded.now.files libs.now command.now }
     requires keys { IsStrictlySortedBy compare_keys keys.now }
     requires wanted { wanted.now ≡ names.wanted command.now }
     ensures { IfOk result (λ found. found ≡ spec.undefined_refusal command.now libs.now loaded.now.files keys.now) }

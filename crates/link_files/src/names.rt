@@ -1,13 +1,13 @@
 //! The names and atoms of a link, and their limits.
-ghost use Rattle.std.specs.Prelude.{◌≡◌, ◌^◌, ◌++◌, Ok, IfOk};
-ghost use Rattle.name_ids.specs.Names.{gathered};
+ghost use Rattle.std.specs.Prelude.{◌≡◌, ◌^◌, ◌++◌, Ok, Err, IfOk, IfErr};
+ghost use Rattle.name_ids.specs.Names.{gathered, numbers_of};
 ghost use Rattle.link_files.specs.Names as spec;
 ghost use Rattle.link_files.specs.Steps.{Yields};
 
 use member_rounds::RoundFault;
 use mo_cmd::Command;
 use mo_types::{Bytes, Loaded, LoadedFile, NameList, OutOfMemory, Refusal, Which};
-use name_ids::{GatherFault, NameTable, gather};
+use name_ids::{GatherFault, Numbered, gather};
 use std::alloc::Global;
 
 // There are fewer atoms.
@@ -36,21 +36,23 @@ pub fn wanted_names(alloc: Global, command: &Command) -> Result<NameList, OutOfM
     Ok(NameList::from_vec(names))
 }
 
-/// The names of files and of the command line, by their numbers.
+/// The names of files and of the command line, by their numbers, and those of each file's symbols.
 #[tactic(auto, unfolding(crate::specs::Names::names_of))]
 pub(crate) fn names_of<'a>(
     alloc: Global,
     command: &Command,
     loaded: &'a Loaded,
     wanted: &'a NameList,
-) -> Result<NameTable<'a>, RoundFault>
+) -> Result<Numbered<'a>, RoundFault>
     requires { wanted.now ≡ spec.wanted command.now }
-    ensures gathered { IfOk result (λ names. gathered loaded.now.files wanted.now ≡ Ok names) }
-    ensures exact { Yields (spec.names_of command.now loaded.now.files) result }
+    ensures gathered { IfOk result (λ it. gathered loaded.now.files wanted.now ≡ Ok it.names) }
+    ensures numbers { IfOk result (λ it. it.numbers ≡ numbers_of it.names loaded.now.files) }
+    ensures exact { IfOk result (λ it. spec.names_of command.now loaded.now.files ≡ Ok it.names) }
+    ensures refused { IfErr result (λ fault. Yields (spec.names_of command.now loaded.now.files) (Err fault)) }
 {
     let _command = command;
     match gather(alloc, loaded, wanted) {
-        Ok(names) => Ok(names),
+        Ok(numbered) => Ok(numbered),
         Err(GatherFault::Names) => Err(RoundFault::Refused(Refusal::Limit {
             which: Which::Names,
         })),

@@ -1,13 +1,13 @@
 //! The race of names.
 ghost use Rattle.std.specs.Prelude.{◌≡◌, Ok, IfOk};
 ghost use Rattle.mo_types.specs.Loaded.{IsWholeLoaded};
-ghost use Rattle.name_ids.specs.Names.{gathered};
+ghost use Rattle.name_ids.specs.Names.{gathered, numbers_of};
 ghost use Rattle.resolve.specs.Winners.{AreLeast};
 
 use member_rounds::race_words;
 use mo_outside::Gate;
-use mo_types::{Loaded, NameList, OutOfMemory};
-use name_ids::NameTable;
+use mo_types::{Items, Loaded, NameList, OutOfMemory};
+use name_ids::{NameTable, NumberList};
 use std::alloc::Global;
 use std::thread::Threads;
 
@@ -23,9 +23,11 @@ pub(crate) fn raced_words<R: Threads + Sync, G: Gate + Sync>(
     loaded: &Loaded,
     wanted: &NameList,
     names: &NameTable,
+    numbers: &Items<NumberList>,
 ) -> Result<Vec<u64>, OutOfMemory>
     requires whole { IsWholeLoaded loaded.now }
     requires names { gathered loaded.now.files wanted.now ≡ Ok names.now }
+    requires numbers { numbers.now ≡ numbers_of names.now loaded.now.files }
     ensures { IfOk result (λ words. AreLeast loaded.now.files names.now words.items) }
 {
     let _wanted = wanted;
@@ -33,5 +35,5 @@ pub(crate) fn raced_words<R: Threads + Sync, G: Gate + Sync>(
         return Ok(Vec::new(alloc));
     }
     let start = vec![in alloc; NO_WORD; names.len() as usize]?;
-    race_words(rt, alloc, gate, workers, start, loaded, names)
+    race_words(rt, alloc, gate, workers, start, loaded, names, numbers)
 }

@@ -20,12 +20,12 @@ job_bids names files =
     ∙ ap (flat_map (λ (l : List (ℕ × ℕ)). l)) (sym (fill_by_all (offers_of_job names files) each (length files) [] (length-map files (offers_in names)) (λ k low. refl)))
     ∙ flat_map-map (λ (l : List (ℕ × ℕ)). l) (offers_in names) files
 
-pub run_offered : {Piece : Type 0} (race : Race) (names : List (List ℕ)) (files : List LoadedFile) (seats ends : List Holding) (pieces : List Piece)
-    → IsFanned (WasRun (λ (racer : Holding). (racer.race ≡ race) × AreOffered race names files) (λ (before : Holding) (job : ℕ) (piece : Piece) (after : Holding). HasOffered (offers_of_job names files job) before after)) seats (length files) ends pieces
+pub run_offered : {Piece : Type 0} (race : Race) (names lists : List (List ℕ)) (files : List LoadedFile) (seats ends : List Holding) (pieces : List Piece)
+    → IsFanned (WasRun (λ (racer : Holding). (racer.race ≡ race) × AreOffered race names lists files) (λ (before : Holding) (job : ℕ) (piece : Piece) (after : Holding). HasOffered (offers_of_job names files job) before after)) seats (length files) ends pieces
     → HaveOffered (flat_map (offers_in names) files) seats ends
-run_offered {Piece = Piece} race names files seats ends pieces f =
+run_offered {Piece = Piece} race names lists files seats ends pieces f =
     subst (λ (bids : List (ℕ × ℕ)). HaveOffered bids seats ends) (job_bids names files)
-    (fanned (WasRun (λ (racer : Holding). (racer.race ≡ race) × AreOffered race names files) (λ (before : Holding) (job : ℕ) (piece : Piece) (after : Holding). HasOffered (offers_of_job names files job) before after)) (offers_of_job names files) (λ before job piece after step. step.ran) seats ends (length files) pieces f)
+    (fanned (WasRun (λ (racer : Holding). (racer.race ≡ race) × AreOffered race names lists files) (λ (before : Holding) (job : ℕ) (piece : Piece) (after : Holding). HasOffered (offers_of_job names files job) before after)) (offers_of_job names files) (λ before job piece after step. step.ran) seats ends (length files) pieces f)
 
 -- ---- runs of files, one after the other
 

@@ -1,18 +1,20 @@
 -- The offers of files, one symbol after the other.
-use Rattle.std.proofs.Common.{◌≡◌, ℕ, ◌+◌, ◌<◌, ◌≤◌, Bool, true, false, List, [], ◌∷◌, ◌++◌, Contains, Some, None, length, drop, get_or, map, nat_lt, position, refl, sym, ap, ◌∙◌, inl, inr, arith, append_assoc, append-nil}
+use Rattle.std.proofs.Common.{◌≡◌, ℕ, ◌+◌, ◌-◌, min, ◌<◌, ◌≤◌, Bool, true, false, List, [], ◌∷◌, ◌++◌, Contains, Some, None, length, drop, take, get_or, map, nat_lt, position, refl, sym, ap, ◌∙◌, inl, inr, arith, append_assoc, append-nil}
 use Rattle.std.specs.List.{AllByRecursion, enumerate_from, filter_map, flat_map, position_or_len}
 use Rattle.std.specs.Str.{bytes_eq}
 use Rattle.std.proofs.lemmas.Bool.{lt-ltb}
-use Rattle.std.proofs.lemmas.List.{drop_all, drop_more}
+use Rattle.std.specs.Prelude.{◌&&◌}
+use Rattle.std.proofs.lemmas.List.{drop_all, drop_min, drop_more, drop-map, get_or-map, length-take, take_min, take_rest, take-map}
 use Rattle.std.proofs.lemmas.List.Elements.{filter_map-append, recursion_from_All}
 use Rattle.std.proofs.lemmas.Slice.Eq.{bytes_eq-Decides}
 use Rattle.list_lemmas.proofs.Members.{In, in_from_Contains}
-use Rattle.mo_types.specs.Candidates.{Candidate, candidate_at, candidates, candidates_of, is_candidate, word_of}
+use Rattle.mo_types.specs.Candidates.{Candidate, candidate_at, candidates, candidates_of, has_place, is_candidate, word_of}
 use Rattle.mo_types.specs.declared.loaded.LoadedFile.{LoadedFile}
 use Rattle.mo_types.specs.declared.object.Symbol.{Symbol}
-use Rattle.name_race.specs.Race.{Holding}
+use Rattle.name_ids.specs.Names.{number_of, numbers_in, numbers_of}
+use Rattle.name_race.specs.Race.{Holding, Race}
 use Rattle.member_rounds.specs.Offers.{AreNamed, bid_of, bids_of}
-use Rattle.member_rounds.specs.inner.Offering.{HasOffered, offer_by, offers_at, offers_in}
+use Rattle.member_rounds.specs.inner.Offering.{AreOffered, HasOffered, offer_by, offers_at, offers_in}
 
 -- ---- one symbol
 
@@ -37,6 +39,14 @@ no_name names file index symbol none = by (is_candidate file.object.sections sym
 
 pub symbol_passed : (names : List (List ℕ)) (file : LoadedFile) (index : ℕ) (symbol : Symbol) (racer : Holding) → is_candidate file.object.sections symbol ≡ false → HasOffered (offers_at names file ((index, symbol) ∷ [])) racer racer
 symbol_passed names file index symbol racer is = rw (no_candidate names file index symbol is) (nothing_offered racer)
+
+external_of_candidate : (a b : Bool) → (a && b) ≡ true → a ≡ true
+external_of_candidate true b is = refl
+external_of_candidate false b is = is
+
+pub candidate_external : (file : LoadedFile) (symbol : Symbol) → is_candidate file.object.sections symbol ≡ true → symbol.external ≡ true
+unfolding is_candidate
+candidate_external file symbol is = external_of_candidate symbol.external (has_place file.object.sections symbol.kind) is
 
 pub symbol_unknown : (names : List (List ℕ)) (file : LoadedFile) (index : ℕ) (symbol : Symbol) (racer : Holding) → position (bytes_eq symbol.name) names ≡ None → HasOffered (offers_at names file ((index, symbol) ∷ [])) racer racer
 symbol_unknown names file index symbol racer none = rw (no_name names file index symbol none) (nothing_offered racer)
@@ -95,6 +105,41 @@ file_more names file i symbol first now next so low is has = record {
       ∙ so.offers;
 }
 
+pub number_there : (names : List (List ℕ)) (file : LoadedFile) (numbers : List ℕ) (i none number : ℕ) (symbol : Symbol) → numbers ≡ numbers_in names file → i < length file.object.symbols → symbol ≡ get_or file.object.symbols i symbol → number ≡ get_or numbers i none → number ≡ number_of names symbol
+unfolding numbers_in
+number_there names file numbers i none number symbol are low is at =
+    at ∙ ap (λ (ns : List ℕ). get_or ns i none) are ∙ get_or-map (number_of names) file.object.symbols i symbol none low ∙ ap (number_of names) (sym is)
+
+pub list_there : (race : Race) (names lists : List (List ℕ)) (files : List LoadedFile) (i : ℕ) (file : LoadedFile) (numbers : List ℕ) → AreOffered race names lists files → i < length files → file ≡ get_or files i file → numbers ≡ get_or lists i [] → numbers ≡ numbers_in names file
+unfolding numbers_of
+list_there race names lists files i file numbers are low is at =
+    at ∙ ap (λ (ns : List (List ℕ)). get_or ns i []) are.numbers ∙ get_or-map (numbers_in names) files i file [] low ∙ ap (numbers_in names) (sym is)
+
+pub ruleset lists = (list_there)
+
+-- a part of a list that may end before it
+pub part_is : {X : Type 0} (xs rest part : List X) (start count s k : ℕ) → s ≡ min start (length xs) → rest ≡ take (length xs - s) (drop s xs) → k ≡ min count (length rest) → part ≡ take k rest → part ≡ take count (drop start xs)
+part_is xs rest part start count s k least is fewer got =
+    let e : rest ≡ drop start xs = is ∙ take_rest xs s ∙ ap (λ (n : ℕ). drop n xs) least ∙ drop_min start xs in
+    got ∙ ap (λ (n : ℕ). take n rest) fewer ∙ take_min count rest ∙ ap (take count) e
+
+pub ruleset parts = (part_is)
+
+-- the numbers of some of the files
+some_numbers : (names lists : List (List ℕ)) (files : List LoadedFile) (n k : ℕ) → lists ≡ numbers_of names files → take k (drop n lists) ≡ numbers_of names (take k (drop n files))
+unfolding numbers_of
+some_numbers names lists files n k are =
+    ap (λ (ls : List (List ℕ)). take k (drop n ls)) are ∙ ap (take k) (drop-map (numbers_in names) n files) ∙ take-map (numbers_in names) k (drop n files)
+
+pub run_numbers : (names lists part : List (List ℕ)) (files some : List LoadedFile) (n m : ℕ) → lists ≡ numbers_of names files → some ≡ take m (take (length files - n) (drop n files)) → part ≡ take (length some) (drop n lists) → part ≡ numbers_of names some
+run_numbers names lists part files some n m are is got =
+    let e : some ≡ take m (drop n files) = is ∙ ap (take m) (take_rest files n) in
+    let f : take (length some) (drop n files) ≡ some = ap (λ (s : List LoadedFile). take (length s) (drop n files)) e ∙ taken (drop n files) m ∙ sym e in
+    got ∙ some_numbers names lists files n (length some) are ∙ ap (numbers_of names) f
+  where
+    taken : (xs : List LoadedFile) (k : ℕ) → take (length (take k xs)) xs ≡ take k xs
+    taken xs k = let e : length (take k xs) ≡ min k (length xs) = length-take k xs in ap (λ (i : ℕ). take i xs) e ∙ take_min k xs
+
 pub file_end : (names : List (List ℕ)) (file : LoadedFile) (i : ℕ) (first now : Holding) → IsOffering names file i first now → length file.object.symbols ≤ i → HasOffered (offers_in names file) first now
 file_end names file i first now so past = record {
   race = so.race;
@@ -102,7 +147,7 @@ file_end names file i first now so past = record {
   offers = sym (append-nil now.offers) ∙ ap (λ (xs : List (ℕ × ℕ)). now.offers ++ xs) (sym (from_end names file i past)) ∙ so.offers;
 }
 
-pub ruleset files = (file_start, file_more, file_end)
+pub ruleset files = (file_start, file_more, file_end, number_there)
 
 -- ---- the offers of files whose candidates are named
 

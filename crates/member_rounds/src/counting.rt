@@ -51,7 +51,7 @@ pub(crate) fn spare_names(
         return Ok(spare - count);
     }
     match gather(alloc, kept, wanted) {
-        Ok(names) => Ok(LIMIT - names.len() as usize),
+        Ok(all) => Ok(LIMIT - all.names.len() as usize),
         Err(GatherFault::Names) => Err(RoundFault::Refused(Refusal::Limit {
             which: Which::Names,
         })),

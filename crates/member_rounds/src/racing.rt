@@ -2,14 +2,15 @@
 ghost use Rattle.std.specs.Prelude.{◌≡◌, ◌<◌, ◌≤◌, [], ◌∷◌, length, All, IfOk, sum_by, vec_len};
 ghost use Rattle.std.specs.List.Sorted.{IsPermutation};
 ghost use Rattle.mo_types.specs.Loaded.{IsWholeLoaded};
+ghost use Rattle.name_ids.specs.Names.{numbers_of};
 ghost use Rattle.race_core.specs.Run.{run};
 ghost use Rattle.member_rounds.specs.Offers.{AreNamed, bids_of, offers_of};
 ghost use Rattle.member_rounds.specs.inner.Offering.{AreRacers};
 
 use crate::offering::offer_all;
 use mo_outside::Gate;
-use mo_types::{Loaded, OutOfMemory};
-use name_ids::NameTable;
+use mo_types::{Items, Loaded, OutOfMemory};
+use name_ids::{NameTable, NumberList};
 use name_race::{NameRace, Racer};
 use std::alloc::Global;
 use std::thread::Threads;
@@ -63,10 +64,12 @@ pub fn race_words<R: Threads + Sync, G: Gate + Sync>(
     start: Vec<u64>,
     files: &Loaded,
     names: &NameTable,
+    numbers: &Items<NumberList>,
 ) -> Result<Vec<u64>, OutOfMemory>
     requires some { 0 < length start.items }
     requires whole { IsWholeLoaded files.now }
     requires named { AreNamed names.now files.now.files }
+    requires numbers { numbers.now ≡ numbers_of names.now files.now.files }
     requires words { length names.now ≤ length start.items }
     ensures { IfOk result (λ words. words.items ≡ run start.items (bids_of names.now files.now.files)) }
 {
@@ -74,7 +77,7 @@ pub fn race_words<R: Threads + Sync, G: Gate + Sync>(
     let mut words = vec![in alloc; 0u64; start.len()]?;
     let (race, racer) = NameRace::begin(alloc, start, u64::from(workers))?;
     let racers = racers_of(alloc, &race, racer, workers)?;
-    let racers = offer_all(rt, alloc, gate, &race, racers, files, names)?;
+    let racers = offer_all(rt, alloc, gate, &race, racers, files, names, numbers)?;
     let racer = joined(&race, racers);
     race.settle(racer, words.as_mut_slice());
     Ok(words)

@@ -1,5 +1,5 @@
 -- Names of symbols and of files, added one by one.
-use Rattle.std.proofs.Common.{◌≡◌, ℕ, ◌+◌, ◌<◌, ◌≤◌, ◌^◌, true, false, List, [], ◌∷◌, ◌++◌, length, nat_lt, Ok, Err, drop, get_or, refl, sym, ap, ◌∙◌}
+use Rattle.std.proofs.Common.{◌≡◌, ℕ, ◌+◌, ◌<◌, ◌≤◌, ◌^◌, Bool, true, false, List, [], ◌∷◌, ◌++◌, length, nat_lt, Ok, Err, drop, get_or, refl, sym, ap, ◌∙◌}
 use Rattle.std.proofs.lemmas.Bool.{le-ltb, lt-ltb}
 use Rattle.std.proofs.lemmas.List.{drop_all, drop_more}
 use Rattle.std.proofs.lemmas.List.Sums.{fold-append}
@@ -21,9 +21,6 @@ there xs i x low is = drop_more xs i x low ∙ ap (λ y. y ∷ drop (i + 1) xs) 
 adds : (before now new all rest more : List (List ℕ)) (name : List ℕ) → IsAdding before now all rest → rest ≡ name ∷ more → new ≡ insert_key bytes_eq now name → IsAdding before new all more
 adds before now new all rest more name adding is key = record { same = ap (λ ks. insert_all bytes_eq ks more) key ∙ sym (ap (insert_all bytes_eq now) is) ∙ adding.same }
 
-passes : (before now all rest more : List (List ℕ)) → IsAdding before now all rest → rest ≡ more → IsAdding before now all more
-passes before now all rest more adding is = record { same = sym (ap (insert_all bytes_eq now) is) ∙ adding.same }
-
 ends : (before now all rest : List (List ℕ)) → IsAdding before now all rest → rest ≡ [] → now ≡ insert_all bytes_eq before all
 ends before now all rest adding is = sym (ap (insert_all bytes_eq now) is) ∙ adding.same
 
@@ -44,21 +41,22 @@ no_symbols = refl
 pub symbols_start : (before : List (List ℕ)) (symbols : List Symbol) → IsAdding before before (external_of symbols) (external_of (drop 0 symbols))
 symbols_start before symbols = record { same = refl }
 
-pub symbols_add : (before now new : List (List ℕ)) (symbols : List Symbol) (i : ℕ) (symbol : Symbol) → IsAdding before now (external_of symbols) (external_of (drop i symbols)) → i < length symbols → symbol ≡ get_or symbols i symbol → symbol.external ≡ true → new ≡ insert_key bytes_eq now symbol.name → IsAdding before new (external_of symbols) (external_of (drop (i + 1) symbols))
-symbols_add before now new symbols i symbol adding low is external key =
-    adds before now new (external_of symbols) (external_of (drop i symbols)) (external_of (drop (i + 1) symbols)) symbol.name adding
-    (ap external_of (there symbols i symbol low is) ∙ external_first symbol (drop (i + 1) symbols) external) key
+one_first : (symbol : Symbol) (rest : List Symbol) (external : Bool) → symbol.external ≡ external → external_of (symbol ∷ rest) ≡ external_of (symbol ∷ []) ++ external_of rest
+one_first symbol rest true is = external_first symbol rest is ∙ ap (λ (ks : List (List ℕ)). ks ++ external_of rest) (sym (external_first symbol [] is ∙ ap (λ (ks : List (List ℕ)). symbol.name ∷ ks) no_symbols))
+one_first symbol rest false is = local_first symbol rest is ∙ ap (λ (ks : List (List ℕ)). ks ++ external_of rest) (sym (local_first symbol [] is ∙ no_symbols))
 
-pub symbols_pass : (before now : List (List ℕ)) (symbols : List Symbol) (i : ℕ) (symbol : Symbol) → IsAdding before now (external_of symbols) (external_of (drop i symbols)) → i < length symbols → symbol ≡ get_or symbols i symbol → symbol.external ≡ false → IsAdding before now (external_of symbols) (external_of (drop (i + 1) symbols))
-symbols_pass before now symbols i symbol adding low is external =
-    passes before now (external_of symbols) (external_of (drop i symbols)) (external_of (drop (i + 1) symbols)) adding
-    (ap external_of (there symbols i symbol low is) ∙ local_first symbol (drop (i + 1) symbols) external)
+pub symbols_add : (before now new : List (List ℕ)) (symbols : List Symbol) (i : ℕ) (symbol : Symbol) → IsAdding before now (external_of symbols) (external_of (drop i symbols)) → i < length symbols → symbol ≡ get_or symbols i symbol → new ≡ insert_all bytes_eq now (external_of (symbol ∷ [])) → IsAdding before new (external_of symbols) (external_of (drop (i + 1) symbols))
+symbols_add before now new symbols i symbol adding low is added = record {
+  same =
+      ap (λ ks. insert_all bytes_eq ks (external_of (drop (i + 1) symbols))) added
+      ∙ sym (fold-append (insert_key bytes_eq) now (external_of (symbol ∷ [])) (external_of (drop (i + 1) symbols)))
+      ∙ sym (ap (insert_all bytes_eq now) (ap external_of (there symbols i symbol low is) ∙ one_first symbol (drop (i + 1) symbols) symbol.external refl))
+      ∙ adding.same;
+}
 
 pub symbols_end : (before now : List (List ℕ)) (symbols : List Symbol) (i : ℕ) → IsAdding before now (external_of symbols) (external_of (drop i symbols)) → length symbols ≤ i → now ≡ insert_all bytes_eq before (external_of symbols)
 symbols_end before now symbols i adding past =
     ends before now (external_of symbols) (external_of (drop i symbols)) adding (ap external_of (drop_all i symbols past) ∙ no_symbols)
-
-pub ruleset symbols = (symbols_start, symbols_add, symbols_pass, symbols_end)
 
 -- ---- files
 
@@ -85,8 +83,6 @@ files_add before now new files i file adding low is added = record {
 pub files_end : (before now : List (List ℕ)) (files : List LoadedFile) (i : ℕ) → IsAdding before now (external_names files) (external_names (drop i files)) → length files ≤ i → now ≡ insert_all bytes_eq before (external_names files)
 files_end before now files i adding past =
     ends before now (external_names files) (external_names (drop i files)) adding (ap external_names (drop_all i files past) ∙ no_files)
-
-pub ruleset files = (files_start, files_add, files_end)
 
 -- ---- names
 

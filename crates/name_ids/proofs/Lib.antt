@@ -1,2 +1,4 @@
 pub mod Gathering
+pub mod Numbers
 pub mod Once
+pub mod Staying

@@ -79,7 +79,7 @@ back names id name is =
 
 -- ---- just the names of the list
 
-same_name : (a b : List ℕ) → bytes_eq a b ≡ true → a ≡ b
+pub same_name : (a b : List ℕ) → bytes_eq a b ≡ true → a ≡ b
 same_name a b = (bytes_eq-Decides a b).0
 
 pub all : (names : List (List ℕ)) (name : List ℕ) → Contains names name → Contains (numbered names) name

@@ -1,6 +1,7 @@
-ghost use Rattle.std.specs.Prelude.{◌≡◌, ◌<◌, length, position, slice_get, Some};
+ghost use Rattle.std.specs.Prelude.{◌≡◌, ◌<◌, nat_lt, true, length, position, slice_get, Some, None, if◌then◌else◌};
 ghost use Rattle.std.specs.Str.{bytes_eq};
-ghost use Rattle.name_ids.specs.Names.{IsNumbering};
+ghost use Rattle.mo_types.specs.declared.object.Symbol.{Symbol};
+ghost use Rattle.name_ids.specs.Names.{IsNumbering, number_of};
 
 use crate::name::Name;
 use indexmap::IndexSet;
@@ -48,6 +49,20 @@ impl<'a> NameTable<'a> {
         match self.names.get_index_of(&Name::new(name)) {
             Some(at) => Some(at as u32),
             None => None,
+        }
+    }
+
+    /// The number of an external symbol's name, where `gather` gave it this one: itself, or `None` exactly where the name
+    /// isn't there.
+    #[tactic(auto, using(crate::proofs::Numbers::numbers))]
+    pub fn id_of_number(&self, number: u32) -> Option<u32>
+        ensures value { result ≡ (if nat_lt number (length self.now) then Some number else None) }
+        ensures meaning { (symbol : Symbol) → symbol.external ≡ true → number ≡ number_of self.now symbol → result ≡ position (bytes_eq symbol.name) self.now }
+    {
+        if number < self.len() {
+            Some(number)
+        } else {
+            None
         }
     }
 

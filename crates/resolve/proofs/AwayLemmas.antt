@@ -6,7 +6,8 @@ use Rattle.std.specs.Option.{option_and_then, option_map, option_map_or}
 use Rattle.std.proofs.lemmas.Bool.{cases_Bool, false≢true}
 use Rattle.std.proofs.lemmas.List.{append-nil}
 use Rattle.std.proofs.lemmas.List.Elements.{filter-append}
-use Rattle.std.proofs.lemmas.Option.{get_or_from_slice_get, slice_get_within}
+use Rattle.std.proofs.lemmas.Option.{get_or_from_slice_get, slice_get-map, slice_get_within}
+use Rattle.goal_table.specs.Table.{AreWithin, Tabled, goals_in, goals_of}
 use Rattle.list_lemmas.proofs.Members.{any_from_in, in_from_Contains}
 use Rattle.mark_core.specs.Kept.{begins_away, has, leads_away}
 use Rattle.mo_types.specs.RelocationRules.{section_numbered}
@@ -21,9 +22,10 @@ use Rattle.mo_types.specs.declared.reference.Ref.{Ref}
 use Rattle.mo_types.specs.declared.reference.Target.{Target}
 use Rattle.mo_types.specs.declared.reference.Target.TheVariants.{Local, Name}
 use Rattle.mo_types.specs.declared.unwind.Unwind.{Unwind}
-use Rattle.resolve.specs.Edges.{edge_from, edges_at, file_edges, file_supports, goal_atom, is_live_support, ref_edges, ref_supports, supports_live, target_atom, unwind_edges}
+use Rattle.resolve.specs.Edges.{edge_from, edges_at, file_edges, file_supports, goal_atom, is_live_support, ref_edges, ref_supports, supports_at, supports_live, target_atom, unwind_edges}
 use Rattle.resolve.specs.declared.representative.Representative.{Representative}
-use Rattle.resolve.specs.inner.Away.{away, file_away, goal_away, ref_away, target_away, unwind_away}
+use Rattle.resolve.proofs.PlacedLemmas.{ends_told}
+use Rattle.resolve.specs.inner.Away.{away, ends_in, file_away, goal_away, ref_away, target_away, unwind_away}
 
 -- ---- lists
 
@@ -101,18 +103,35 @@ file_filtered literals roots goals ends file is =
     ∙ filter_flat (leads_away roots) (unwind_edges literals goals) file.unwinds)
     ∙ sym (filter-append (leads_away roots) (flat_map (ref_edges literals goals) file.refs) (flat_map (unwind_edges literals goals) file.unwinds))
 
--- with the edges that lead away of a file, where it has goals
-pub edges_here : (literals : List Representative) (roots : List AtomKey) (table : List (List Goal)) (goals : List Goal) (ends : List (Option AtomKey)) (at : ℕ) (file : LoadedFile) (before new : List Edge) → slice_get table at ≡ Some goals → ends ≡ map (goal_away roots) goals → new ≡ before ++ file_away literals roots ends file
-    → new ≡ before ++ filter (leads_away roots) (edges_at literals table (at, file))
-edges_here literals roots table goals ends at file before new there is more =
-    more ∙ ap (λ (es : List Edge). before ++ es) (file_filtered literals roots goals ends file is)
-    ∙ sym (ap (λ (o : Option (List Goal)). before ++ filter (leads_away roots) (option_map_or (λ gs. file_edges literals gs file) o [])) there)
+-- with the edges that lead away of a file, whose symbols' goals stand in a pool
+pub edges_here : {V : Type 0} (items : V → List Edge) (result : Result V OutOfMemory) (literals : List Representative) (roots : List AtomKey) (pool : List Goal) (places read : List ℕ) (ends those : List (Option AtomKey)) (file : LoadedFile) (before : List Edge) → ends ≡ map (goal_away roots) pool → AreWithin pool places → read ≡ places → those ≡ ends_in ends read
+    → IfOk result (λ new. items new ≡ before ++ file_away literals roots those file) → IfOk result (λ new. items new ≡ before ++ filter (leads_away roots) (file_edges literals (goals_in pool places) file))
+edges_here items (Ok new) literals roots pool places read ends those file before are within same of more =
+    more ∙ ap (λ (es : List Edge). before ++ es)
+    (file_filtered literals roots (goals_in pool places) those file
+    (of ∙ ap (ends_in ends) same ∙ ap (λ (es : List (Option AtomKey)). ends_in es places) are ∙ ends_told (goal_away roots) pool places within))
+edges_here items (Err fault) literals roots pool places read ends those file before are within same of more = tt
 
-pub edges_here_ok : {V : Type 0} (items : V → List Edge) (result : Result V OutOfMemory) (literals : List Representative) (roots : List AtomKey) (table : List (List Goal)) (goals read : List Goal) (ends read_ends : List (Option AtomKey)) (at : ℕ) (file : LoadedFile) (before : List Edge) → slice_get table at ≡ Some goals → read ≡ goals → ends ≡ map (goal_away roots) read → read_ends ≡ ends
-    → IfOk result (λ new. items new ≡ before ++ file_away literals roots read_ends file) → IfOk result (λ new. items new ≡ before ++ filter (leads_away roots) (edges_at literals table (at, file)))
-edges_here_ok items (Ok new) literals roots table goals read ends read_ends at file before there r e f more =
-    edges_here literals roots table goals read_ends at file before (items new) there (f ∙ e ∙ ap (map (goal_away roots)) r) more
-edges_here_ok items (Err fault) literals roots table goals read ends read_ends at file before there r e f more = tt
+-- the goals of the file at a place, where there is one
+goals_there : (table : Tabled) (at : ℕ) (found : Option (List ℕ)) → found ≡ slice_get table.places at → slice_get (goals_of table) at ≡ option_map (goals_in table.pool) found
+unfolding goals_of
+goals_there table at found is = slice_get-map (goals_in table.pool) table.places at ∙ ap (option_map (goals_in table.pool)) (sym is)
+
+pub edges_there : (literals : List Representative) (table : Tabled) (at : ℕ) (file : LoadedFile) (pool : List Goal) (places : List ℕ) → pool ≡ table.pool → Some places ≡ slice_get table.places at → edges_at literals (goals_of table) (at, file) ≡ file_edges literals (goals_in pool places) file
+edges_there literals table at file pool places same is =
+    ap (λ (o : Option (List Goal)). option_map_or (λ gs. file_edges literals gs file) o []) (goals_there table at (Some places) is)
+    ∙ ap (λ (p : List Goal). file_edges literals (goals_in p places) file) (sym same)
+
+pub no_edges_there : (literals : List Representative) (table : Tabled) (at : ℕ) (file : LoadedFile) → None ≡ slice_get table.places at → edges_at literals (goals_of table) (at, file) ≡ []
+no_edges_there literals table at file is = ap (λ (o : Option (List Goal)). option_map_or (λ gs. file_edges literals gs file) o []) (goals_there table at None is)
+
+pub supports_there : (literals : List Representative) (table : Tabled) (at : ℕ) (file : LoadedFile) (pool : List Goal) (places : List ℕ) → pool ≡ table.pool → Some places ≡ slice_get table.places at → supports_at literals (goals_of table) (at, file) ≡ file_supports literals (goals_in pool places) file
+supports_there literals table at file pool places same is =
+    ap (λ (o : Option (List Goal)). option_map_or (λ gs. file_supports literals gs file) o []) (goals_there table at (Some places) is)
+    ∙ ap (λ (p : List Goal). file_supports literals (goals_in p places) file) (sym same)
+
+pub no_supports_there : (literals : List Representative) (table : Tabled) (at : ℕ) (file : LoadedFile) → None ≡ slice_get table.places at → supports_at literals (goals_of table) (at, file) ≡ []
+no_supports_there literals table at file is = ap (λ (o : Option (List Goal)). option_map_or (λ gs. file_supports literals gs file) o []) (goals_there table at None is)
 
 -- ---- supports
 

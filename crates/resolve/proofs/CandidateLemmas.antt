@@ -18,7 +18,7 @@ use Rattle.resolve.specs.declared.found.FoundIn.{FoundIn}
 use Rattle.resolve.specs.inner.Best.{AreCandidates, IsCandidateOf}
 use Rattle.resolve.specs.inner.Tables.{held}
 
-all_join : {X : Type 0} (P : X → Type 0) (xs ys : List X) → AllByRecursion P xs → AllByRecursion P ys → AllByRecursion P (xs ++ ys)
+pub all_join : {X : Type 0} (P : X → Type 0) (xs ys : List X) → AllByRecursion P xs → AllByRecursion P ys → AllByRecursion P (xs ++ ys)
 all_join P [] ys all more = more
 all_join P (x ∷ xs) ys all more = (all.0, all_join P xs ys all.1 more)
 

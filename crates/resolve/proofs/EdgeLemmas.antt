@@ -1,13 +1,12 @@
--- The edges and supports of all files, and the goals of all files' symbols, file by file.
-use Rattle.std.proofs.Common.{◌≡◌, ℕ, suc, ◌+◌, ◌<◌, ◌≤◌, List, [], ◌∷◌, ◌++◌, length, map, take, get_or, slice_get, Some, refl, sym, ap, subst, ◌∙◌, arith}
-use Rattle.std.specs.Prelude.{All, Option}
+-- The edges and supports of all files, and what a function gives for the elements of a list.
+use Rattle.std.proofs.Common.{◌≡◌, ℕ, suc, ◌+◌, ◌<◌, ◌≤◌, List, [], ◌∷◌, ◌++◌, length, map, take, get_or, slice_get, Some, refl, sym, ap, ◌∙◌, arith}
+use Rattle.std.specs.Prelude.{Option}
 use Rattle.std.specs.List.{enumerate_from, filter, flat_map}
 use Rattle.std.specs.Option.{option_map_or}
-use Rattle.std.proofs.lemmas.List.{map-append, take_all, take_more}
+use Rattle.std.proofs.lemmas.List.{map-append, take_more}
 use Rattle.std.proofs.lemmas.List.FromFn.{get_or-enumerate_from, length-enumerate_from}
 use Rattle.lib_bind.specs.declared.library.LibraryGraph.{LibraryGraph}
 use Rattle.mo_cmd.specs.declared.command.Command.{Command}
-use Rattle.mo_types.specs.Loaded.{IsWholeFile}
 use Rattle.mo_types.specs.declared.edge.Edge.{Edge}
 use Rattle.mo_types.specs.declared.goal.Goal.{Goal}
 use Rattle.mo_types.specs.declared.key.AtomKey.{AtomKey}
@@ -18,19 +17,13 @@ use Rattle.resolve.specs.Representatives.{representatives_of}
 use Rattle.resolve.specs.declared.representative.Representative.{Representative}
 use Rattle.mark_core.specs.Kept.{begins_away, leads_away}
 use Rattle.resolve.proofs.AwayLemmas.{filter_flat}
-use Rattle.resolve.proofs.GrowLemmas.{IsGrowing, grow_end, grow_item, whole_at}
+use Rattle.resolve.proofs.GrowLemmas.{IsGrowing, grow_end, grow_item}
 
-pub whole_in : (files read : List LoadedFile) (at : ℕ) (file : LoadedFile) → read ≡ files → All IsWholeFile files → at < length read → file ≡ get_or read at file → IsWholeFile file
-whole_in files read at file same whole low is = whole_at read at file (subst (λ (fs : List LoadedFile). All IsWholeFile fs) (sym same) whole) low is
-
--- ---- goals
+-- ---- lists
 
 -- a list has what a function gives for the elements before a place
 pub record IsMapped {X Y : Type 0} (f : X → Y) (now : List Y) (xs : List X) (at : ℕ) : Type 0 where
   pub is : now ≡ map f (take at xs)
-
-pub mapped_start : {X Y : Type 0} (f : X → Y) (now : List Y) (xs : List X) → now ≡ [] → IsMapped f now xs 0
-mapped_start f now xs none = record { is = none }
 
 pub mapped_more : {X Y : Type 0} (f : X → Y) (now new : List Y) (xs : List X) (at : ℕ) (x d : X) (y : Y) → IsMapped f now xs at → at < length xs → x ≡ get_or xs at d → y ≡ f x → new ≡ now ++ y ∷ [] → IsMapped f new xs (at + 1)
 mapped_more {X = X} {Y = Y} f now new xs at x d y mapped low is same more = record {
@@ -39,9 +32,6 @@ mapped_more {X = X} {Y = Y} f now new xs at x d y mapped low is same more = reco
       ∙ ap (λ (v : Y). map f (take at xs) ++ v ∷ []) same
       ∙ sym (ap (map f) (take_more xs at d low ∙ ap (λ (v : X). take at xs ++ v ∷ []) (sym is)) ∙ map-append f (take at xs) (x ∷ []));
 }
-
-pub mapped_end : {X Y : Type 0} (f : X → Y) (now list : List Y) (read xs : List X) (at : ℕ) → read ≡ xs → IsMapped f now read at → length read ≤ at → list ≡ now → list ≡ map f xs
-mapped_end {X = X} f now list read xs at same mapped past is = is ∙ mapped.is ∙ ap (map f) (take_all at read past) ∙ ap (map f) same
 
 -- ---- edges
 

@@ -32,3 +32,6 @@ pub mod AwayLemmas
 pub mod EdgeLemmas
 pub mod FollowLemmas
 pub mod FrontLemmas
+pub mod PoolLemmas
+pub mod PlacedLemmas
+pub mod NumberLemmas

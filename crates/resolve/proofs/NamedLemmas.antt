@@ -15,7 +15,7 @@ both : (a b : Bool) → (a && b) ≡ true → a ≡ true
 both true b e = refl
 both false b e = cc
 
-candidate_external : (file : LoadedFile) (symbol : Symbol) → is_candidate file.object.sections symbol ≡ true → symbol.external ≡ true
+pub candidate_external : (file : LoadedFile) (symbol : Symbol) → is_candidate file.object.sections symbol ≡ true → symbol.external ≡ true
 unfolding is_candidate
 candidate_external file symbol e = both symbol.external (has_place file.object.sections symbol.kind) e
 

@@ -114,9 +114,9 @@ offers_pass names fs i f d offers low is before none =
 pub offers_end : (names : List (List ℕ)) (fs : List FoundIn) (i : ℕ) (offers : List Offer) → length fs ≤ i → offers ≡ filter_map (offer_of names) (take i fs) → offers ≡ filter_map (offer_of names) fs
 offers_end names fs i offers past before = before ∙ ap (filter_map (offer_of names)) (take_all i fs past)
 
-pub offer_made : (names : List (List ℕ)) (f : FoundIn) (name : List ℕ) (o : Option ℕ) → name ≡ held_name f → o ≡ position (bytes_eq name) names → offer_of names f ≡ option_map (offer_by f) o
+pub offer_made : (names : List (List ℕ)) (f : FoundIn) (o : Option ℕ) → o ≡ position (bytes_eq (held_name f)) names → offer_of names f ≡ option_map (offer_by f) o
 unfolding offer_of
-offer_made names f name o same at = ap (λ (n : List ℕ). option_map (offer_by f) (position (bytes_eq n) names)) (sym same) ∙ ap (option_map (offer_by f)) (sym at)
+offer_made names f o at = ap (option_map (offer_by f)) (sym at)
 
 within : (names : List (List ℕ)) (fs : List FoundIn) (k : ℕ) (d : Offer) → k < length (filter_map (offer_of names) fs) → (get_or (filter_map (offer_of names) fs) k d).name < length names
 unfolding offer_of

@@ -7,3 +7,5 @@ pub mod Literals
 pub mod Words
 pub mod Away
 pub mod Front
+pub mod Pools
+pub mod Numbers

@@ -10,6 +10,7 @@ ghost use Rattle.resolve.specs.Winners.{AreLeast};
 ghost use Rattle.resolve.specs.declared.found.FoundIn.{FoundIn as Held};
 ghost use Rattle.resolve.specs.inner.Best.{AreBests, AreCandidates, AreChosen, IsCandidateOf, candidate_wins, winner_chosen};
 ghost use Rattle.resolve.specs.inner.Index.{AreRules, IsIndexOf};
+ghost use Rattle.resolve.specs.inner.Numbers.{AreNumbered, IsNumbered};
 ghost use Rattle.resolve.specs.inner.Tables.{found_of};
 
 use crate::best::Best;
@@ -39,10 +40,11 @@ fn note<'a>(table: &mut Vec<Best<'a>>, names: &NameTable, words: &[u64], candida
     requires table { length table.old.items ≡ length names.now }
     requires words { length words.now ≡ length names.now }
     requires candidate { IsCandidateOf (found_of candidate) }
+    requires numbered { IsNumbered names.now candidate }
     ensures size { length table.new.items ≡ length table.old.items }
     ensures bests { (files : List LoadedFile) (fs : List Held) → AreLeast files names.now words.now → AreBests files names.now fs table.old.items → AreBests files names.now (fs ++ candidate.entry ∷ []) table.new.items }
 {
-    if let Some(id) = names.id_of(candidate.symbol.name.as_slice()) {
+    if let Some(id) = names.id_of_number(candidate.number) {
         let wins = wins(words, id, candidate);
         let place = &mut table[id as usize];
         *place = place.with(candidate, wins);
@@ -58,6 +60,7 @@ pub(crate) fn bests_of<'a>(
 ) -> Result<Vec<Best<'a>>, OutOfMemory>
     requires words { length words.now ≡ length names.now }
     requires candidates { AreCandidates found.now }
+    requires numbered { AreNumbered names.now found.now }
     ensures bests { IfOk result (λ table. (files : List LoadedFile) → AreLeast files names.now words.now → AreBests files names.now found.now table.items) }
     ensures numbering { IsNumbering names.now }
 {
@@ -101,6 +104,7 @@ fn winner(chosen: &Chosen, rules: &ExportRules) -> Result<Winner, OutOfMemory>
         file,
         index,
         symbol,
+        ..
     } = chosen.found;
     let common = is_common(symbol.kind);
     let place = place(chosen.found);
@@ -140,7 +144,7 @@ pub(crate) fn index_of<'a>(
 ) -> Result<NameIndex<'a>, OutOfMemory>
     ensures { IfOk result (IsIndexOf chosen.now (length chosen.now)) }
 {
-    let mut index = NameIndex::new(alloc);
+    let mut index = NameIndex::with_capacity(alloc, chosen.len())?;
     for (i, one) in chosen.iter().enumerate() {
         index = index.with(one.found.symbol.name.as_slice(), i)?;
     }

@@ -1,10 +1,11 @@
 //! Names that two strong definitions have.
-ghost use Rattle.std.specs.Prelude.{◌≡◌, ◌<◌, ◌∷◌, ◌++◌, [], List, length, IfOk, IfSome};
+ghost use Rattle.std.specs.Prelude.{◌≡◌, ◌<◌, ◌∷◌, ◌++◌, true, [], List, length, IfOk, IfSome};
 ghost use Rattle.mo_types.specs.Candidates.{Candidate};
 ghost use Rattle.mo_types.specs.Loaded.{IsWholeLoaded};
-ghost use Rattle.name_ids.specs.Names.{IsNumbering};
+ghost use Rattle.name_ids.specs.Names.{IsNumbering, number_of, numbers_of};
 ghost use Rattle.resolve.specs.Found.{AreNamed};
 ghost use Rattle.resolve.specs.Duplicates.{IsDuplicate};
+ghost use Rattle.resolve.specs.inner.Numbers.{AreNumbered};
 ghost use Rattle.resolve.specs.inner.Tables.{AreFirsts, IsLeastOf, better_of, held, name_at, strong_among};
 ghost use Rattle.resolve.specs.inner.Tables as tables;
 ghost use Rattle.std.specs.Ordering.{is_gt, nat_cmp};
@@ -12,17 +13,17 @@ ghost use Rattle.std.specs.Cmp.Lexicographic.{slice_cmp};
 
 use crate::firsts::Firsts;
 use crate::found::{FoundIn, candidates};
-use mo_types::{FileId, Loaded, OutOfMemory};
-use name_ids::NameTable;
+use mo_types::{FileId, Items, Loaded, OutOfMemory};
+use name_ids::{NameTable, NumberList};
 use std::alloc::Global;
 
 // Notes a candidate of a name.
-fn note(table: &mut Vec<Firsts>, names: &NameTable, name: &[u8], file: FileId)
+fn note(table: &mut Vec<Firsts>, names: &NameTable, number: u32, file: FileId)
     requires numbering { IsNumbering names.now }
     requires table { length table.old.items ≡ length names.now }
-    ensures { (cs : List Candidate) (c : Candidate) → c.file ≡ file → c.symbol.name ≡ name.now → AreFirsts names.now cs table.old.items → AreFirsts names.now (cs ++ c ∷ []) table.new.items }
+    ensures { (cs : List Candidate) (c : Candidate) → c.file ≡ file → c.symbol.external ≡ true → number ≡ number_of names.now c.symbol → AreFirsts names.now cs table.old.items → AreFirsts names.now (cs ++ c ∷ []) table.new.items }
 {
-    if let Some(id) = names.id_of(name) {
+    if let Some(id) = names.id_of_number(number) {
         let place = &mut table[id as usize];
         *place = place.with(file);
     }
@@ -35,18 +36,14 @@ fn firsts_of(
     names: &NameTable,
     found: &[FoundIn],
 ) -> Result<Vec<Firsts>, OutOfMemory>
+    requires { AreNumbered names.now found.now }
     ensures firsts { IfOk result (λ table. AreFirsts names.now (strong_among (held found.now)) table.items) }
     ensures numbering { IsNumbering names.now }
 {
     let mut table = vec![in alloc; Firsts::Neither; names.len() as usize]?;
     for candidate in found {
         if candidate.symbol.strength() == 0 {
-            note(
-                &mut table,
-                names,
-                candidate.symbol.name.as_slice(),
-                candidate.file.id,
-            );
+            note(&mut table, names, candidate.number, candidate.file.id);
         }
     }
     Ok(table)
@@ -107,12 +104,14 @@ pub fn duplicate(
     alloc: Global,
     loaded: &Loaded,
     names: &NameTable,
+    numbers: &Items<NumberList>,
 ) -> Result<Option<(u32, FileId, FileId)>, OutOfMemory>
     requires whole { IsWholeLoaded loaded.now }
     requires named { AreNamed names.now loaded.now.files }
+    requires numbers { numbers.now ≡ numbers_of names.now loaded.now.files }
     ensures { IfOk result (λ found. IsDuplicate loaded.now.files names.now found) }
 {
-    let found = candidates(alloc, loaded.files.as_slice())?;
+    let found = candidates(alloc, loaded.files.as_slice(), numbers)?;
     let table = firsts_of(alloc, names, found.as_slice())?;
     Ok(least_pair(names, table.as_slice()))
 }

@@ -1,18 +1,23 @@
 //! Where names, symbols and references lead.
-ghost use Rattle.std.specs.Prelude.{◌≡◌, ◌<◌, ◌||◌, IfOk, length, slice_index_or};
+ghost use Rattle.std.specs.Prelude.{◌≡◌, ◌<◌, ◌||◌, IfOk, OnOk, length, map, slice_index_or};
+ghost use Rattle.goal_table.specs.Table.{goals_of};
 ghost use Rattle.lib_bind.specs.Provides as provides;
 ghost use Rattle.mo_types.specs.Loaded.{IsWholeFile, IsWholeLoaded};
 ghost use Rattle.mo_types.specs.declared.object.Symbol.{Symbol as Declared};
+ghost use Rattle.name_ids.specs.Names.{number_of, numbers_in, numbers_of};
 ghost use Rattle.resolve.specs.Goals as goals;
 ghost use Rattle.resolve.specs.Known.{AreKnown};
 ghost use Rattle.resolve.specs.Winners.{lists, winner_named};
+ghost use Rattle.resolve.specs.inner.Pools.{ArePlaces, AreTables, Extends, IsAt};
 
 use crate::known::Winners;
 use crate::places::place_of;
 use crate::winner::Winner;
+use goal_table::{GoalTable, PlaceList};
 use lib_bind::{Libraries, provider_of};
 use mo_cmd::Command;
-use mo_types::{Bytes, Goal, GoalList, Items, Loaded, LoadedFile, OutOfMemory, Target};
+use mo_types::{Bytes, Goal, Items, Loaded, LoadedFile, OutOfMemory};
+use name_ids::{NameTable, NumberList};
 use std::alloc::Global;
 
 fn winner_goal(winners: &Winners, winner: &Winner) -> Result<Goal, OutOfMemory>
@@ -41,23 +46,24 @@ fn is_header(dylib: bool, name: &[u8]) -> bool
 
 // Where a name leads that has no winner and isn't the header's.
 fn outer_goal(
+    alloc: Global,
     winners: &Winners,
     libs: &Libraries,
     command: &Command,
-    name: &Bytes,
+    name: &[u8],
 ) -> Result<Goal, OutOfMemory>
     ensures { IfOk result (λ goal. goal ≡ goals.outer_goal (command.now.dynamic || lists winners.now.flats name.now) (lists winners.now.weak name.now) name.now (provides.provider_of libs.now name.now)) }
 {
-    match provider_of(libs, name.as_slice()) {
+    match provider_of(libs, name) {
         Some(provider) => Ok(Goal::Import {
-            name: name.clone()?,
+            name: Bytes::from_slice(alloc, name)?,
             ordinal: provider.ordinal,
             by_weak: provider.weak,
-            optional: provider.weak_library || winners.is_weak(name.as_slice()),
+            optional: provider.weak_library || winners.is_weak(name),
         }),
         None => {
-            if command.dynamic || winners.is_flat(name.as_slice()) {
-                Ok(Goal::Flat(name.clone()?))
+            if command.dynamic || winners.is_flat(name) {
+                Ok(Goal::Flat(Bytes::from_slice(alloc, name)?))
             } else {
                 Ok(Goal::Nobody)
             }
@@ -67,38 +73,24 @@ fn outer_goal(
 
 // Where a name leads, by what is known.
 fn known_goal(
+    alloc: Global,
     winners: &Winners,
     libs: &Libraries,
     command: &Command,
-    name: &Bytes,
+    name: &[u8],
 ) -> Result<Goal, OutOfMemory>
     ensures { IfOk result (λ goal. goal ≡ goals.name_goal winners.now.literals command.now.dylib (command.now.dynamic || lists winners.now.flats name.now) (lists winners.now.weak name.now) name.now (provides.provider_of libs.now name.now) (winner_named winners.now.winners name.now)) }
 {
-    match winners.winner(name.as_slice()) {
+    match winners.winner(name) {
         Some(winner) => winner_goal(winners, winner),
         None => {
-            if is_header(command.dylib, name.as_slice()) {
+            if is_header(command.dylib, name) {
                 Ok(Goal::Header)
             } else {
-                outer_goal(winners, libs, command, name)
+                outer_goal(alloc, winners, libs, command, name)
             }
         }
     }
-}
-
-// Where a name leads, by the files.
-fn name_goal(
-    winners: &Winners,
-    libs: &Libraries,
-    loaded: &Loaded,
-    command: &Command,
-    name: &Bytes,
-) -> Result<Goal, OutOfMemory>
-    requires { AreKnown command.now loaded.now.files winners.now }
-    ensures { IfOk result (λ goal. goal ≡ goals.goal_of_name loaded.now.files libs.now command.now name.now) }
-{
-    let _files = &loaded.files;
-    known_goal(winners, libs, command, name)
 }
 
 /// Where a name leads: to its winner, else to the header, else to the first library that provides it, else, where the
@@ -114,13 +106,35 @@ pub fn goal_of_name(
     requires { AreKnown command.now loaded.now.files winners.now }
     ensures { IfOk result (λ goal. goal ≡ goals.goal_of_name loaded.now.files libs.now command.now name.now) }
 {
-    let name = Bytes::from_slice(alloc, name)?;
-    name_goal(winners, libs, loaded, command, &name)
+    let _files = &loaded.files;
+    known_goal(alloc, winners, libs, command, name)
+}
+
+// Where each name of a link leads, by the names' numbers.
+fn goals_of_names(
+    alloc: Global,
+    winners: &Winners,
+    libs: &Libraries,
+    loaded: &Loaded,
+    command: &Command,
+    names: &NameTable,
+) -> Result<Vec<Goal>, OutOfMemory>
+    requires { AreKnown command.now loaded.now.files winners.now }
+    ensures { IfOk result (λ pool. pool.items ≡ map (goals.goal_of_name loaded.now.files libs.now command.now) names.now) }
+{
+    let count = names.len();
+    let mut pool = Vec::with_capacity(alloc, count as usize)?;
+    for id in 0..count {
+        let name = names.name_of(id);
+        pool.push(goal_of_name(alloc, winners, libs, loaded, command, name)?)?;
+    }
+    Ok(pool)
 }
 
 // Where a file's symbol of an index leads.
 #[tactic(auto, unfolding(crate::specs::Goals::goal_of_symbol))]
 fn symbol_goal(
+    alloc: Global,
     winners: &Winners,
     libs: &Libraries,
     loaded: &Loaded,
@@ -135,7 +149,14 @@ fn symbol_goal(
 {
     let symbol = &file.object.symbols.as_slice()[index as usize];
     if symbol.external {
-        return name_goal(winners, libs, loaded, command, &symbol.name);
+        return goal_of_name(
+            alloc,
+            winners,
+            libs,
+            loaded,
+            command,
+            symbol.name.as_slice(),
+        );
     }
     match place_of(file, index) {
         Some(place) => Ok(Goal::Def(winners.representative(place.atom), place.offset)),
@@ -143,71 +164,149 @@ fn symbol_goal(
     }
 }
 
-/// Where each symbol of a file leads, in the order of its table: an external one where its name does, which is looked up
-/// once, and another one to its own place, in the literal that stands for its own where it is in one.
-pub fn goals_of_symbols(
+// Puts a goal at the end of a pool, and answers its place.
+#[tactic(auto, using(crate::proofs::PoolLemmas::extends_more, crate::proofs::PoolLemmas::at_end))]
+fn put(pool: &mut Vec<Goal>, goal: Goal) -> Result<u32, OutOfMemory>
+    ensures goals { OnOk result (Extends pool.old.items pool.new.items) }
+    ensures place { IfOk result (λ place. IsAt pool.new.items place goal) }
+{
+    let Ok(place) = u32::try_from(pool.len()) else {
+        return Err(OutOfMemory);
+    };
+    pool.push(goal)?;
+    Ok(place)
+}
+
+// The place of the goal of a file's symbol of an index, whose name has this number: the number itself, or, where no name
+// has it, the end of the pool, where the goal is put.
+fn put_symbol(
     alloc: Global,
+    pool: &mut Vec<Goal>,
     winners: &Winners,
     libs: &Libraries,
     loaded: &Loaded,
     command: &Command,
+    names: &NameTable,
     file: &LoadedFile,
-) -> Result<GoalList, OutOfMemory>
+    index: u32,
+    number: u32,
+) -> Result<u32, OutOfMemory>
     requires known { AreKnown command.now loaded.now.files winners.now }
     requires whole { IsWholeFile file.now }
-    ensures { IfOk result (λ list. list ≡ goals.goals_of_symbols loaded.now.files libs.now command.now file.now) }
+    requires index { index < length file.now.object.symbols }
+    requires number { (d : Declared) → number ≡ number_of names.now (slice_index_or file.now.object.symbols index d) }
+    requires names { Extends (map (goals.goal_of_name loaded.now.files libs.now command.now) names.now) pool.old.items }
+    ensures goals { OnOk result (Extends pool.old.items pool.new.items) }
+    ensures place { IfOk result (λ place. (d : Declared) → IsAt pool.new.items place (goals.goal_of_symbol loaded.now.files libs.now command.now file.now (index, slice_index_or file.now.object.symbols index d))) }
 {
-    let count = file.object.symbols.len();
-    let mut list = Vec::with_capacity(alloc, count)?;
-    for i in 0..count {
-        list.push(symbol_goal(winners, libs, loaded, command, file, i as u32)?)?;
+    if number < names.len() {
+        return Ok(number);
     }
-    Ok(Items::from_vec(list))
+    put(
+        pool,
+        symbol_goal(alloc, winners, libs, loaded, command, file, index)?,
+    )
 }
 
-/// Where the symbols of each file lead, file by file, each list in the order of its file's table. Each name is looked up
-/// once a file.
+// The places of the goals of a file's symbols, whose names have these numbers.
+fn put_symbols(
+    alloc: Global,
+    pool: &mut Vec<Goal>,
+    winners: &Winners,
+    libs: &Libraries,
+    loaded: &Loaded,
+    command: &Command,
+    names: &NameTable,
+    file: &LoadedFile,
+    numbers: &[u32],
+) -> Result<PlaceList, OutOfMemory>
+    requires known { AreKnown command.now loaded.now.files winners.now }
+    requires whole { IsWholeFile file.now }
+    requires numbers { numbers.now ≡ numbers_in names.now file.now }
+    requires names { Extends (map (goals.goal_of_name loaded.now.files libs.now command.now) names.now) pool.old.items }
+    ensures goals { OnOk result (Extends pool.old.items pool.new.items) }
+    ensures places { IfOk result (λ places. ArePlaces pool.new.items places (goals.goals_of_symbols loaded.now.files libs.now command.now file.now)) }
+{
+    let mut places = Vec::with_capacity(alloc, numbers.len())?;
+    for (index, number) in numbers.iter().enumerate() {
+        places.push(put_symbol(
+            alloc,
+            pool,
+            winners,
+            libs,
+            loaded,
+            command,
+            names,
+            file,
+            index as u32,
+            *number,
+        )?)?;
+    }
+    Ok(Items::from_vec(places))
+}
+
+// The places of the goals of all files' symbols, file by file.
+fn put_files(
+    alloc: Global,
+    pool: &mut Vec<Goal>,
+    winners: &Winners,
+    libs: &Libraries,
+    loaded: &Loaded,
+    command: &Command,
+    names: &NameTable,
+    numbers: &[NumberList],
+) -> Result<Items<PlaceList>, OutOfMemory>
+    requires whole { IsWholeLoaded loaded.now }
+    requires known { AreKnown command.now loaded.now.files winners.now }
+    requires numbers { numbers.now ≡ numbers_of names.now loaded.now.files }
+    requires names { Extends (map (goals.goal_of_name loaded.now.files libs.now command.now) names.now) pool.old.items }
+    ensures { IfOk result (λ places. AreTables pool.new.items places (goals.goal_table loaded.now.files libs.now command.now)) }
+{
+    let files = loaded.files.as_slice();
+    let mut places = Vec::with_capacity(alloc, files.len())?;
+    for (at, file) in files.iter().enumerate() {
+        places.push(put_symbols(
+            alloc,
+            pool,
+            winners,
+            libs,
+            loaded,
+            command,
+            names,
+            file,
+            numbers[at].as_slice(),
+        )?)?;
+    }
+    Ok(Items::from_vec(places))
+}
+
+/// Where the symbols of each file lead, file by file, each list in the order of its file's table. Each name of the link is
+/// looked up once: the goals of the names come first in the pool, by their numbers, so that the place of an external
+/// symbol's goal is the number of its name.
 pub fn goal_table(
     alloc: Global,
     loaded: &Loaded,
     winners: &Winners,
+    names: &NameTable,
+    numbers: &Items<NumberList>,
     libs: &Libraries,
     command: &Command,
-) -> Result<Items<GoalList>, OutOfMemory>
+) -> Result<GoalTable, OutOfMemory>
     requires whole { IsWholeLoaded loaded.now }
     requires known { AreKnown command.now loaded.now.files winners.now }
-    ensures { IfOk result (λ table. table ≡ goals.goal_table loaded.now.files libs.now command.now) }
+    requires numbers { numbers.now ≡ numbers_of names.now loaded.now.files }
+    ensures { IfOk result (λ table. goals_of table ≡ goals.goal_table loaded.now.files libs.now command.now) }
 {
-    let files = loaded.files.as_slice();
-    let mut table = Vec::with_capacity(alloc, files.len())?;
-    for file in files {
-        table.push(goals_of_symbols(alloc, winners, libs, loaded, command, file)?)?;
-    }
-    Ok(Items::from_vec(table))
-}
-
-/// Where a target of a file's reference leads. A target that isn't one of the file's symbols leads nowhere.
-#[tactic(auto, unfolding(crate::specs::Goals::goal_of))]
-pub fn goal_of(
-    winners: &Winners,
-    libs: &Libraries,
-    loaded: &Loaded,
-    command: &Command,
-    file: &LoadedFile,
-    target: &Target,
-) -> Result<Goal, OutOfMemory>
-    requires known { AreKnown command.now loaded.now.files winners.now }
-    requires whole { IsWholeFile file.now }
-    ensures { IfOk result (λ goal. goal ≡ goals.goal_of loaded.now.files libs.now command.now file.now target.now) }
-{
-    match *target {
-        Target::Name(index) => {
-            if (index as usize) < file.object.symbols.len() {
-                symbol_goal(winners, libs, loaded, command, file, index)
-            } else {
-                Ok(Goal::Nobody)
-            }
-        }
-        Target::Local(atom, offset) => Ok(Goal::Def(winners.representative(atom), offset)),
-    }
+    let mut pool = goals_of_names(alloc, winners, libs, loaded, command, names)?;
+    let places = put_files(
+        alloc,
+        &mut pool,
+        winners,
+        libs,
+        loaded,
+        command,
+        names,
+        numbers.as_slice(),
+    )?;
+    Ok(GoalTable::new(pool, places))
 }

@@ -2,17 +2,20 @@
 ghost use Rattle.std.specs.Prelude.{◌≡◌, ◌++◌, IfOk, map, slice_get};
 ghost use Rattle.std.specs.List.{filter, flat_map, list_any};
 ghost use Rattle.std.specs.Option.{option_and_then, option_map, option_to_list};
+ghost use Rattle.goal_table.specs.Table.{goals_in, goals_of};
 ghost use Rattle.mark_core.specs.Kept.{begins_away, leads_away};
 ghost use Rattle.resolve.specs.Edges as spec;
 ghost use Rattle.resolve.specs.inner.Away as aways;
 ghost use Rattle.resolve.specs.Representatives.{representatives_of};
 
+use crate::ends::Ends;
 use crate::known::Winners;
+use goal_table::{FileGoals, GoalTable};
 use mark_core::KeySet;
 use mo_format::loader::S_ATTR_LIVE_SUPPORT;
 use mo_types::{
-    AtomKey, Edge, EdgeList, Goal, GoalList, Items, Loaded, LoadedFile, Object, OutOfMemory, Ref,
-    RefList, Section, Target, Unwind,
+    AtomKey, Edge, EdgeList, Goal, Items, Loaded, LoadedFile, Object, OutOfMemory, Ref, RefList,
+    Section, Target, Unwind,
 };
 use std::alloc::Global;
 
@@ -27,9 +30,9 @@ fn goal_atom(goal: &Goal) -> Option<AtomKey>
     }
 }
 
-// The atom of the goal at a place.
-fn goal_atom_at(goals: &[Goal], at: usize) -> Option<AtomKey>
-    ensures { result ≡ option_and_then spec.goal_atom (slice_get goals.now at) }
+// The atom of the goal of the symbol of an index.
+fn goal_atom_at(goals: &FileGoals, at: usize) -> Option<AtomKey>
+    ensures { result ≡ option_and_then spec.goal_atom (slice_get (goals_in goals.now.pool goals.now.places) at) }
 {
     match goals.get(at) {
         Some(goal) => goal_atom(goal),
@@ -38,8 +41,8 @@ fn goal_atom_at(goals: &[Goal], at: usize) -> Option<AtomKey>
 }
 
 // The atom to which a target leads.
-fn target_atom(winners: &Winners, goals: &[Goal], target: &Target) -> Option<AtomKey>
-    ensures { result ≡ spec.target_atom winners.now.literals goals.now target.now }
+fn target_atom(winners: &Winners, goals: &FileGoals, target: &Target) -> Option<AtomKey>
+    ensures { result ≡ spec.target_atom winners.now.literals (goals_in goals.now.pool goals.now.places) target.now }
 {
     match *target {
         Target::Name(index) => goal_atom_at(goals, index as usize),
@@ -48,8 +51,8 @@ fn target_atom(winners: &Winners, goals: &[Goal], target: &Target) -> Option<Ato
 }
 
 // The atom to which a target leads, where there is one.
-fn optional_atom(winners: &Winners, goals: &[Goal], target: &Option<Target>) -> Option<AtomKey>
-    ensures { result ≡ option_and_then (spec.target_atom winners.now.literals goals.now) target.now }
+fn optional_atom(winners: &Winners, goals: &FileGoals, target: &Option<Target>) -> Option<AtomKey>
+    ensures { result ≡ option_and_then (spec.target_atom winners.now.literals (goals_in goals.now.pool goals.now.places)) target.now }
 {
     match target {
         Some(target) => target_atom(winners, goals, target),
@@ -77,10 +80,10 @@ fn with_edge(
 fn with_ref(
     before: Vec<Edge>,
     winners: &Winners,
-    goals: &[Goal],
+    goals: &FileGoals,
     reference: &Ref,
 ) -> Result<Vec<Edge>, OutOfMemory>
-    ensures { IfOk result (λ new. new.items ≡ before.items ++ spec.ref_edges winners.now.literals goals.now reference.now) }
+    ensures { IfOk result (λ new. new.items ≡ before.items ++ spec.ref_edges winners.now.literals (goals_in goals.now.pool goals.now.places) reference.now) }
 {
     let from = reference.atom;
     let edges = with_edge(before, from, target_atom(winners, goals, &reference.target))?;
@@ -108,7 +111,7 @@ fn goal_away(roots: &KeySet, goal: &Goal) -> Option<AtomKey>
     }
 }
 
-// For each symbol of a file the atom to which it leads, if that isn't a root.
+// For each goal of a pool the atom in which it stands, if that isn't a root.
 fn goals_away(
     alloc: Global,
     roots: &KeySet,
@@ -124,27 +127,12 @@ fn goals_away(
     )
 }
 
-// The atom to which the symbol of an index leads, if that isn't a root.
-fn end_at(ends: &[Option<AtomKey>], at: usize) -> Option<AtomKey>
-    ensures { result ≡ option_and_then (λ end. end) (slice_get ends.now at) }
-{
-    match ends.get(at) {
-        Some(end) => *end,
-        None => None,
-    }
-}
-
 // The atom to which a target leads, if that isn't a root.
-fn target_away(
-    winners: &Winners,
-    roots: &KeySet,
-    ends: &[Option<AtomKey>],
-    target: &Target,
-) -> Option<AtomKey>
+fn target_away(winners: &Winners, roots: &KeySet, ends: &Ends, target: &Target) -> Option<AtomKey>
     ensures { result ≡ aways.target_away winners.now.literals roots.now ends.now target.now }
 {
     match *target {
-        Target::Name(index) => end_at(ends, index as usize),
+        Target::Name(index) => ends.get(index as usize),
         Target::Local(atom, _) => away(roots, winners.representative(atom)),
     }
 }
@@ -153,7 +141,7 @@ fn target_away(
 fn optional_away(
     winners: &Winners,
     roots: &KeySet,
-    ends: &[Option<AtomKey>],
+    ends: &Ends,
     target: &Option<Target>,
 ) -> Option<AtomKey>
     ensures { result ≡ option_and_then (aways.target_away winners.now.literals roots.now ends.now) target.now }
@@ -170,7 +158,7 @@ fn with_ref_away(
     before: Vec<Edge>,
     winners: &Winners,
     roots: &KeySet,
-    ends: &[Option<AtomKey>],
+    ends: &Ends,
     reference: &Ref,
 ) -> Result<Vec<Edge>, OutOfMemory>
     ensures { IfOk result (λ new. new.items ≡ before.items ++ aways.ref_away winners.now.literals roots.now ends.now reference.now) }
@@ -186,7 +174,7 @@ fn with_ref_away_at(
     before: Vec<Edge>,
     winners: &Winners,
     roots: &KeySet,
-    ends: &[Option<AtomKey>],
+    ends: &Ends,
     refs: &RefList,
     at: usize,
 ) -> Result<Vec<Edge>, OutOfMemory>
@@ -204,7 +192,7 @@ fn with_refs_away(
     before: Vec<Edge>,
     winners: &Winners,
     roots: &KeySet,
-    ends: &[Option<AtomKey>],
+    ends: &Ends,
     refs: &RefList,
 ) -> Result<Vec<Edge>, OutOfMemory>
     ensures { IfOk result (λ new. new.items ≡ before.items ++ flat_map (aways.ref_away winners.now.literals roots.now ends.now) refs.now) }
@@ -232,7 +220,7 @@ fn with_unwind_away(
     before: Vec<Edge>,
     winners: &Winners,
     roots: &KeySet,
-    ends: &[Option<AtomKey>],
+    ends: &Ends,
     unwind: &Unwind,
 ) -> Result<Vec<Edge>, OutOfMemory>
     ensures { IfOk result (λ new. new.items ≡ before.items ++ aways.unwind_away winners.now.literals roots.now ends.now unwind.now) }
@@ -251,7 +239,7 @@ fn with_unwinds_away(
     before: Vec<Edge>,
     winners: &Winners,
     roots: &KeySet,
-    ends: &[Option<AtomKey>],
+    ends: &Ends,
     unwinds: &[Unwind],
 ) -> Result<Vec<Edge>, OutOfMemory>
     ensures { IfOk result (λ new. new.items ≡ before.items ++ flat_map (aways.unwind_away winners.now.literals roots.now ends.now) unwinds.now) }
@@ -269,7 +257,7 @@ fn with_file_away(
     before: Vec<Edge>,
     winners: &Winners,
     roots: &KeySet,
-    ends: &[Option<AtomKey>],
+    ends: &Ends,
     file: &LoadedFile,
 ) -> Result<Vec<Edge>, OutOfMemory>
     ensures { IfOk result (λ new. new.items ≡ before.items ++ aways.file_away winners.now.literals roots.now ends.now file.now) }
@@ -278,23 +266,38 @@ fn with_file_away(
     with_unwinds_away(edges, winners, roots, ends, file.unwinds.as_slice())
 }
 
-// Edges, and those of the file at a place.
-fn with_edges_at(
-    alloc: Global,
+// Edges, and those of a file that lead away from roots.
+fn with_file_edges(
     before: Vec<Edge>,
     winners: &Winners,
-    table: &Items<GoalList>,
     roots: &KeySet,
+    ends: &[Option<AtomKey>],
+    goals: &FileGoals,
+    file: &LoadedFile,
+) -> Result<Vec<Edge>, OutOfMemory>
+    requires { ends.now ≡ map (aways.goal_away roots.now) goals.now.pool }
+    ensures { IfOk result (λ new. new.items ≡ before.items ++ filter (leads_away roots.now) (spec.file_edges winners.now.literals (goals_in goals.now.pool goals.now.places) file.now)) }
+{
+    let ends = Ends::new(ends, goals.places());
+    with_file_away(before, winners, roots, &ends, file)
+}
+
+// Edges, and those of the file at a place.
+#[tactic(auto, using(crate::proofs::AwayLemmas::edges_there, crate::proofs::AwayLemmas::no_edges_there))]
+fn with_edges_at(
+    before: Vec<Edge>,
+    winners: &Winners,
+    table: &GoalTable,
+    roots: &KeySet,
+    ends: &[Option<AtomKey>],
     at: usize,
     file: &LoadedFile,
 ) -> Result<Vec<Edge>, OutOfMemory>
-    ensures { IfOk result (λ new. new.items ≡ before.items ++ filter (leads_away roots.now) (spec.edges_at winners.now.literals table.now (at, file.now))) }
+    requires { ends.now ≡ map (aways.goal_away roots.now) table.now.pool }
+    ensures { IfOk result (λ new. new.items ≡ before.items ++ filter (leads_away roots.now) (spec.edges_at winners.now.literals (goals_of table.now) (at, file.now))) }
 {
-    match table.get(at) {
-        Some(goals) => {
-            let ends = goals_away(alloc, roots, goals.as_slice())?;
-            with_file_away(before, winners, roots, ends.as_slice(), file)
-        }
+    match table.file(at) {
+        Some(goals) => with_file_edges(before, winners, roots, ends, &goals, file),
         None => Ok(before),
     }
 }
@@ -321,12 +324,12 @@ fn supports_live(object: &Object, atom: &AtomKey) -> bool
 fn with_support(
     before: Vec<Edge>,
     winners: &Winners,
-    goals: &[Goal],
+    goals: &FileGoals,
     roots: &KeySet,
     object: &Object,
     reference: &Ref,
 ) -> Result<Vec<Edge>, OutOfMemory>
-    ensures { IfOk result (λ new. new.items ≡ before.items ++ filter (begins_away roots.now) (spec.ref_supports winners.now.literals goals.now object.now reference.now)) }
+    ensures { IfOk result (λ new. new.items ≡ before.items ++ filter (begins_away roots.now) (spec.ref_supports winners.now.literals (goals_in goals.now.pool goals.now.places) object.now reference.now)) }
 {
     if !supports_live(object, &reference.atom) {
         return Ok(before);
@@ -341,13 +344,13 @@ fn with_support(
 fn with_support_at(
     before: Vec<Edge>,
     winners: &Winners,
-    goals: &[Goal],
+    goals: &FileGoals,
     roots: &KeySet,
     object: &Object,
     refs: &RefList,
     at: usize,
 ) -> Result<Vec<Edge>, OutOfMemory>
-    ensures { IfOk result (λ new. new.items ≡ before.items ++ flat_map (λ ref. filter (begins_away roots.now) (spec.ref_supports winners.now.literals goals.now object.now ref)) (option_to_list (slice_get refs.now at))) }
+    ensures { IfOk result (λ new. new.items ≡ before.items ++ flat_map (λ ref. filter (begins_away roots.now) (spec.ref_supports winners.now.literals (goals_in goals.now.pool goals.now.places) object.now ref)) (option_to_list (slice_get refs.now at))) }
 {
     match refs.get(at) {
         Some(reference) => with_support(before, winners, goals, roots, object, &reference),
@@ -360,12 +363,12 @@ fn with_support_at(
 fn with_supports(
     before: Vec<Edge>,
     winners: &Winners,
-    goals: &[Goal],
+    goals: &FileGoals,
     roots: &KeySet,
     object: &Object,
     refs: &RefList,
 ) -> Result<Vec<Edge>, OutOfMemory>
-    ensures { IfOk result (λ new. new.items ≡ before.items ++ flat_map (λ ref. filter (begins_away roots.now) (spec.ref_supports winners.now.literals goals.now object.now ref)) refs.now) }
+    ensures { IfOk result (λ new. new.items ≡ before.items ++ flat_map (λ ref. filter (begins_away roots.now) (spec.ref_supports winners.now.literals (goals_in goals.now.pool goals.now.places) object.now ref)) refs.now) }
 {
     let mut edges = before;
     for at in 0..refs.len() {
@@ -386,11 +389,11 @@ fn has_live_support(object: &Object) -> bool
 fn with_file_supports(
     before: Vec<Edge>,
     winners: &Winners,
-    goals: &[Goal],
+    goals: &FileGoals,
     roots: &KeySet,
     file: &LoadedFile,
 ) -> Result<Vec<Edge>, OutOfMemory>
-    ensures { IfOk result (λ new. new.items ≡ before.items ++ filter (begins_away roots.now) (spec.file_supports winners.now.literals goals.now file.now)) }
+    ensures { IfOk result (λ new. new.items ≡ before.items ++ filter (begins_away roots.now) (spec.file_supports winners.now.literals (goals_in goals.now.pool goals.now.places) file.now)) }
 {
     if has_live_support(&file.object) {
         with_supports(before, winners, goals, roots, &file.object, &file.refs)
@@ -400,18 +403,19 @@ fn with_file_supports(
 }
 
 // Edges, and the supports of the file at a place.
+#[tactic(auto, using(crate::proofs::AwayLemmas::supports_there, crate::proofs::AwayLemmas::no_supports_there))]
 fn with_supports_at(
     before: Vec<Edge>,
     winners: &Winners,
-    table: &Items<GoalList>,
+    table: &GoalTable,
     roots: &KeySet,
     at: usize,
     file: &LoadedFile,
 ) -> Result<Vec<Edge>, OutOfMemory>
-    ensures { IfOk result (λ new. new.items ≡ before.items ++ filter (begins_away roots.now) (spec.supports_at winners.now.literals table.now (at, file.now))) }
+    ensures { IfOk result (λ new. new.items ≡ before.items ++ filter (begins_away roots.now) (spec.supports_at winners.now.literals (goals_of table.now) (at, file.now))) }
 {
-    match table.get(at) {
-        Some(goals) => with_file_supports(before, winners, goals.as_slice(), roots, file),
+    match table.file(at) {
+        Some(goals) => with_file_supports(before, winners, &goals, roots, file),
         None => Ok(before),
     }
 }
@@ -421,23 +425,25 @@ fn with_supports_at(
 /// kept, so are those. Then the supports, from atoms of sections with S_ATTR_LIVE_SUPPORT (`loader.h`) to where their
 /// references lead: where one of these is kept, so is the atom. File by file, by the goals of each file's symbols, as
 /// `goal_table` gives them; no name is looked up. Edges that end in a root, and supports that begin in one, are left out:
-/// they add nothing to what is kept. Where each symbol leads is asked once a file.
+/// they add nothing to what is kept. In which atom a goal stands and whether that is a root is asked once for each goal of
+/// the pool.
 pub fn edges(
     alloc: Global,
     loaded: &Loaded,
     winners: &Winners,
-    goals: &Items<GoalList>,
+    goals: &GoalTable,
     roots: &KeySet,
 ) -> Result<(EdgeList, EdgeList), OutOfMemory>
     requires { winners.now.literals ≡ representatives_of loaded.now.files }
-    ensures edges { IfOk result (λ lists. lists.0 ≡ filter (leads_away roots.now) (spec.edges_by loaded.now.files goals.now)) }
-    ensures supports { IfOk result (λ lists. lists.1 ≡ filter (begins_away roots.now) (spec.supports_by loaded.now.files goals.now)) }
+    ensures edges { IfOk result (λ lists. lists.0 ≡ filter (leads_away roots.now) (spec.edges_by loaded.now.files (goals_of goals.now))) }
+    ensures supports { IfOk result (λ lists. lists.1 ≡ filter (begins_away roots.now) (spec.supports_by loaded.now.files (goals_of goals.now))) }
 {
     let files = loaded.files.as_slice();
+    let ends = goals_away(alloc, roots, goals.pool())?;
     let mut edges = Vec::new(alloc);
     let mut supports = Vec::new(alloc);
     for (at, file) in files.iter().enumerate() {
-        edges = with_edges_at(alloc, edges, winners, goals, roots, at, file)?;
+        edges = with_edges_at(edges, winners, goals, roots, ends.as_slice(), at, file)?;
         supports = with_supports_at(supports, winners, goals, roots, at, file)?;
     }
     Ok((Items::from_vec(edges), Items::from_vec(supports)))

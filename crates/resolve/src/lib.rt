@@ -6,6 +6,7 @@ mod best;
 mod choosing;
 mod chosen;
 mod duplicates;
+mod ends;
 mod exports;
 mod firsts;
 mod found;
@@ -29,7 +30,7 @@ mod winning;
 mod words;
 
 pub use duplicates::duplicate;
-pub use goals::{goal_of, goal_of_name, goal_table, goals_of_symbols};
+pub use goals::{goal_of_name, goal_table};
 pub use groups::representatives;
 pub use known::Winners;
 pub use laws::{

@@ -15,13 +15,13 @@ pub struct NameIndex<'a> {
 }
 
 impl<'a> NameIndex<'a> {
-    /// The index of no names, which takes no memory.
-    pub(crate) fn new(alloc: Global) -> NameIndex<'a>
-        ensures { (name : List ℕ) → known result name ≡ None }
+    /// The index of no names, with room for some.
+    pub(crate) fn with_capacity(alloc: Global, names: usize) -> Result<NameIndex<'a>, OutOfMemory>
+        ensures { IfOk result (λ index. (name : List ℕ) → known index name ≡ None) }
     {
-        NameIndex {
-            map: HashMap::new(alloc),
-        }
+        Ok(NameIndex {
+            map: HashMap::with_capacity(alloc, names)?,
+        })
     }
 
     /// The place of a name. Takes no memory.

@@ -1,6 +1,7 @@
 //! The winners of all names.
 ghost use Rattle.std.specs.Prelude.{◌≡◌, IfOk};
 ghost use Rattle.mo_types.specs.Loaded.{IsWholeLoaded};
+ghost use Rattle.name_ids.specs.Names.{numbers_of};
 ghost use Rattle.resolve.specs.Found.{AreNamed};
 ghost use Rattle.resolve.specs.Known.{AreKnown};
 ghost use Rattle.resolve.specs.Winners.{AreLeast};
@@ -15,7 +16,7 @@ use crate::name_set::set_of;
 use crate::weak::weak_of;
 use mo_cmd::Command;
 use mo_types::{Items, Loaded, OutOfMemory};
-use name_ids::NameTable;
+use name_ids::{NameTable, NumberList};
 use std::alloc::Global;
 
 /// Of each name that files have a candidate for, the one with the least word, and what stands for each literal. The words
@@ -24,16 +25,18 @@ pub fn winners<'a>(
     alloc: Global,
     loaded: &'a Loaded,
     names: &NameTable,
+    numbers: &Items<NumberList>,
     words: &[u64],
     command: &'a Command,
 ) -> Result<Winners<'a>, OutOfMemory>
     requires whole { IsWholeLoaded loaded.now }
     requires named { AreNamed names.now loaded.now.files }
+    requires numbers { numbers.now ≡ numbers_of names.now loaded.now.files }
     requires words { AreLeast loaded.now.files names.now words.now }
     ensures { IfOk result (AreKnown command.now loaded.now.files) }
 {
     let files = loaded.files.as_slice();
-    let found = candidates(alloc, files)?;
+    let found = candidates(alloc, files, numbers)?;
     let table = bests_of(alloc, names, words, found.as_slice())?;
     let chosen = chosen_by_name(alloc, table.as_slice())?;
     let rules = rules_of(alloc, command)?;

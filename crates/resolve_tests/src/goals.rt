@@ -1,21 +1,22 @@
 //! Winners, which of them other images see, and where names and symbols lead, against tables that were written by hand and
 //! what llvm-nm says of an object of clang's.
 ghost use Rattle.std.specs.Prelude.{◌<◌, IfOk, IfSome, length};
-ghost use Rattle.mo_types.specs.Loaded.{IsWholeFile, IsWholeLoaded};
+ghost use Rattle.mo_types.specs.Loaded.{IsWholeLoaded};
 ghost use Rattle.resolve.specs.Known.{AreKnown};
 
 use crate::clang_names::{NAMES, OBJECT, Told};
 use crate::given::{Is, Row, Section1, add, id_of, literal_section, loaded, object, risen};
 use crate::libraries::libraries;
+use goal_table::FileGoals;
 use lib_bind::Libraries;
 use mo_cmd::{Command, read_all_words};
 use mo_obj::read_object;
 use mo_types::{
-    Arg, ArgList, AtomKey, Bytes, Goal, Kind, Loaded, LoadedFile, NameList, Object, OutOfMemory,
-    Target, kind_of,
+    Arg, ArgList, AtomKey, Bytes, Goal, Kind, Loaded, NameList, Object, OutOfMemory, Target,
+    kind_of,
 };
 use name_ids::gather;
-use resolve::{Winner, Winners, goal_of, goal_of_name, goals_of_symbols, least_words, winners};
+use resolve::{Winner, Winners, goal_of_name, goal_table, least_words, winners};
 use std::alloc::Global;
 use std::test::Fail;
 
@@ -41,11 +42,12 @@ fn known<'a>(
     ensures { IfOk result (λ known. IfSome known (AreKnown command.now loaded.now.files)) }
 {
     let extra = NameList::new(alloc);
-    let Ok(names) = gather(alloc, loaded, &extra) else {
+    let Ok(all) = gather(alloc, loaded, &extra) else {
         return Ok(None);
     };
-    let words = least_words(alloc, loaded, &names)?;
-    Ok(Some(winners(alloc, loaded, &names, words.as_slice(), command)?))
+    let (names, numbers) = (&all.names, &all.numbers);
+    let words = least_words(alloc, loaded, names, numbers)?;
+    Ok(Some(winners(alloc, loaded, names, numbers, words.as_slice(), command)?))
 }
 
 fn key_of(file: (u16, u32), section: u16, offset: u64) -> AtomKey {
@@ -447,32 +449,20 @@ fn leading_to(row: Option<((u16, u32), u64, u64)>) -> Goal {
     }
 }
 
-// Whether the targets of a file lead where they are to, one by one and its symbols at once.
-fn targets_of_file_lead(
-    alloc: Global,
-    libs: &Libraries,
-    loaded: &Loaded,
-    command: &Command,
-    known: &Winners,
-    file: &LoadedFile,
-) -> Result<bool, OutOfMemory>
-    requires known { AreKnown command.now loaded.now.files known.now }
-    requires whole { IsWholeFile file.now }
-{
-    for (target, row) in &leading_rows() {
-        if goal_of(known, libs, loaded, command, file, target)? != leading_to(*row) {
-            return Ok(false);
-        }
+// Whether a target of a file leads where it is to, by the goals of the file's symbols.
+fn target_leads(known: &Winners, goals: &FileGoals, target: &Target, wanted: &Goal) -> bool {
+    match *target {
+        Target::Name(index) => match goals.get(index as usize) {
+            Some(goal) => goal == wanted,
+            None => *wanted == Goal::Nobody,
+        },
+        Target::Local(atom, offset) => *wanted == Goal::Def(known.representative(atom), offset),
     }
-    let table = goals_of_symbols(alloc, known, libs, loaded, command, file)?;
-    Ok(
-        table.len() == 4
-            && table
-                .as_slice()
-                .iter()
-                .zip(&leading_rows())
-                .all(|(goal, row)| *goal == leading_to(row.1)),
-    )
+}
+
+fn targets_of_file_lead(known: &Winners, goals: &FileGoals) -> bool {
+    goals.places().len() == 4
+        && leading_rows().iter().all(|row| target_leads(known, goals, &row.0, &leading_to(row.1)))
 }
 
 fn targets_lead(
@@ -485,9 +475,22 @@ fn targets_lead(
     requires whole { IsWholeLoaded loaded.now }
     requires known { AreKnown command.now loaded.now.files known.now }
 {
-    match loaded.files.as_slice() {
-        [_, file] => targets_of_file_lead(alloc, libs, loaded, command, known, file),
-        _ => Ok(false),
+    let extra = NameList::new(alloc);
+    let Ok(all) = gather(alloc, loaded, &extra) else {
+        return Ok(false);
+    };
+    let table = goal_table(
+        alloc,
+        loaded,
+        known,
+        &all.names,
+        &all.numbers,
+        libs,
+        command,
+    )?;
+    match table.file(1) {
+        Some(goals) => Ok(loaded.files.len() == 2 && targets_of_file_lead(known, &goals)),
+        None => Ok(false),
     }
 }
 

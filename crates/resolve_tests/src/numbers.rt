@@ -67,7 +67,7 @@ fn names_get_numbers(alloc: Global) -> Result<bool, OutOfMemory> {
     let extra = further(alloc)?;
     let loaded = sample(alloc)?;
     match &gather(alloc, &loaded, &extra) {
-        Ok(table) => Ok(numbers_are_given(table)),
+        Ok(all) => Ok(numbers_are_given(&all.names)),
         Err(_) => Ok(false),
     }
 }
@@ -112,7 +112,7 @@ fn thousands_of_names(alloc: Global) -> Result<bool, OutOfMemory> {
     let extra = NameList::new(alloc);
     let loaded = large(alloc, 100_000, 20_000)?;
     match &gather(alloc, &loaded, &extra) {
-        Ok(table) => leads_back(alloc, table),
+        Ok(all) => leads_back(alloc, &all.names),
         Err(_) => Ok(false),
     }
 }

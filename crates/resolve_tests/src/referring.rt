@@ -1,9 +1,12 @@
 //! The references of kept atoms against tables that were written by hand.
 
-use kept_refs::{GoalTable, Lost, ref_order, spots_of_atom, undefined};
+ghost use Rattle.std.specs.Prelude.{◌≡◌, ◌<◌, All, IfOk, List, ℕ, length};
+
+use goal_table::{GoalTable, PlaceList};
+use kept_refs::{Lost, Spot, next_spots, ref_order, spots_of_atom, undefined};
 use mark_core::kept;
 use mo_types::{
-    AtomKey, Bytes, EdgeList, Goal, GoalList, KeyList, Loaded, LoadedFile, LoadedList, OutOfMemory,
+    AtomKey, Bytes, EdgeList, Goal, Items, KeyList, Loaded, LoadedFile, LoadedList, OutOfMemory,
     Ref, RefKind, RefList, SectionList, Symbol, SymbolKind, SymbolList, Target,
 };
 use std::alloc::Global;
@@ -45,13 +48,43 @@ fn symbols(alloc: Global, names: &[&'static [u8]]) -> Result<SymbolList, OutOfMe
     Ok(list)
 }
 
-// Those of a file, of which the first leads to the header and the others nowhere.
-fn goals(alloc: Global, count: usize) -> Result<GoalList, OutOfMemory> {
-    let mut list = GoalList::new(alloc);
+// The header, and nowhere.
+fn pool(alloc: Global) -> Result<Vec<Goal>, OutOfMemory>
+    ensures { IfOk result (λ goals. length goals.items ≡ 2) }
+{
+    let mut goals = Vec::new(alloc);
+    goals.push(Goal::Header)?;
+    goals.push(Goal::Nobody)?;
+    Ok(goals)
+}
+
+// The places of a file's symbols, of which the first leads to the header and the others nowhere.
+fn places(alloc: Global, count: usize) -> Result<PlaceList, OutOfMemory>
+    ensures { IfOk result (All (λ place. place < 2)) }
+{
+    let mut list = PlaceList::new(alloc);
     for i in 0..count {
-        list.push(if i == 0 { Goal::Header } else { Goal::Nobody })?;
+        list.push(if i == 0 { 0 } else { 1 })?;
     }
     Ok(list)
+}
+
+// Those of files with so many symbols.
+fn all_places(alloc: Global, files: &[File]) -> Result<Items<PlaceList>, OutOfMemory>
+    ensures { IfOk result (All (λ (file : List ℕ). All (λ place. place < 2) file)) }
+{
+    let mut lists = Items::new(alloc);
+    for (_, names, _) in files {
+        lists.push(places(alloc, names.len())?)?;
+    }
+    Ok(lists)
+}
+
+fn table_of(pool: Vec<Goal>, places: Items<PlaceList>) -> GoalTable
+    requires two { length pool.items ≡ 2 }
+    requires within { All (λ (file : List ℕ). All (λ place. place < 2) file) places }
+{
+    GoalTable::new(pool, places)
 }
 
 // The names of a file's symbols, and its references.
@@ -59,10 +92,9 @@ type File<'a> = (&'static [u8], &'a [&'static [u8]], &'a [Row]);
 
 fn link(alloc: Global, files: &[File]) -> Result<(Loaded, GoalTable), OutOfMemory> {
     let mut loaded = LoadedList::new(alloc);
-    let mut table = GoalTable::new(alloc);
+    let table = table_of(pool(alloc)?, all_places(alloc, files)?);
     for (i, (label, names, rows)) in files.iter().enumerate() {
         let position = (i % 100) as u16;
-        table.push(goals(alloc, names.len())?)?;
         let refs = refs_of(alloc, position, rows)?;
         let object = object(SectionList::new(alloc), symbols(alloc, names)?);
         loaded.push(LoadedFile {
@@ -150,16 +182,37 @@ const SPOTS: [Row; 5] = [
 // The offsets of atoms, and the indices of their references.
 const ORDER: [(u64, &[u32]); 4] = [(0, &[1, 4]), (8, &[3]), (16, &[0, 2]), (12, &[])];
 
-fn references_are_found_by_their_atoms(alloc: Global) -> Result<bool, OutOfMemory> {
-    let refs = refs_of(alloc, 0, &SPOTS)?;
+// References that are listed by falling atom.
+const FALLING: [Row; 5] = [
+    (16, 5, None),
+    (16, 4, None),
+    (8, 3, None),
+    (8, 2, None),
+    (0, 1, None),
+];
+
+const FALLING_ORDER: [(u64, &[u32]); 4] = [(0, &[4]), (4, &[]), (8, &[2, 3]), (16, &[0, 1])];
+
+// Whether references stand at some places of their file's list.
+fn are(spots: &[Spot], wanted: &[u32]) -> bool {
+    spots
+        .iter()
+        .map(|spot| spot.index)
+        .eq(wanted.iter().copied())
+}
+
+fn references_are_found_by_their_atoms(
+    alloc: Global,
+    rows: &[Row],
+    wanted: &[(u64, &[u32])],
+) -> Result<bool, OutOfMemory> {
+    let refs = refs_of(alloc, 0, rows)?;
     let order = ref_order(alloc, &refs)?;
-    for (offset, wanted) in &ORDER {
+    let mut next = 0;
+    for (offset, wanted) in wanted {
         let found = spots_of_atom(order.as_slice(), 1, *offset);
-        if !found
-            .iter()
-            .map(|spot| spot.index)
-            .eq(wanted.iter().copied())
-        {
+        let behind = next_spots(order.as_slice(), &mut next, 1, *offset);
+        if !are(found, wanted) || !are(behind, wanted) {
             return Ok(false);
         }
     }
@@ -172,6 +225,7 @@ fn least_undefined_name_is_told(rt: HostRuntime) -> Result<(), Fail> {
     for case in &CASES {
         assert!(rt; tells(alloc, &FILES, case)?);
     }
-    assert!(rt; references_are_found_by_their_atoms(alloc)?);
+    assert!(rt; references_are_found_by_their_atoms(alloc, &SPOTS, &ORDER)?);
+    assert!(rt; references_are_found_by_their_atoms(alloc, &FALLING, &FALLING_ORDER)?);
     Ok(())
 }

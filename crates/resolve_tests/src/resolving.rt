@@ -20,12 +20,13 @@ fn has(alloc: Global, rows: &[Row], wanted: Pair) -> Result<bool, OutOfMemory> {
         return Ok(false);
     };
     let extra = NameList::new(alloc);
-    let Ok(names) = gather(alloc, &loaded, &extra) else {
+    let Ok(all) = gather(alloc, &loaded, &extra) else {
         return Ok(false);
     };
-    Ok(match (duplicate(alloc, &loaded, &names)?, wanted) {
+    let found = duplicate(alloc, &loaded, &all.names, &all.numbers)?;
+    Ok(match (found, wanted) {
         (Some((id, first, second)), Some((name, a, b))) => {
-            names.id_of(name) == Some(id) && first == id_of(a) && second == id_of(b)
+            all.names.id_of(name) == Some(id) && first == id_of(a) && second == id_of(b)
         }
         (None, None) => true,
         _ => false,

@@ -1,12 +1,13 @@
 //! A race of the names of files by two workers.
-ghost use Rattle.std.specs.Prelude.{◌<◌, length};
+ghost use Rattle.std.specs.Prelude.{◌≡◌, ◌<◌, length};
 ghost use Rattle.mo_types.specs.Loaded.{IsWholeLoaded};
+ghost use Rattle.name_ids.specs.Names.{numbers_of};
 ghost use Rattle.member_rounds.specs.Offers.{AreNamed};
 
 use member_rounds::race_words;
 use mo_outside::Gate;
 use mo_types::{Loaded, NameList, OutOfMemory};
-use name_ids::{NameTable, gather};
+use name_ids::{Numbered, gather};
 use resolve::candidates_have_numbers;
 use std::alloc::Global;
 use std::thread::Threads;
@@ -20,14 +21,15 @@ fn words_of<R: Threads + Sync, G: Gate + Sync>(
     alloc: Global,
     gate: &G,
     loaded: &Loaded,
-    names: &NameTable,
+    all: &Numbered,
 ) -> Result<Vec<u64>, OutOfMemory>
     requires whole { IsWholeLoaded loaded.now }
-    requires named { AreNamed names.now loaded.now.files }
-    requires some { 0 < length names.now }
+    requires named { AreNamed all.now.names loaded.now.files }
+    requires numbers { all.now.numbers ≡ numbers_of all.now.names loaded.now.files }
+    requires some { 0 < length all.now.names }
 {
-    let start = vec![in alloc; NO_WORD; names.len() as usize]?;
-    race_words(rt, alloc, gate, 2, start, loaded, names)
+    let start = vec![in alloc; NO_WORD; all.names.len() as usize]?;
+    race_words(rt, alloc, gate, 2, start, loaded, &all.names, &all.numbers)
 }
 
 /// The word of a name after a race of the candidates of files, in which the workers pass a gate; `None` where no external
@@ -42,13 +44,13 @@ pub fn word_of<R: Threads + Sync, G: Gate + Sync>(
     requires whole { IsWholeLoaded loaded.now }
 {
     let extra = NameList::new(alloc);
-    let Ok(names) = gather(alloc, loaded, &extra) else {
+    let Ok(all) = gather(alloc, loaded, &extra) else {
         return Ok(None);
     };
     candidates_have_numbers();
-    let Some(id) = names.id_of(name) else {
+    let Some(id) = all.names.id_of(name) else {
         return Ok(None);
     };
-    let words = words_of(rt, alloc, gate, loaded, &names)?;
+    let words = words_of(rt, alloc, gate, loaded, &all)?;
     Ok(words.get(id as usize).copied())
 }

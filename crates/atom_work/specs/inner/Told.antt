@@ -1,10 +1,22 @@
--- A symbol of a file whose address is known.
-use Rattle.std.specs.Prelude.{◌≡◌, List, IfSome, Option}
+-- The addresses of goals, as far as they have 64 bits.
+use Rattle.std.specs.Prelude.{ℕ, ◌≡◌, ◌^◌, List, Option, Some, None, map, nat_lt, if◌then◌else◌}
 use Rattle.mo_types.specs.declared.goal.Goal.{Goal}
-use Rattle.mo_types.specs.declared.reference.Target.TheVariants.{Name}
-use Rattle.atom_work.specs.Addresses.{Scene, target_address}
-use Rattle.atom_work.specs.declared.mets.Told.{Told}
+use Rattle.sect_place.specs.declared.layout.Placed.{Placed}
+use Rattle.atom_work.specs.Addresses.{Scene, goal_address}
+use Rattle.atom_work.specs.declared.addresses.Setting.{Setting}
 
--- the address of the symbol that is known, if one is, is that to which its name leads
-abbrev pub IsTold : Scene → List Goal → Option Told → Type 0
-IsTold scene goals last = IfSome last (λ told. told.address ≡ target_address scene goals (Name told.index))
+-- an address, if it has 64 bits
+abbrev pub told : ℕ → Option ℕ
+told address = if nat_lt address (2 ^ 64) then Some address else None
+
+-- that of a goal
+unfoldable pub goal_told : ℕ → List Placed → Goal → Option ℕ
+goal_told base placed goal = told (goal_address base placed goal)
+
+-- what references are met with, as definitions have it
+abbrev pub scene_of : Setting → Scene
+scene_of setting = record { literals = setting.winners.now.literals; base = setting.base; placed = setting.layout.now.placed }
+
+-- the addresses are those of the pool's goals
+abbrev pub AreTold : Setting → Type 0
+AreTold setting = setting.addresses.now ≡ map (goal_told setting.base setting.layout.now.placed) setting.goals.now.pool

@@ -6,6 +6,7 @@ use Rattle.mo_types.specs.Candidates.{Candidate, candidate_at, candidate_word, c
 use Rattle.mo_types.specs.declared.loaded.LoadedFile.{LoadedFile}
 use Rattle.mo_types.specs.declared.object.Symbol.{Symbol}
 use Rattle.mo_types.specs.Loaded.{IsWholeFile}
+use Rattle.name_ids.specs.Names.{numbers_of}
 use Rattle.name_race.specs.Race.{Holding, Race}
 use Rattle.member_rounds.specs.Offers.{GrewBy, offers_of}
 
@@ -31,10 +32,11 @@ pub record HasOffered (bids : List (ℕ × ℕ)) (before after : Holding) : Type
 abbrev pub offers_of_job : List (List ℕ) → List LoadedFile → ℕ → List (ℕ × ℕ)
 offers_of_job names files job = get_or (map (offers_in names) files) job []
 
--- files whose candidates' words are offered in a race that has a word for each name
-pub record AreOffered (race : Race) (names : List (List ℕ)) (files : List LoadedFile) : Type 0 where
+-- files whose candidates' words are offered in a race that has a word for each name, with the numbers of their symbols
+pub record AreOffered (race : Race) (names lists : List (List ℕ)) (files : List LoadedFile) : Type 0 where
   pub words : length names ≤ length race.start
   pub whole : All IsWholeFile files
+  pub numbers : lists ≡ numbers_of names files
 
 -- racers that made offers
 pub record HaveOffered (bids : List (ℕ × ℕ)) (before after : List Holding) : Type 0 where

@@ -1,5 +1,5 @@
 -- The edges that lead away from some atoms, by where the symbols of a file lead.
-use Rattle.std.specs.Prelude.{◌++◌, not, List, Option, slice_get}
+use Rattle.std.specs.Prelude.{ℕ, ◌++◌, not, List, map, Option, slice_get}
 use Rattle.std.specs.List.{flat_map}
 use Rattle.std.specs.Option.{option_and_then, option_map}
 use Rattle.mark_core.specs.Kept.{has}
@@ -23,6 +23,13 @@ away roots atom = when (not (has roots atom)) atom
 -- the atom in which a goal stands, if it isn't one of some
 abbrev pub goal_away : List AtomKey → Goal → Option AtomKey
 goal_away roots goal = option_and_then (away roots) (goal_atom goal)
+
+-- those of a file's symbols, by the places of their goals in a pool, from those of the pool
+abbrev pub end_in : List (Option AtomKey) → ℕ → Option AtomKey
+end_in ends place = option_and_then (λ end. end) (slice_get ends place)
+
+unfoldable pub ends_in : List (Option AtomKey) → List ℕ → List (Option AtomKey)
+ends_in ends places = map (end_in ends) places
 
 -- the same of a target, by those of the file's symbols
 abbrev pub target_away : List Representative → List AtomKey → List (Option AtomKey) → Target → Option AtomKey

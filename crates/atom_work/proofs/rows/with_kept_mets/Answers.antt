@@ -1,11 +1,12 @@
-use Rattle.std.proofs.Common.{sym, ap, ◌∙◌}
+use Rattle.std.proofs.Common.{[], sym, ap, ◌∙◌}
 use Rattle.std.specs.Option.{option_copied}
-use Rattle.atom_work.proofs.OrderLemmas.{kept_mets_of, no_kept_mets, no_order, order_of}
+use Rattle.goal_table.specs.Table.{goals_in, goals_of}
+use Rattle.atom_work.proofs.OrderLemmas.{goals_here, kept_mets_of, no_goals, no_kept_mets, no_order, order_of}
 use Rattle.atom_work.proofs.rows.with_kept_mets.Goals as goal
 
 pub returns-in_default : goal.returns-in_default
 returns-in_default c =
-    no_kept_mets _ c.args.sources.now.files.now c.args.sources.now.goals.now c.args.kept.now c.args.before.items (sym c.get.ensures.value ∙ ap option_copied c.in_default.is)
+    no_kept_mets _ c.args.sources.now.files.now (goals_of c.args.sources.now.setting.now.goals.now) c.args.kept.now c.args.before.items (sym c.get.ensures.value ∙ ap option_copied c.in_default.is)
 
 pub unreachable-requires : goal.unreachable-requires
 unreachable-requires c =
@@ -14,11 +15,26 @@ unreachable-requires c =
 
 pub with_mets-requires-clause-order : goal.with_mets-requires-clause-order
 with_mets-requires-clause-order c =
-    rw c.as_slice.ensures
+    rw c.as_slice-order.ensures
     (order_of c.args.sources.now.files.now c.args.sources.now.orders.now c.args.kept.now.file c.in-Some.file.now c.in-Some-get.order.now c.requires.orders
     (sym c.get.ensures.value ∙ ap option_copied c.in-Some.is) (sym c.get-2.ensures.value ∙ ap option_copied c.in-Some-get.is))
 
-pub returns : goal.returns
-returns c =
-    rw (kept_mets_of _ c.args.sources.now.files.now c.args.sources.now.goals.now c.args.kept.now c.in-Some.file.now c.goals_at.result.now (sym c.get.ensures.value ∙ ap option_copied c.in-Some.is) c.goals_at.ensures)
+pub with_mets-requires-in-None-clause-order : goal.with_mets-requires-in-None-clause-order
+with_mets-requires-in-None-clause-order c =
+    rw c.as_slice-order.ensures
+    (order_of c.args.sources.now.files.now c.args.sources.now.orders.now c.args.kept.now.file c.in-Some.file.now c.in-Some-get.order.now c.requires.orders
+    (sym c.get.ensures.value ∙ ap option_copied c.in-Some.is) (sym c.get-2.ensures.value ∙ ap option_copied c.in-Some-get.is))
+
+pub returns-in-Some-file : goal.returns-in-Some-file
+returns-in-Some-file c =
+    rw (kept_mets_of _ c.args.sources.now.files.now (goals_of c.args.sources.now.setting.now.goals.now) c.args.kept.now c.in-Some.file.now (goals_in c.args.sources.now.setting.now.goals.now.pool c.places.result.now)
+    (sym c.get.ensures.value ∙ ap option_copied c.in-Some.is)
+    (goals_here c.args.sources.now.setting.now.goals.now c.args.kept.now.file c.in-Some-file.goals c.file.result c.places.result.now c.in-Some-file.is c.file.ensures.places c.places.ensures.all))
     c.with_mets.ensures
+
+pub returns-in-None : goal.returns-in-None
+returns-in-None c =
+    rw (kept_mets_of _ c.args.sources.now.files.now (goals_of c.args.sources.now.setting.now.goals.now) c.args.kept.now c.in-Some.file.now (goals_in c.args.sources.now.setting.now.goals.now.pool [])
+    (sym c.get.ensures.value ∙ ap option_copied c.in-Some.is)
+    (no_goals c.args.sources.now.setting.now.goals.now c.args.kept.now.file c.file.result c.in-None.is c.file.ensures.places))
+    c.with_mets-in-None.ensures

@@ -1,6 +1,7 @@
 use Rattle.member_rounds.proofs.FormLemmas.{IsLookedTo}
+use Rattle.goal_table.specs.Table.{goals_in}
 use Rattle.link_files.specs.Later.{is_kept_later}
 use Rattle.link_files.proofs.later.any_later.Given as goal
 
 abbrev pub invariant-loop-at : goal.invariant-loop-at
-invariant-loop-at l = IsLookedTo (is_kept_later l.keys l.goals) l.refs l.at
+invariant-loop-at l = IsLookedTo (is_kept_later l.keys (goals_in l.goals.pool l.goals.places)) l.refs l.at

@@ -1,8 +1,12 @@
-use Rattle.std.proofs.Common.{◌≡◌, ℕ, ◌+◌, ◌*◌, ◌-◌, ◌/◌, ◌%◌, ◌<◌, ◌^◌, ◌≤◌, List, length, min, take, drop, sym, ap, ◌∙◌, subst, arith, le_trans, lit<}
+use Rattle.std.proofs.Common.{refl, All, ◌≡◌, ℕ, ◌+◌, ◌*◌, ◌-◌, ◌/◌, ◌%◌, ◌<◌, ◌^◌, ◌≤◌, List, length, min, take, drop, sym, ap, ◌∙◌, subst, arith, le_trans, lit<}
 use Rattle.std.proofs.Math.Nat.{min_comm, mul-le-mul_right}
 use Rattle.std.proofs.lemmas.Grind.{div_ceil_times}
 use Rattle.std.proofs.lemmas.List.{length-drop, length-take, take_min, take_rest}
+use Rattle.std.proofs.lemmas.List.Elements.{All-drop, All-take}
+use Rattle.mo_types.specs.Loaded.{IsWholeFile}
 use Rattle.mo_types.specs.declared.loaded.LoadedFile.{LoadedFile}
+use Rattle.name_ids.specs.Names.{numbers_of}
+use Rattle.member_rounds.proofs.OfferLemmas.{run_numbers}
 use Rattle.member_rounds.proofs.JobLemmas.{IsOfferedTo, runs_end, runs_more}
 use Rattle.member_rounds.proofs.offering.offer_all.Goals as goal
 
@@ -14,6 +18,18 @@ part_is files n m k is =
 
 all_past : (len runs run m : ℕ) → 0 < m → runs ≡ len / m + min 1 (len % m) → runs ≤ run → len ≤ run * m
 all_past len runs run m some is past = le_trans (div_ceil_times len m some).0 (subst (λ (r : ℕ). r * m ≤ run * m) is (mul-le-mul_right m past))
+
+pub offer_run-requires-clause-files : goal.offer_run-requires-clause-files
+offer_run-requires-clause-files g c κs within =
+    let are : c.as_slice-numbers.result.now ≡ numbers_of c.args.names.now c.as_slice-files.result.now = c.as_slice-numbers.ensures ∙ c.requires.numbers ∙ ap (numbers_of c.args.names.now) (sym c.as_slice-files.ensures) in
+    let all_whole : All IsWholeFile c.as_slice-files.result.now = subst (λ (files : List LoadedFile). All IsWholeFile files) (sym c.as_slice-files.ensures) c.requires.whole.files in
+    record {
+      words = c.requires.words;
+      whole = All-take IsWholeFile c.min.result (take (length c.as_slice-files.result.now - c.loop-run.run * 2 ^ 30) (drop (c.loop-run.run * 2 ^ 30) c.as_slice-files.result.now))
+          (All-take IsWholeFile (length c.as_slice-files.result.now - c.loop-run.run * 2 ^ 30) (drop (c.loop-run.run * 2 ^ 30) c.as_slice-files.result.now) (All-drop IsWholeFile (c.loop-run.run * 2 ^ 30) c.as_slice-files.result.now all_whole));
+      numbers = run_numbers c.args.names.now c.as_slice-numbers.result.now c.part-their.result.now c.as_slice-files.result.now
+          (take c.min.result (take (length c.as_slice-files.result.now - c.loop-run.run * 2 ^ 30) (drop (c.loop-run.run * 2 ^ 30) c.as_slice-files.result.now))) (c.loop-run.run * 2 ^ 30) c.min.result are refl c.part-their.ensures;
+    }
 
 pub loop-run-preserved : goal.loop-run-preserved
 loop-run-preserved g c =

@@ -8,6 +8,6 @@ use Rattle.resolve.proofs.choosing.index_of.Goals as goal
 
 pub loop-i-preserved : goal.loop-i-preserved
 loop-i-preserved c =
-    index_step c.args.chosen.now c.loop-i.index c.in_ok-index.index c.loop-i.i c.index-chosen-i.result c.loop-i.invariant c.loop-i-test.true
+    index_step c.args.chosen.now c.loop-i.index c.in_ok-index-2.index c.loop-i.i c.index-chosen-i.result c.loop-i.invariant c.loop-i-test.true
     (λ d. c.index-chosen-i.is ∙ get_or_default c.args.chosen.now c.loop-i.i c.index-chosen-i.result d c.loop-i-test.true)
-    (λ other. c.in_ok-index.ensures other ∙ ap (λ n. if bytes_eq n other then Some c.loop-i.i else known c.loop-i.index other) c.as_slice.ensures)
+    (λ other. c.in_ok-index-2.ensures other ∙ ap (λ n. if bytes_eq n other then Some c.loop-i.i else known c.loop-i.index other) c.as_slice.ensures)

@@ -1,7 +1,13 @@
+use Rattle.std.proofs.Common.{◌≡◌, ℕ, List}
+use Rattle.name_ids.specs.Names.{numbers_in}
 use Rattle.resolve.specs.Found.{found_in}
+use Rattle.resolve.specs.inner.Numbers.{AreNumbered}
 use Rattle.resolve.specs.inner.Tables.{held}
 use Rattle.resolve.proofs.FoundLemmas.{IsAdding, from}
 use Rattle.resolve.proofs.found.add_file.Given as goal
 
 abbrev pub invariant-loop-i : goal.invariant-loop-i
-invariant-loop-i l = IsAdding (held l.fn.before.items) (held l.found.items) (found_in l.file) (from l.file l.i)
+invariant-loop-i l = record {
+  adding : IsAdding (held l.fn.before.items) (held l.found.items) (found_in l.file) (from l.file l.i);
+  numbered : (names : List (List ℕ)) → AreNumbered names l.fn.before.items → l.numbers ≡ numbers_in names l.file → AreNumbered names l.found.items;
+}

@@ -1,8 +1,13 @@
-use Rattle.std.proofs.Common.{[], drop}
+use Rattle.std.proofs.Common.{◌≡◌, ℕ, List, [], drop}
+use Rattle.name_ids.specs.Names.{numbers_of}
 use Rattle.resolve.specs.Found.{found}
+use Rattle.resolve.specs.inner.Numbers.{AreNumbered}
 use Rattle.resolve.specs.inner.Tables.{held}
 use Rattle.resolve.proofs.FoundLemmas.{IsAdding}
 use Rattle.resolve.proofs.found.candidates.Given as goal
 
-abbrev pub invariant-loop-file : goal.invariant-loop-file
-invariant-loop-file l = IsAdding [] (held l.found.items) (found l.files) (found (drop l.file-index l.files))
+abbrev pub invariant-loop-i : goal.invariant-loop-i
+invariant-loop-i l = record {
+  adding : IsAdding [] (held l.found.items) (found l.files) (found (drop l.i l.files));
+  numbered : (names : List (List ℕ)) → l.numbers ≡ numbers_of names l.files → AreNumbered names l.found.items;
+}

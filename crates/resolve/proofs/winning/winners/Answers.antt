@@ -12,14 +12,18 @@ use Rattle.resolve.proofs.winning.winners.Goals as goal
 
 pub bests_of-requires-clause-candidates : goal.bests_of-requires-clause-candidates
 bests_of-requires-clause-candidates c =
-    candidates_are c.args.loaded.now.files c.as_slice.result.now c.requires.whole.files (ap held c.as_slice.ensures.value ∙ c.in_ok-found.ensures ∙ ap found c.as_slice-files.ensures)
+    candidates_are c.args.loaded.now.files c.as_slice.result.now c.requires.whole.files (ap held c.as_slice.ensures.value ∙ c.in_ok-found.ensures.found ∙ ap found c.as_slice-files.ensures)
+
+pub bests_of-requires-clause-numbered : goal.bests_of-requires-clause-numbered
+bests_of-requires-clause-numbered c =
+    rw c.as_slice.ensures.value (c.in_ok-found.ensures.numbered c.args.names.now (rw c.as_slice-files.ensures c.requires.numbers))
 
 pub winners_of-requires : goal.winners_of-requires
 winners_of-requires c =
     rw c.as_slice-3.ensures.value
     (chosen_stand c.args.loaded.now.files c.args.names.now c.as_slice.result.now c.in_ok-chosen.chosen.items
-    (all_those c.args.loaded.now.files c.as_slice-files.result.now c.args.names.now c.in_ok-found.found.items c.as_slice.result.now c.in_ok-table.table.items c.as_slice-2.result.now c.in_ok-chosen.chosen.items c.requires.named c.as_slice-files.ensures c.as_slice.ensures.value c.in_ok-found.ensures (c.in_ok-table.ensures.bests c.args.loaded.now.files c.requires.words) c.as_slice-2.ensures.value c.in_ok-chosen.ensures.permutation)
-    (candidates_are c.args.loaded.now.files c.as_slice.result.now c.requires.whole.files (ap held c.as_slice.ensures.value ∙ c.in_ok-found.ensures ∙ ap found c.as_slice-files.ensures)))
+    (all_those c.args.loaded.now.files c.as_slice-files.result.now c.args.names.now c.in_ok-found.found.items c.as_slice.result.now c.in_ok-table.table.items c.as_slice-2.result.now c.in_ok-chosen.chosen.items c.requires.named c.as_slice-files.ensures c.as_slice.ensures.value c.in_ok-found.ensures.found (c.in_ok-table.ensures.bests c.args.loaded.now.files c.requires.words) c.as_slice-2.ensures.value c.in_ok-chosen.ensures.permutation)
+    (candidates_are c.args.loaded.now.files c.as_slice.result.now c.requires.whole.files (ap held c.as_slice.ensures.value ∙ c.in_ok-found.ensures.found ∙ ap found c.as_slice-files.ensures)))
 
 pub of_lists-requires : goal.of_lists-requires
 of_lists-requires c =
@@ -27,7 +31,7 @@ of_lists-requires c =
     record {
       order = rw c.in_ok-literals.ensures (in_order c.args.loaded.now c.requires.whole);
       leads = indexed c.args.command.now c.args.loaded.now.files c.args.names.now c.as_slice.result.now c.in_ok-chosen.chosen.items c.in_ok-list.list.items c.in_ok-index.index
-          (all_those c.args.loaded.now.files c.as_slice-files.result.now c.args.names.now c.in_ok-found.found.items c.as_slice.result.now c.in_ok-table.table.items c.as_slice-2.result.now c.in_ok-chosen.chosen.items c.requires.named c.as_slice-files.ensures c.as_slice.ensures.value c.in_ok-found.ensures (c.in_ok-table.ensures.bests c.args.loaded.now.files c.requires.words) c.as_slice-2.ensures.value c.in_ok-chosen.ensures.permutation)
+          (all_those c.args.loaded.now.files c.as_slice-files.result.now c.args.names.now c.in_ok-found.found.items c.as_slice.result.now c.in_ok-table.table.items c.as_slice-2.result.now c.in_ok-chosen.chosen.items c.requires.named c.as_slice-files.ensures c.as_slice.ensures.value c.in_ok-found.ensures.found (c.in_ok-table.ensures.bests c.args.loaded.now.files c.requires.words) c.as_slice-2.ensures.value c.in_ok-chosen.ensures.permutation)
           (c.in_ok-list.ensures c.args.command.now c.in_ok-rules.ensures ∙ ap (map (winner_chosen c.args.command.now)) c.as_slice-3.ensures.value)
           (rw c.as_slice-4.ensures.value at c.in_ok-index.ensures);
     }
@@ -38,7 +42,7 @@ returns c =
     record {
       winners = rw c.from_vec.ensures
           (winners_are c.args.command.now c.args.loaded.now.files c.args.names.now c.as_slice.result.now c.in_ok-chosen.chosen.items c.in_ok-list.list.items
-          (all_those c.args.loaded.now.files c.as_slice-files.result.now c.args.names.now c.in_ok-found.found.items c.as_slice.result.now c.in_ok-table.table.items c.as_slice-2.result.now c.in_ok-chosen.chosen.items c.requires.named c.as_slice-files.ensures c.as_slice.ensures.value c.in_ok-found.ensures (c.in_ok-table.ensures.bests c.args.loaded.now.files c.requires.words) c.as_slice-2.ensures.value c.in_ok-chosen.ensures.permutation)
+          (all_those c.args.loaded.now.files c.as_slice-files.result.now c.args.names.now c.in_ok-found.found.items c.as_slice.result.now c.in_ok-table.table.items c.as_slice-2.result.now c.in_ok-chosen.chosen.items c.requires.named c.as_slice-files.ensures c.as_slice.ensures.value c.in_ok-found.ensures.found (c.in_ok-table.ensures.bests c.args.loaded.now.files c.requires.words) c.as_slice-2.ensures.value c.in_ok-chosen.ensures.permutation)
           c.in_ok-table.ensures.numbering.distinct c.in_ok-chosen.ensures.sorted
           (c.in_ok-list.ensures c.args.command.now c.in_ok-rules.ensures ∙ ap (map (winner_chosen c.args.command.now)) c.as_slice-3.ensures.value));
       literals = c.in_ok-literals.ensures;

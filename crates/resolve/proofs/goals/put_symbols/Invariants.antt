@@ -1,0 +1,5 @@
+use Rattle.resolve.proofs.PoolLemmas.{ArePut}
+use Rattle.resolve.proofs.goals.put_symbols.Given as goal
+
+abbrev pub invariant-loop-index : goal.invariant-loop-index
+invariant-loop-index l = ArePut l.loaded.files l.libs l.command l.file l.fn.pool.items l.pool.items l.index l.places.items
