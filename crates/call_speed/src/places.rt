@@ -3,7 +3,7 @@ use crate::given::{areas_of, command, kept_of, loaded_of};
 use crate::order::{areas_rise, atoms_are_low, atoms_rise, files_rise, sections_are_low};
 use anyhow::{Result, bail};
 use mo_cmd::Command;
-use mo_types::{Atom, AtomList, Loaded, OutSections};
+use mo_types::{Atom, AtomKey, AtomList, Loaded, OutSections};
 use sect_place::{
     AreaList, IslandPlan, IslandShifts, Layout, PlaceSizes, WayList, address, address_with,
     out_sections, place,
@@ -93,34 +93,41 @@ fn layout_of(rt: &HostRuntime, kept: &AtomList, sections: &OutSections) -> Resul
     laid(rt, kept, sections, &islands, &command)
 }
 
-// The sum of a million addresses.
-fn asked(rt: &HostRuntime, layout: &Layout, atoms: &[Atom]) -> Result<u64> {
-    let start = Instant::now(rt)?;
-    let mut sum = 0u64;
+// A million atoms in no order. They are listed before their addresses are asked for, since reading them costs a look at
+// memory of its own.
+fn asked_for(rt: &HostRuntime, atoms: &[Atom]) -> Result<Vec<AtomKey>> {
+    let mut keys = Vec::with_capacity(rt.alloc(), LOOK_UPS as usize)?;
     for number in 0..LOOK_UPS {
         let at = number * 7919 % (atoms.len() as u64).max(1);
         if let Some(atom) = atoms.get(at as usize) {
-            sum = sum.wrapping_add(address(layout, atom.key).unwrap_or(0));
+            keys.push(atom.key)?;
         }
+    }
+    Ok(keys)
+}
+
+// The sum of some addresses.
+fn asked(rt: &HostRuntime, layout: &Layout, keys: &[AtomKey]) -> Result<u64> {
+    let start = Instant::now(rt)?;
+    let mut sum = 0u64;
+    for key in keys {
+        sum = sum.wrapping_add(address(layout, *key).unwrap_or(0));
     }
     tell(rt, start)?;
     Ok(sum)
 }
 
-// The sum of a million addresses with islands.
+// The sum of some addresses with islands.
 fn asked_with(
     rt: &HostRuntime,
     layout: &Layout,
     shifts: &IslandShifts,
-    atoms: &[Atom],
+    keys: &[AtomKey],
 ) -> Result<u64> {
     let start = Instant::now(rt)?;
     let mut sum = 0u64;
-    for number in 0..LOOK_UPS {
-        let at = number * 7919 % (atoms.len() as u64).max(1);
-        if let Some(atom) = atoms.get(at as usize) {
-            sum = sum.wrapping_add(address_with(layout, shifts, atom.key).unwrap_or(0));
-        }
+    for key in keys {
+        sum = sum.wrapping_add(address_with(layout, shifts, *key).unwrap_or(0));
     }
     tell(rt, start)?;
     Ok(sum)
@@ -147,9 +154,10 @@ fn shifts_of(rt: &HostRuntime, layout: &Layout, files: u16) -> Result<IslandShif
 
 // Asks for the addresses of a layout.
 fn ask(rt: &HostRuntime, layout: &Layout, files: u16, atoms: &[Atom]) -> Result<()> {
-    let sum = asked(rt, layout, atoms)?;
+    let keys = asked_for(rt, atoms)?;
+    let sum = asked(rt, layout, keys.as_slice())?;
     let shifts = shifts_of(rt, layout, files)?;
-    let moved = asked_with(rt, layout, &shifts, atoms)?;
+    let moved = asked_with(rt, layout, &shifts, keys.as_slice())?;
     println!(rt; "{sum} {moved}")?;
     Ok(())
 }
