@@ -1,6 +1,6 @@
 //! The index of offers by name.
 
-ghost use Rattle.std.specs.Prelude.{◌≡◌, ◌+◌, ◌^◌, ◌<◌, ◌≤◌, List, length, All, IfNone, IfOk, IfSome, OnOk, drop, slice_set, slice_index_or, true};
+ghost use Rattle.std.specs.Prelude.{◌≡◌, ℕ, ◌+◌, ◌^◌, ◌<◌, ◌≤◌, List, length, All, IfNone, IfOk, IfSome, OnOk, drop, slice_set, slice_index, slice_index_or, true};
 ghost use Rattle.std.specs.Str.{bytes_eq};
 ghost use Rattle.mo_ar.specs.inner.Index as index;
 ghost use Rattle.mo_ar.specs.inner.Hash.{AreMarks};
@@ -35,6 +35,9 @@ pub struct Index {
 
 // A bucket with more names than so many is long: as good as none is, unless the names were chosen to have one hash.
 const LONG_BUCKET: usize = 64;
+
+// So many heads of buckets are read at once.
+const AHEAD: usize = 64;
 
 // The bucket of a name, of some buckets.
 #[tactic(auto, unfolding(crate::specs::inner::Index::bucket))]
@@ -180,7 +183,27 @@ fn buckets_of(
     Ok(buckets)
 }
 
-// Puts the offer at an index into the index of those behind it, and says whether the bucket of its name is long.
+// The greatest head of the buckets whose turn comes next: those of 64 are read at once, so that the waits for
+// memory overlap.
+fn ahead(heads: &[u32], buckets: &[u32], at: usize) -> u32
+    requires buckets { (k : ℕ) → k < length buckets.now → slice_index buckets.now k < length heads.now }
+    requires place { at ≤ length buckets.now }
+    ensures { (bound : ℕ) → ((b : ℕ) → b < length heads.now → slice_index heads.now b ≤ bound) → result ≤ bound }
+{
+    let mut greatest = 0;
+    if at % AHEAD == 0 {
+        for i in at.saturating_sub(AHEAD)..at {
+            let head = heads[buckets[i] as usize];
+            if greatest < head {
+                greatest = head;
+            }
+        }
+    }
+    greatest
+}
+
+// Puts the offer at an index into the index of those behind it, and says whether the bucket of its name is long. The greatest
+// of the heads that were read ahead is no greater than a new one; it is used here, so that they are read at all.
 fn put(
     strings: &[u8],
     order: &[Entry],
@@ -188,6 +211,7 @@ fn put(
     buckets: &[u32],
     heads: &mut [u32],
     nodes: &mut Vec<Node>,
+    greatest: u32,
     at: usize,
 ) -> Result<bool, OutOfMemory>
     requires entries { All (IsEntry strings.now) entries.now }
@@ -196,6 +220,7 @@ fn put(
     requires many { length buckets.now ≡ length entries.now }
     requires place { at < length entries.now }
     requires few { length nodes.old.items + 1 < 2 ^ 32 }
+    requires greatest { greatest ≤ length nodes.old.items }
     requires index { IsIndex strings.now order.now (drop (at + 1) (offers_of strings.now entries.now)) heads.old nodes.old.items }
     ensures index { OnOk result (IsIndex strings.now order.now (drop at (offers_of strings.now entries.now)) heads.new nodes.new.items) }
     ensures few { OnOk result (length nodes.new.items ≤ length nodes.old.items + 1) }
@@ -222,7 +247,7 @@ fn put(
         None => {
             let long = is_long(nodes.as_slice(), head as usize);
             nodes.push(Node { entry, next: head })?;
-            heads[b] = nodes.len() as u32;
+            heads[b] = (nodes.len() as u32).max(greatest);
             Ok(long)
         }
     }
@@ -249,6 +274,7 @@ fn built(
     let mut nodes = Vec::with_capacity(alloc, entries.len())?;
     let mut at = entries.len();
     while at > 0 {
+        let greatest = ahead(heads.as_slice(), buckets.as_slice(), at);
         at -= 1;
         let long = put(
             strings,
@@ -257,6 +283,7 @@ fn built(
             buckets.as_slice(),
             heads.as_mut_slice(),
             &mut nodes,
+            greatest,
             at,
         )?;
         if short && long {

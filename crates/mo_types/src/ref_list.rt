@@ -105,6 +105,7 @@ impl RefList {
 
     /// The reference at a place, or `None` exactly where the list ends before it.
     #[tactic(auto, using(crate::proofs::RefRowLemmas::gets))]
+    #[inline(always)]
     pub fn get(&self, at: usize) -> Option<Ref>
         ensures value { result ≡ slice_get self.now at }
         ensures within { OnSome result (at < length self.now) }

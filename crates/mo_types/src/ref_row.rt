@@ -75,6 +75,7 @@ pub fn row_of(file: FileId, reference: &Ref) -> Option<Row>
     row_at(spot_of(reference)?, reference.target, reference.minus)
 }
 
+#[inline(always)]
 fn ref_at(file: FileId, spot: Spot, target: Target, minus: Option<Target>) -> Ref
     ensures { result ≡ rows.ref_at file spot target minus }
 {
@@ -95,6 +96,7 @@ fn ref_at(file: FileId, spot: Spot, target: Target, minus: Option<Target>) -> Re
 
 /// The reference of a row.
 #[tactic(auto, unfolding(crate::specs::inner::RefRows::ref_of))]
+#[inline(always)]
 pub fn ref_of(file: FileId, others: &[Ref], row: Row) -> Ref
     requires { rows.IsRowWithin (length others.now) row }
     ensures { result ≡ rows.ref_of file others.now row }

@@ -1,4 +1,4 @@
-use Rattle.std.proofs.Common.{◌≡◌, List, arith, get_or, length, rules, ℕ, ap, subst, ◌∙◌}
+use Rattle.std.proofs.Common.{◌≡◌, ◌<◌, ◌≤◌, List, arith, get_or, length, rules, ℕ, ap, subst, sym, ◌∙◌}
 use Rattle.std.proofs.lemmas.List.{get_or-replicate}
 use Rattle.mo_ar.specs.declared.offers.Entry.{Entry}
 use Rattle.mo_ar.specs.inner.Index.{AreBuckets, offers_of}
@@ -21,3 +21,8 @@ loop-at-init c = record {
   within = omega arith;
   few = omega (arith, ap length c.in_ok-nodes.ensures.items);
 }
+
+pub put-requires-clause-greatest : goal.put-requires-clause-greatest
+put-requires-clause-greatest c =
+    c.ahead-greatest.ensures (length c.loop-at.nodes.items)
+    (subst (λ (heads : List ℕ). (b : ℕ) → b < length heads → get_or heads b 0 ≤ length c.loop-at.nodes.items) (sym c.as_slice-in-loop-at.ensures.value) (λ b low. (c.loop-at.invariant.index.chained.heads_are b low).within))
