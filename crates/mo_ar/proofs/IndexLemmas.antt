@@ -54,26 +54,29 @@ new_element xs x k d is =
 
 -- ---- the buckets of the entries
 
-pub buckets_start : (strings : List ℕ) (order : List Entry) (m : ℕ) (entries : List Entry) (buckets : List ℕ) → buckets ≡ [] → AreBuckets strings order m entries buckets
-buckets_start strings order m entries buckets none = rw none (record { each = λ k d low. absurd (omega arith); within = λ k low. absurd (omega arith) })
+pub buckets_start : (strings : List ℕ) (order : List Entry) (m : ℕ) (entries : List Entry) (from : ℕ) (buckets : List ℕ) → buckets ≡ [] → AreBuckets strings order m entries from buckets
+buckets_start strings order m entries from buckets none = rw none (record { each = λ i d low high. absurd (omega arith); within = λ k low. absurd (omega arith) })
 
-pub buckets_go_on : (strings : List ℕ) (order : List Entry) (m : ℕ) (entries : List Entry) (buckets new : List ℕ) (i b : ℕ) (e : Entry) → AreBuckets strings order m entries buckets → length buckets ≡ i → i < length entries → b ≡ bucket strings order m (part strings (get_or entries i e).at (get_or entries i e).size) → b < m → new ≡ buckets ++ b ∷ [] → AreBuckets strings order m entries new
-buckets_go_on strings order m entries buckets new i b e are size inside is low pushed = rw pushed (record {
-  each = λ k d less. elim (cases_eq k (length buckets)) [
+pub buckets_go_on : (strings : List ℕ) (order : List Entry) (m : ℕ) (entries : List Entry) (from : ℕ) (buckets new : List ℕ) (i b : ℕ) (e : Entry) → AreBuckets strings order m entries from buckets → from + length buckets ≡ i → i < length entries → b ≡ bucket strings order m (part strings (get_or entries i e).at (get_or entries i e).size) → b < m → new ≡ buckets ++ b ∷ [] → AreBuckets strings order m entries from new
+buckets_go_on strings order m entries from buckets new i b e are size inside is low pushed = rw pushed (record {
+  each = λ k d above below. elim (cases_eq k i) [
     | inl last ↦
-        let here : k ≡ i = last ∙ size in
-        new_element buckets b k 0 last ∙ is
-        ∙ ap (λ (entry : Entry). bucket strings order m (part strings entry.at entry.size)) (any_default entries i e d inside ∙ ap (λ (j : ℕ). get_or entries j d) (sym here))
-    | inr apart ↦ old_element buckets b k 0 (before k less apart) ∙ are.each k d (before k less apart)
+        new_element buckets b (k - from) 0 (omega (arith, last, size)) ∙ is
+        ∙ ap (λ (entry : Entry). bucket strings order m (part strings entry.at entry.size)) (any_default entries i e d inside ∙ ap (λ (j : ℕ). get_or entries j d) (sym last))
+    | inr apart ↦
+        let before : k < from + length buckets = omega (arith, many, above, below, apart, size) in
+        old_element buckets b (k - from) 0 (omega (arith, above, before)) ∙ are.each k d above before
   ];
   within = λ k less. elim (cases_eq k (length buckets)) [
     | inl last ↦ subst (λ (n : ℕ). n < m) (sym (new_element buckets b k 0 last)) low
-    | inr apart ↦ subst (λ (n : ℕ). n < m) (sym (old_element buckets b k 0 (before k less apart))) (are.within k (before k less apart))
+    | inr apart ↦
+        let before : k < length buckets = omega (arith, many, less, apart) in
+        subst (λ (n : ℕ). n < m) (sym (old_element buckets b k 0 before)) (are.within k before)
   ];
 })
   where
-    before : (k : ℕ) → k < length (buckets ++ b ∷ []) → (k ≡ length buckets → ⊥) → k < length buckets
-    before k less apart = let many : length (buckets ++ b ∷ []) ≡ length buckets + 1 = length-append buckets (b ∷ []) in omega arith
+    many : length (buckets ++ b ∷ []) ≡ length buckets + 1
+    many = length-append buckets (b ∷ [])
 
 -- ---- the search along a bucket
 

@@ -8,6 +8,7 @@ ghost use Rattle.mo_ar.specs.inner.Index.{AreBuckets, AreChained, AreNexts, AreN
 ghost use Rattle.mo_ar.specs.Offers.{first_offer};
 ghost use Rattle.mo_ar.specs.Text.{part};
 ghost use Rattle.mo_ar.specs.declared.index.Node.{Node};
+ghost use Rattle.mo_ar.specs.declared.offers.Entry.{Entry};
 ghost use Rattle.mo_ar.specs.declared.offers.Offer.{Offer};
 
 use crate::hash::{LONG, hash, hash_at, marks_of};
@@ -38,6 +39,9 @@ const LONG_BUCKET: usize = 64;
 
 // So many heads of buckets are read at once.
 const AHEAD: usize = 64;
+
+// The buckets of so many entries are listed at once.
+const PIECE: usize = 256;
 
 // The bucket of a name, of some buckets.
 #[tactic(auto, unfolding(crate::specs::inner::Index::bucket))]
@@ -155,27 +159,33 @@ fn bucket_count(names: usize) -> usize
     (2 * names + 1).min(1 << 32)
 }
 
-// The buckets of the entries' names, of some buckets: before any is looked up, since each look-up waits for memory. Hashes
-// of long names need marks, which are made at the first such name.
+// The buckets of the names of some of the entries, of some buckets: before any is looked up, since each look-up waits for
+// memory. Hashes of long names need marks, which are made at the first such name.
 fn buckets_of(
     alloc: Global,
     strings: &[u8],
     order: &[Entry],
     entries: &[Entry],
+    marks: &mut Vec<u64>,
     count: usize,
+    from: usize,
+    to: usize,
 ) -> Result<Vec<u32>, OutOfMemory>
     requires some { 0 < count }
     requires few { count ≤ 2 ^ 32 }
+    requires places { from ≤ to }
+    requires within { to ≤ length entries.now }
     requires entries { All (IsEntry strings.now) entries.now }
     requires order { All (IsEntry strings.now) order.now }
-    ensures buckets { IfOk result (λ buckets. AreBuckets strings.now order.now count entries.now buckets.items) }
-    ensures len { IfOk result (λ buckets. length buckets.items ≡ length entries.now) }
+    requires marks { AreMarks strings.now marks.old.items }
+    ensures buckets { IfOk result (λ buckets. AreBuckets strings.now order.now count entries.now from buckets.items) }
+    ensures len { IfOk result (λ buckets. from + length buckets.items ≡ to) }
+    ensures marks { OnOk result (AreMarks strings.now marks.new.items) }
 {
-    let mut marks = Vec::new(alloc);
-    let mut buckets = Vec::with_capacity(alloc, entries.len())?;
-    for i in 0..entries.len() {
+    let mut buckets = Vec::with_capacity(alloc, to - from)?;
+    for i in from..to {
         if entries[i].size as usize > LONG && marks.is_empty() {
-            marks = marks_of(alloc, strings)?;
+            *marks = marks_of(alloc, strings)?;
         }
         let b = bucket_at(strings, order, marks.as_slice(), entries[i], count);
         buckets.push_reserved(b as u32);
@@ -202,23 +212,24 @@ fn ahead(heads: &[u32], buckets: &[u32], at: usize) -> u32
     greatest
 }
 
-// Puts the offer at an index into the index of those behind it, and says whether the bucket of its name is long. The greatest
-// of the heads that were read ahead is no greater than a new one; it is used here, so that they are read at all.
+// Puts the offer at an index, whose name has a known bucket, into the index of those behind it, and says whether that bucket
+// is long. The greatest of the heads that were read ahead is no greater than a new one; it is used here, so that they are
+// read at all.
 fn put(
     strings: &[u8],
     order: &[Entry],
     entries: &[Entry],
-    buckets: &[u32],
     heads: &mut [u32],
     nodes: &mut Vec<Node>,
+    b: usize,
     greatest: u32,
     at: usize,
 ) -> Result<bool, OutOfMemory>
     requires entries { All (IsEntry strings.now) entries.now }
     requires order { All (IsEntry strings.now) order.now }
-    requires buckets { AreBuckets strings.now order.now (length heads.old) entries.now buckets.now }
-    requires many { length buckets.now ≡ length entries.now }
     requires place { at < length entries.now }
+    requires bucket { (d : Entry) → b ≡ index.bucket strings.now order.now (length heads.old) (part strings.now (slice_index_or entries.now at d).at (slice_index_or entries.now at d).size) }
+    requires inside { b < length heads.old }
     requires few { length nodes.old.items + 1 < 2 ^ 32 }
     requires greatest { greatest ≤ length nodes.old.items }
     requires index { IsIndex strings.now order.now (drop (at + 1) (offers_of strings.now entries.now)) heads.old nodes.old.items }
@@ -229,7 +240,6 @@ fn put(
     let entry = entries[at];
     let name = name_of(strings, entry);
     let count = heads.len();
-    let b = buckets[at] as usize;
     let head = heads[b];
     match find(
         strings,
@@ -253,6 +263,82 @@ fn put(
     }
 }
 
+// Puts the offers from one index up to another, from the last to the first, and says whether a bucket of theirs is long.
+fn put_each(
+    strings: &[u8],
+    order: &[Entry],
+    entries: &[Entry],
+    buckets: &[u32],
+    heads: &mut [u32],
+    nodes: &mut Vec<Node>,
+    from: usize,
+    to: usize,
+) -> Result<bool, OutOfMemory>
+    requires entries { All (IsEntry strings.now) entries.now }
+    requires order { All (IsEntry strings.now) order.now }
+    requires buckets { AreBuckets strings.now order.now (length heads.old) entries.now from buckets.now }
+    requires many { from + length buckets.now ≡ to }
+    requires within { to ≤ length entries.now }
+    requires offers { length entries.now < 2 ^ 32 }
+    requires few { length nodes.old.items + to ≤ length entries.now }
+    requires index { IsIndex strings.now order.now (drop to (offers_of strings.now entries.now)) heads.old nodes.old.items }
+    ensures index { OnOk result (IsIndex strings.now order.now (drop from (offers_of strings.now entries.now)) heads.new nodes.new.items) }
+    ensures few { OnOk result (length nodes.new.items + from ≤ length entries.now) }
+    ensures len { length heads.new ≡ length heads.old }
+{
+    let mut long = false;
+    let mut at = to;
+    while at > from {
+        let greatest = ahead(heads, buckets, at - from);
+        at -= 1;
+        let b = buckets[at - from] as usize;
+        if put(strings, order, entries, heads, nodes, b, greatest, at)? {
+            long = true;
+        }
+    }
+    Ok(long)
+}
+
+// The same, with their buckets.
+fn put_piece(
+    alloc: Global,
+    strings: &[u8],
+    order: &[Entry],
+    entries: &[Entry],
+    marks: &mut Vec<u64>,
+    heads: &mut [u32],
+    nodes: &mut Vec<Node>,
+    from: usize,
+    to: usize,
+) -> Result<bool, OutOfMemory>
+    requires entries { All (IsEntry strings.now) entries.now }
+    requires order { All (IsEntry strings.now) order.now }
+    requires marks { AreMarks strings.now marks.old.items }
+    requires buckets { length heads.old ≤ 2 ^ 32 }
+    requires places { from ≤ to }
+    requires within { to ≤ length entries.now }
+    requires offers { length entries.now < 2 ^ 32 }
+    requires few { length nodes.old.items + to ≤ length entries.now }
+    requires index { IsIndex strings.now order.now (drop to (offers_of strings.now entries.now)) heads.old nodes.old.items }
+    ensures index { OnOk result (IsIndex strings.now order.now (drop from (offers_of strings.now entries.now)) heads.new nodes.new.items) }
+    ensures few { OnOk result (length nodes.new.items + from ≤ length entries.now) }
+    ensures len { length heads.new ≡ length heads.old }
+    ensures marks { OnOk result (AreMarks strings.now marks.new.items) }
+{
+    let count = heads.len();
+    let buckets = buckets_of(alloc, strings, order, entries, marks, count, from, to)?;
+    put_each(
+        strings,
+        order,
+        entries,
+        buckets.as_slice(),
+        heads,
+        nodes,
+        from,
+        to,
+    )
+}
+
 // The index of some offers by buckets, or `None` if it is to have no long bucket, and would have one.
 #[tactic(auto, using(crate::proofs::IndexLemmas::builds))]
 fn built(
@@ -268,27 +354,27 @@ fn built(
     ensures index { IfOk result (λ index. IfSome index (IsIndexOf strings.now (offers_of strings.now entries.now))) }
     ensures some { IfOk result (λ index. IfNone index (short ≡ true)) }
 {
-    let count = bucket_count(entries.len());
-    let buckets = buckets_of(alloc, strings, order.as_slice(), entries, count)?;
-    let mut heads = vec![in alloc; 0; count]?;
+    let mut marks = Vec::new(alloc);
+    let mut heads = vec![in alloc; 0; bucket_count(entries.len())]?;
     let mut nodes = Vec::with_capacity(alloc, entries.len())?;
-    let mut at = entries.len();
-    while at > 0 {
-        let greatest = ahead(heads.as_slice(), buckets.as_slice(), at);
-        at -= 1;
-        let long = put(
+    let mut to = entries.len();
+    while to > 0 {
+        let from = to.saturating_sub(PIECE);
+        let long = put_piece(
+            alloc,
             strings,
             order.as_slice(),
             entries,
-            buckets.as_slice(),
+            &mut marks,
             heads.as_mut_slice(),
             &mut nodes,
-            greatest,
-            at,
+            from,
+            to,
         )?;
         if short && long {
             return Ok(None);
         }
+        to = from;
     }
     Ok(Some(Index {
         order,

@@ -29,9 +29,9 @@ unfoldable pub bucket : List ℕ → List Entry → ℕ → List ℕ → ℕ
 bucket strings [] m name = hash name / 2 ^ 32 % m
 bucket strings (entry ∷ order) m name = rank strings (entry ∷ order) name % m
 
--- the buckets of the first entries' names, of m buckets
-pub record AreBuckets (strings : List ℕ) (order : List Entry) (m : ℕ) (entries : List Entry) (buckets : List ℕ) : Type 0 where
-  pub each : (k : ℕ) (d : Entry) → k < length buckets → slice_index buckets k ≡ bucket strings order m (part strings (slice_index_or entries k d).at (slice_index_or entries k d).size)
+-- the buckets of the names of the entries from an index on, of m buckets
+pub record AreBuckets (strings : List ℕ) (order : List Entry) (m : ℕ) (entries : List Entry) (from : ℕ) (buckets : List ℕ) : Type 0 where
+  pub each : (i : ℕ) (d : Entry) → from ≤ i → i < from + length buckets → slice_index buckets (i - from) ≡ bucket strings order m (part strings (slice_index_or entries i d).at (slice_index_or entries i d).size)
   pub within : (k : ℕ) → k < length buckets → slice_index buckets k < m
 
 -- a name that stands at a place, if it is known to stand somewhere

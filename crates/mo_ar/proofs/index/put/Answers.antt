@@ -1,5 +1,5 @@
 -- The offer's name has a node already, or gets one in front of its bucket.
-use Rattle.std.proofs.Common.{◌<◌, All, List, ap, arith, get_or, length, refl, subst, sym, ◌∙◌}
+use Rattle.std.proofs.Common.{All, List, ap, arith, length, refl, subst, sym, ◌∙◌}
 use Rattle.std.proofs.Math.ListN.{set}
 use Rattle.mo_ar.specs.declared.index.Node.{Node}
 use Rattle.mo_ar.specs.inner.Index.{IsNodeOf, IsOther, bucket}
@@ -15,10 +15,9 @@ returns-in-Some-clause-index c =
 
 pub returns-in_ok-push-in-None-clause-index : goal.returns-in_ok-push-in-None-clause-index
 returns-in_ok-push-in-None-clause-index c =
-    let inside : c.args.at < length c.args.buckets.now = omega (arith, c.requires.place, c.requires.many) in
-    put_new c.args.strings.now c.args.order.now c.args.entries.now c.args.heads.now c.name_of-name.result.now _ c.args.nodes.now.items _ c.args.at (get_or c.args.buckets.now c.args.at 0) (record { at = 0; size = 0; member = 0 }) _
+    put_new c.args.strings.now c.args.order.now c.args.entries.now c.args.heads.now c.name_of-name.result.now _ c.args.nodes.now.items _ c.args.at c.args.b (record { at = 0; size = 0; member = 0 }) _
     c.requires.index c.requires.entries c.requires.place c.name_of-name.ensures
-    (c.requires.buckets.each c.args.at (record { at = 0; size = 0; member = 0 }) inside ∙ ap (bucket c.args.strings.now c.args.order.now (length c.args.heads.now)) (sym c.name_of-name.ensures)) (c.requires.buckets.within c.args.at inside)
+    (c.requires.bucket (record { at = 0; size = 0; member = 0 }) ∙ ap (bucket c.args.strings.now c.args.order.now (length c.args.heads.now)) (sym c.name_of-name.ensures)) c.requires.inside
     (subst (λ (nodes : List Node). All (IsOther c.args.strings.now c.name_of-name.result.now) nodes) c.as_slice.ensures.value c.in-None.ensures.none)
     refl c.in_ok-push-in-None.ensures.items
-    (ap (set c.args.heads.now (get_or c.args.buckets.now c.args.at 0)) (omega (arith, c.len.ensures, c.in_ok-push-in-None.ensures.len)))
+    (ap (set c.args.heads.now c.args.b) (omega (arith, c.len.ensures, c.in_ok-push-in-None.ensures.len)))
