@@ -37,11 +37,8 @@ pub struct Index {
 // A bucket with more names than so many is long: as good as none is, unless the names were chosen to have one hash.
 const LONG_BUCKET: usize = 64;
 
-// So many heads of buckets are read at once.
-const AHEAD: usize = 64;
-
-// The buckets of so many entries are listed at once.
-const PIECE: usize = 256;
+// The buckets of so many entries are listed, and their heads read, at once.
+const PIECE: usize = 512;
 
 // The bucket of a name, of some buckets.
 #[tactic(auto, unfolding(crate::specs::inner::Index::bucket))]
@@ -156,7 +153,7 @@ fn bucket_count(names: usize) -> usize
     ensures some { 0 < result }
     ensures few { result ≤ 2 ^ 32 }
 {
-    (2 * names + 1).min(1 << 32)
+    (3 * names + 1).min(1 << 32)
 }
 
 // The buckets of the names of some of the entries, of some buckets: before any is looked up, since each look-up waits for
@@ -193,20 +190,16 @@ fn buckets_of(
     Ok(buckets)
 }
 
-// The greatest head of the buckets whose turn comes next: those of 64 are read at once, so that the waits for
-// memory overlap.
-fn ahead(heads: &[u32], buckets: &[u32], at: usize) -> u32
-    requires buckets { (k : ℕ) → k < length buckets.now → slice_index buckets.now k < length heads.now }
-    requires place { at ≤ length buckets.now }
+// The greatest head of some buckets, whose turn comes next: they are read at once, so that the waits for memory overlap.
+fn ahead(heads: &[u32], buckets: &[u32]) -> u32
+    requires { (k : ℕ) → k < length buckets.now → slice_index buckets.now k < length heads.now }
     ensures { (bound : ℕ) → ((b : ℕ) → b < length heads.now → slice_index heads.now b ≤ bound) → result ≤ bound }
 {
     let mut greatest = 0;
-    if at % AHEAD == 0 {
-        for i in at.saturating_sub(AHEAD)..at {
-            let head = heads[buckets[i] as usize];
-            if greatest < head {
-                greatest = head;
-            }
+    for i in 0..buckets.len() {
+        let head = heads[buckets[i] as usize];
+        if greatest < head {
+            greatest = head;
         }
     }
     greatest
@@ -234,6 +227,7 @@ fn put(
     requires greatest { greatest ≤ length nodes.old.items }
     requires index { IsIndex strings.now order.now (drop (at + 1) (offers_of strings.now entries.now)) heads.old nodes.old.items }
     ensures index { OnOk result (IsIndex strings.now order.now (drop at (offers_of strings.now entries.now)) heads.new nodes.new.items) }
+    ensures more { OnOk result (length nodes.old.items ≤ length nodes.new.items) }
     ensures few { OnOk result (length nodes.new.items ≤ length nodes.old.items + 1) }
     ensures len { length heads.new ≡ length heads.old }
 {
@@ -286,10 +280,10 @@ fn put_each(
     ensures few { OnOk result (length nodes.new.items + from ≤ length entries.now) }
     ensures len { length heads.new ≡ length heads.old }
 {
+    let greatest = ahead(heads, buckets);
     let mut long = false;
     let mut at = to;
     while at > from {
-        let greatest = ahead(heads, buckets, at - from);
         at -= 1;
         let b = buckets[at - from] as usize;
         if put(strings, order, entries, heads, nodes, b, greatest, at)? {

@@ -1,5 +1,12 @@
-use Rattle.std.proofs.Common.{length}
+use Rattle.std.proofs.Common.{arith, length}
 use Rattle.mo_ar.proofs.index.put_each.Goals as goal
 
-pub put-requires-clause-greatest : goal.put-requires-clause-greatest
-put-requires-clause-greatest c = c.ahead-greatest.ensures (length c.loop-at.nodes.items) (λ b low. (c.loop-at.invariant.index.chained.heads_are b low).within)
+pub loop-at-init : goal.loop-at-init
+loop-at-init c = record {
+  index = c.requires.index;
+  buckets = c.requires.buckets;
+  greatest = c.ahead-greatest.ensures (length c.args.nodes.now.items) (λ b low. (c.requires.index.chained.heads_are b low).within);
+  low = omega (arith, c.requires.many);
+  high = omega arith;
+  few = c.requires.few;
+}

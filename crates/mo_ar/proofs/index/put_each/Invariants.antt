@@ -6,6 +6,7 @@ abbrev pub invariant-loop-at : goal.invariant-loop-at
 invariant-loop-at l = record {
   index : IsIndex l.strings l.order (drop l.at (offers_of l.strings l.entries)) l.heads l.nodes.items;
   buckets : AreBuckets l.strings l.order (length l.heads) l.entries l.from l.buckets;
+  greatest : l.greatest ≤ length l.nodes.items;
   low : l.from ≤ l.at;
   high : l.at ≤ l.to;
   few : length l.nodes.items + l.at ≤ length l.entries;
