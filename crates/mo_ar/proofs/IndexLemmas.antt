@@ -8,7 +8,7 @@ use Rattle.std.proofs.Math.ListN.{set, length-set}
 use Rattle.std.proofs.lemmas.Bool.{cases_eq, cases_lt}
 use Rattle.std.proofs.lemmas.Slice.Eq.{bytes_eq-Decides}
 use Rattle.std.specs.Str.{bytes_eq}
-use Rattle.mo_ar.specs.inner.Index.{AreBuckets, AreChained, AreNexts, AreNodes, BeginsAt, IsEntry, IsIndex, IsNodeOf, IsOther, StandsAt, bucket, lowered, node_name, offer_of, offers_of}
+use Rattle.mo_ar.specs.inner.Index.{AreChained, AreNexts, AreNodes, BeginsAt, IsEntry, IsIndex, IsNodeOf, IsOther, StandsAt, bucket, lowered, node_name, offer_of, offers_of}
 use Rattle.mo_ar.specs.Offers.{first_offer, lesser}
 use Rattle.mo_ar.specs.Text.{part}
 use Rattle.mo_ar.specs.declared.index.Node.{Node}
@@ -51,32 +51,6 @@ new_element : {X : Type 0} (xs : List X) (x : X) (k : ℕ) (d : X) → k ≡ len
 new_element xs x k d is =
     let e : k - length xs ≡ 0 = omega arith in
     get_or-append_right xs (x ∷ []) (length xs) k d refl (omega arith) ∙ ap (λ (j : ℕ). get_or (x ∷ []) j d) e
-
--- ---- the buckets of the entries
-
-pub buckets_start : (strings : List ℕ) (order : List Entry) (m : ℕ) (entries : List Entry) (from : ℕ) (buckets : List ℕ) → buckets ≡ [] → AreBuckets strings order m entries from buckets
-buckets_start strings order m entries from buckets none = rw none (record { each = λ i d low high. absurd (omega arith); within = λ k low. absurd (omega arith) })
-
-pub buckets_go_on : (strings : List ℕ) (order : List Entry) (m : ℕ) (entries : List Entry) (from : ℕ) (buckets new : List ℕ) (i b : ℕ) (e : Entry) → AreBuckets strings order m entries from buckets → from + length buckets ≡ i → i < length entries → b ≡ bucket strings order m (part strings (get_or entries i e).at (get_or entries i e).size) → b < m → new ≡ buckets ++ b ∷ [] → AreBuckets strings order m entries from new
-buckets_go_on strings order m entries from buckets new i b e are size inside is low pushed = rw pushed (record {
-  each = λ k d above below. elim (cases_eq k i) [
-    | inl last ↦
-        new_element buckets b (k - from) 0 (omega (arith, last, size)) ∙ is
-        ∙ ap (λ (entry : Entry). bucket strings order m (part strings entry.at entry.size)) (any_default entries i e d inside ∙ ap (λ (j : ℕ). get_or entries j d) (sym last))
-    | inr apart ↦
-        let before : k < from + length buckets = omega (arith, many, above, below, apart, size) in
-        old_element buckets b (k - from) 0 (omega (arith, above, before)) ∙ are.each k d above before
-  ];
-  within = λ k less. elim (cases_eq k (length buckets)) [
-    | inl last ↦ subst (λ (n : ℕ). n < m) (sym (new_element buckets b k 0 last)) low
-    | inr apart ↦
-        let before : k < length buckets = omega (arith, many, less, apart) in
-        subst (λ (n : ℕ). n < m) (sym (old_element buckets b k 0 before)) (are.within k before)
-  ];
-})
-  where
-    many : length (buckets ++ b ∷ []) ≡ length buckets + 1
-    many = length-append buckets (b ∷ [])
 
 -- ---- the search along a bucket
 
