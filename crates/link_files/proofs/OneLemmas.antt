@@ -67,7 +67,7 @@ unless_one None a b P Q p q one = one p q
 
 -- what roots look at
 looked_at : Known → Known
-looked_at known = record { winners = known.winners; literals = known.literals; weak = []; flats = [] }
+looked_at known = record { winners = known.winners; literals = known.literals; weak = []; flats = []; names = [] }
 
 flat_same : {X Y : Type 0} (f g : X → List Y) → ((x : X) → f x ≡ g x) → (xs : List X) → flat_map f xs ≡ flat_map g xs
 flat_same f g same [] = refl
@@ -106,8 +106,8 @@ roots_same : (command : Command) (files : List LoadedFile) (a b : Known) → Are
 unfolding looked_at
 roots_same command files a b p q =
     roots_looked command a files
-    ∙ ap (λ (winners : List Winner). roots command (record { winners = winners; literals = a.literals; weak = []; flats = [] }) files) (winners_are_one command files a.winners b.winners p.winners q.winners)
-    ∙ ap (λ (literals : List Representative). roots command (record { winners = b.winners; literals = literals; weak = []; flats = [] }) files) (p.literals ∙ sym q.literals)
+    ∙ ap (λ (winners : List Winner). roots command (record { winners = winners; literals = a.literals; weak = []; flats = []; names = [] }) files) (winners_are_one command files a.winners b.winners p.winners q.winners)
+    ∙ ap (λ (literals : List Representative). roots command (record { winners = b.winners; literals = literals; weak = []; flats = []; names = [] }) files) (p.literals ∙ sym q.literals)
     ∙ sym (roots_looked command b files)
 
 keys_one : (command : Command) (libs : LibraryGraph) (files : List LoadedFile) (known other : Known) (a b : List AtomKey) → AreKnown command files known → AreKnown command files other

@@ -43,10 +43,11 @@ fn link_kept<R: Threads + Sync, G: Gate + Sync>(
     requires wanted { wanted.now ≡ spec.wanted command.now }
     requires numbers { numbers.now ≡ numbers_of names.now loaded.now.files }
     requires known { AreKnown command.now loaded.now.files winners.now }
+    requires named { winners.now.names ≡ names.now }
     ensures { Answers (AsKept command.now libs.now loaded.now.files) result }
 {
     let goals = goal_table(alloc, loaded, winners, names, numbers, libs, command)?;
-    let keys = kept_keys(alloc, loaded, winners, &goals, command)?;
+    let keys = kept_keys(alloc, loaded, winners, numbers, &goals, command)?;
     let lost = undefined_refusal(alloc, winners, libs, loaded, command, &goals, &keys, wanted)?;
     if let Some(refusal) = lost {
         return Err(RoundFault::Refused(refusal));

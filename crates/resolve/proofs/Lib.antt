@@ -33,5 +33,6 @@ pub mod EdgeLemmas
 pub mod FollowLemmas
 pub mod FrontLemmas
 pub mod PoolLemmas
+pub mod PlaceSteps
 pub mod PlacedLemmas
 pub mod NumberLemmas

@@ -1,14 +1,18 @@
 -- Lists that grow by what is picked of the elements of another list.
-use Rattle.std.proofs.Common.{◌≡◌, ℕ, ◌+◌, ◌<◌, ◌≤◌, List, [], ◌∷◌, ◌++◌, length, take, get_or, Some, None, refl, sym, ap, ◌∙◌, arith, append_assoc}
+use Rattle.std.proofs.Common.{◌≡◌, ℕ, ◌+◌, ◌<◌, ◌≤◌, Bool, true, false, if◌then◌else◌, List, [], ◌∷◌, ◌++◌, length, take, get_or, Some, None, refl, sym, ap, ◌∙◌, arith, append_assoc}
 use Rattle.std.specs.Prelude.{Option}
 use Rattle.std.specs.List.{enumerate_from, filter_map}
-use Rattle.std.specs.Option.{option_to_list}
+use Rattle.std.specs.Option.{option_and_then, option_to_list}
 use Rattle.std.proofs.lemmas.List.{append-nil, take_all, take_more}
 use Rattle.std.proofs.lemmas.List.Elements.{filter_map-append}
 use Rattle.std.proofs.lemmas.List.FromFn.{get_or-enumerate_from, length-enumerate_from}
 use Rattle.mo_types.specs.declared.atom.Atom.{Atom}
 use Rattle.mo_types.specs.declared.key.AtomKey.{AtomKey}
+use Rattle.mo_types.specs.Rows.{when}
+use Rattle.mo_types.specs.declared.loaded.LoadedFile.{LoadedFile}
 use Rattle.mo_types.specs.declared.object.Symbol.{Symbol}
+use Rattle.resolve.specs.Roots.{external_atom, winning_atom, wins}
+use Rattle.resolve.specs.declared.winner.Winner.{Winner}
 
 -- any atom
 abbrev pub no_key : AtomKey
@@ -74,3 +78,21 @@ pick_symbols_end h before now symbols i picks past = pick_end h before now (enum
 pub picked_alike : {X Y : Type 0} (f g : X → Option Y) → ((x : X) → f x ≡ g x) → (xs : List X) → filter_map f xs ≡ filter_map g xs
 picked_alike f g same [] = refl
 picked_alike f g same (x ∷ xs) = rw (same x, picked_alike f g same xs) refl
+
+-- ---- the winners among external symbols
+
+not_external : (file : LoadedFile) (p : ℕ × Symbol) → p.1.external ≡ false → external_atom file p ≡ None
+unfolding external_atom
+not_external file p e = rw e refl
+
+pub winner_stands : (winners : List Winner) (file : LoadedFile) (p : ℕ × Symbol) (atom : AtomKey) (b : Bool) → Some atom ≡ external_atom file p → (p.1.external ≡ true → b ≡ wins winners file p) → (if b then Some atom else None) ≡ winning_atom winners file p
+unfolding winning_atom
+winner_stands winners file p atom b stands won = by p.1.external refl
+  where
+    by : (e : Bool) → p.1.external ≡ e → (if b then Some atom else None) ≡ winning_atom winners file p
+    by false e = absurd (let none : Some atom ≡ None = stands ∙ not_external file p e in cc)
+    by true e = ap (λ (w : Bool). if w then Some atom else None) (won e) ∙ ap (option_and_then (when (wins winners file p))) stands
+
+pub no_winner : (winners : List Winner) (file : LoadedFile) (p : ℕ × Symbol) → None ≡ external_atom file p → None ≡ winning_atom winners file p
+unfolding winning_atom
+no_winner winners file p none = ap (option_and_then (when (wins winners file p))) none

@@ -133,7 +133,7 @@ tables_read table pool places goals is are = rw is (all_read pool places goals a
 
 -- ---- the goals of names
 
-named_at : (names : List (List ℕ)) (symbol : Symbol) (number : ℕ) → length names < 2 ^ 24 → number ≡ number_of names symbol → number < length names → (symbol.external ≡ true) × (slice_get names number ≡ Some symbol.name)
+pub named_at : (names : List (List ℕ)) (symbol : Symbol) (number : ℕ) → length names < 2 ^ 24 → number ≡ number_of names symbol → number < length names → (symbol.external ≡ true) × (slice_get names number ≡ Some symbol.name)
 unfolding number_of
 named_at names symbol number few is low = by symbol.external refl
   where

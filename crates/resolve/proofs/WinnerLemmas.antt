@@ -1,5 +1,5 @@
 -- The winning candidates of a table are those of the definition.
-use Rattle.std.proofs.Common.{◌≡◌, ℕ, zero, suc, ◌+◌, ◌-◌, ◌<◌, ◌==◌, Bool, true, false, List, [], ◌∷◌, length, map, filter, fold, max, get_or, slice_get, Contains, IsPermutation, refl, sym, ap, subst, ◌∙◌, inl, inr, arith, Some, None}
+use Rattle.std.proofs.Common.{◌≡◌, ℕ, zero, suc, ◌+◌, ◌-◌, ◌<◌, ◌==◌, Bool, true, false, List, [], ◌∷◌, length, map, filter, fold, max, get_or, slice_get, position, Contains, IsPermutation, refl, sym, ap, subst, ◌∙◌, inl, inr, arith, Some, None}
 use Rattle.std.specs.Prelude.{Option, IsSome}
 use Rattle.std.specs.List.{AllByRecursion, AllPairs, IsDistinct, cons_option, find, filter_map}
 use Rattle.std.specs.List.Sorted.{IsSortedBy}
@@ -13,8 +13,10 @@ use Rattle.std.proofs.lemmas.Cmp.{nat_list_cmp_total}
 use Rattle.std.proofs.lemmas.List.{length-map}
 use Rattle.std.proofs.lemmas.List.Elements.{All-contains}
 use Rattle.std.proofs.lemmas.List.Sorted.{Contains-permutation, IsPermutation-map, IsPermutation-sym}
+use Rattle.std.proofs.lemmas.List.Quantifiers.{position-Some}
 use Rattle.std.proofs.lemmas.Map.Text.{is_eq-slice_cmp}
 use Rattle.std.proofs.lemmas.Map.Keys.{IsDistinct-IsPermutation, apart_from_distinct}
+use Rattle.std.proofs.lemmas.Option.{slice_get-get_or}
 use Rattle.std.proofs.lemmas.Simd.{map-map}
 use Rattle.std.proofs.lemmas.Slice.Eq.{bytes_eq-Decides}
 use Rattle.list_lemmas.proofs.Members.{In, Contains_from_in, all_in, find_none, find_some, from_filter, in_from_Contains, in_map}
@@ -22,6 +24,7 @@ use Rattle.mo_cmd.specs.declared.command.Command.{Command}
 use Rattle.mo_types.specs.Candidates.{Candidate, candidates, least}
 use Rattle.mo_types.specs.declared.loaded.LoadedFile.{LoadedFile}
 use Rattle.mo_types.specs.declared.object.SymbolKind.{SymbolKind}
+use Rattle.name_ids.specs.Names.{number_of}
 use Rattle.resolve.specs.Found.{AreNamed, Found, candidate_of, found, found_for}
 use Rattle.resolve.specs.Places.{place_of}
 use Rattle.resolve.specs.Winners.{align_in, found_word, greatest_align, greatest_size, is_exported, size_in, winner_at, winner_from, winner_named, winner_of, winning}
@@ -33,9 +36,11 @@ use Rattle.resolve.specs.declared.places.Place.{Place}
 use Rattle.resolve.specs.declared.winner.Winner.{Winner}
 use Rattle.resolve.specs.inner.Best.{AreCandidates, AreChosen, IsCandidateOf, best_of, candidate_wins, chosen_name, chosen_of, greatest_of, held_name, winner_chosen}
 use Rattle.resolve.specs.inner.Index.{IsIndexOf, known}
+use Rattle.resolve.specs.inner.Numbers.{AreNumbered, IsListed, IsNumbered}
 use Rattle.resolve.specs.inner.Tables.{found_of, held, named, table_of}
 use Rattle.resolve.proofs.DuplicateLemmas.{same_all}
 use Rattle.resolve.proofs.SetLemmas.{turned}
+use Rattle.resolve.proofs.TableLemmas.{no_position}
 
 not_some : {X : Type 0} (o : Option X) → o ≡ None → IsSome o → ⊥
 not_some None e some = cc
@@ -338,3 +343,36 @@ chosen_stand files names fs chosen those all = each chosen (λ c h. h)
     each : (cs : List Chosen) → ((c : Chosen) → In c cs → In c chosen) → AreChosen cs
     each [] within = tt
     each (c ∷ cs) within = (one c (within c (inl refl)), each cs (λ x h. within x (inr h)))
+
+-- ---- the numbers of the chosen ones' names
+
+listed : (names : List (List ℕ)) (f : FoundIn) → IsNumbered names f → In (held_name f) names → IsListed names f
+unfolding number_of
+listed names f is there = by (position (bytes_eq (held_name f)) names) refl
+  where
+    by : (at : Option ℕ) → position (bytes_eq (held_name f)) names ≡ at → IsListed names f
+    by None e = absurd (let t : bytes_eq (held_name f) (held_name f) ≡ false = all_in (λ (n : List ℕ). bytes_eq (held_name f) n ≡ false) names (held_name f) (no_position (bytes_eq (held_name f)) names e) there in let g : true ≡ false = sym ((bytes_eq-Decides (held_name f) (held_name f)).1 refl) ∙ t in cc)
+    by (Some id) e =
+        let p : (id < length names) × (bytes_eq (held_name f) (get_or names id []) ≡ true) × ((k : ℕ) → k < id → bytes_eq (held_name f) (get_or names k []) ≡ false) = position-Some (bytes_eq (held_name f)) names id [] e in
+        let number : f.number ≡ id = is.number_is ∙ rw (is.external, e) refl in
+        record { listed = rw number (slice_get-get_or names id [] p.0 ∙ ap Some (sym ((bytes_eq-Decides (held_name f) (get_or names id [])).0 p.1))) }
+
+pub chosen_listed : (files : List LoadedFile) (names : List (List ℕ)) (fs : List FoundIn) (chosen : List Chosen) → AreThose files names fs chosen → AreNumbered names fs → AllByRecursion (λ (c : Chosen). IsListed names c.found) chosen
+chosen_listed files names fs chosen those all = each chosen (λ c h. h)
+  where
+    one : (c : Chosen) → In c chosen → IsListed names c.found
+    one c h =
+        let there : In c.found fs = (chosen_named files fs (chosen_name c) c (chosen_is files names fs chosen c those h)).1 in
+        listed names c.found (all_in (IsNumbered names) fs c.found all there) (name_there files names fs c.found those.named those.held there)
+
+    each : (cs : List Chosen) → ((c : Chosen) → In c cs → In c chosen) → AllByRecursion (λ (c : Chosen). IsListed names c.found) cs
+    each [] within = tt
+    each (c ∷ cs) within = (one c (within c (inl refl)), each cs (λ x h. within x (inr h)))
+
+pub listed_at : (names : List (List ℕ)) (chosen : List Chosen) (i : ℕ) (one d : Chosen) → AllByRecursion (λ (c : Chosen). IsListed names c.found) chosen → i < length chosen → one ≡ get_or chosen i d → slice_get names one.found.number ≡ Some (chosen_name one)
+listed_at names chosen i one d all low is = rw is (at chosen i all low).listed
+  where
+    at : (cs : List Chosen) (k : ℕ) → AllByRecursion (λ (c : Chosen). IsListed names c.found) cs → k < length cs → IsListed names (get_or cs k d).found
+    at [] k all low = absurd (omega (arith, low))
+    at (c ∷ cs) zero all low = all.0
+    at (c ∷ cs) (suc k) all low = at cs k all.1 (omega (arith, low))

@@ -37,12 +37,14 @@ any_symbol test files = list_any (λ file. list_any test file.object.symbols) fi
 unfoldable pub is_weak : List LoadedFile → List ℕ → Bool
 is_weak files name = any_symbol (is_weak_to name) files && not (any_symbol (is_strong_to name) files)
 
--- the winners, what stands for each literal, the names that may be missing, and those that are looked up in all images
+-- the winners, what stands for each literal, the names that may be missing, those that are looked up in all images, and all
+-- names by their numbers
 pub record Known : Type 0 where
   pub winners : List Winner
   pub literals : List Representative
   pub weak : List (List ℕ)
   pub flats : List (List ℕ)
+  pub names : List (List ℕ)
 
 -- they are those of a command and files
 pub record AreKnown (command : Command) (files : List LoadedFile) (known : Known) : Type 0 where

@@ -1,5 +1,6 @@
 //! The winners of all names.
 ghost use Rattle.std.specs.Prelude.{◌≡◌, ◌≤◌, ◌<◌, ◌++◌, ◌∷◌, ℕ, [], List, Some, IfOk, length, map, position};
+ghost use Rattle.std.specs.List.{AllByRecursion};
 ghost use Rattle.std.specs.Str.{bytes_eq};
 ghost use Rattle.mo_cmd.specs.declared.command.Command.{Command as Commanded};
 ghost use Rattle.mo_types.specs.declared.loaded.LoadedFile.{LoadedFile};
@@ -10,7 +11,7 @@ ghost use Rattle.resolve.specs.Winners.{AreLeast};
 ghost use Rattle.resolve.specs.declared.found.FoundIn.{FoundIn as Held};
 ghost use Rattle.resolve.specs.inner.Best.{AreBests, AreCandidates, AreChosen, IsCandidateOf, candidate_wins, winner_chosen};
 ghost use Rattle.resolve.specs.inner.Index.{AreRules, IsIndexOf};
-ghost use Rattle.resolve.specs.inner.Numbers.{AreNumbered, IsNumbered};
+ghost use Rattle.resolve.specs.inner.Numbers.{AreNumbered, IsListed, IsNumbered};
 ghost use Rattle.resolve.specs.inner.Tables.{found_of};
 
 use crate::best::Best;
@@ -137,16 +138,20 @@ pub(crate) fn winners_of(
     Ok(list)
 }
 
-/// The places of the winning candidates, by their names.
+/// The places of the winning candidates, by the numbers of their names.
 pub(crate) fn index_of<'a>(
     alloc: Global,
-    chosen: &[Chosen<'a>],
+    names: &'a NameTable<'a>,
+    chosen: &[Chosen],
 ) -> Result<NameIndex<'a>, OutOfMemory>
-    ensures { IfOk result (IsIndexOf chosen.now (length chosen.now)) }
+    requires numbering { IsNumbering names.now }
+    requires listed { AllByRecursion (λ one. IsListed names.now one.found) chosen.now }
+    ensures index { IfOk result (IsIndexOf chosen.now (length chosen.now)) }
+    ensures names { IfOk result (λ index. index.names.now ≡ names.entry.now) }
 {
-    let mut index = NameIndex::with_capacity(alloc, chosen.len())?;
+    let mut index = NameIndex::new(alloc, names)?;
     for (i, one) in chosen.iter().enumerate() {
-        index = index.with(one.found.symbol.name.as_slice(), i)?;
+        index.put(one.found.number, i)?;
     }
     Ok(index)
 }

@@ -1,5 +1,6 @@
 //! Where names, symbols and references lead.
-ghost use Rattle.std.specs.Prelude.{◌≡◌, ◌<◌, ◌||◌, IfOk, OnOk, length, map, slice_index_or};
+ghost use Rattle.std.specs.Prelude.{◌≡◌, ℕ, ◌<◌, ◌||◌, IfOk, List, OnOk, Some, length, map, slice_get, slice_index_or};
+ghost use Rattle.std.specs.Option.{option_copied};
 ghost use Rattle.goal_table.specs.Table.{goals_of};
 ghost use Rattle.lib_bind.specs.Provides as provides;
 ghost use Rattle.mo_types.specs.Loaded.{IsWholeFile, IsWholeLoaded};
@@ -71,17 +72,18 @@ fn outer_goal(
     }
 }
 
-// Where a name leads, by what is known.
+// Where a name leads, by what is known, and its winner, where it has one.
 fn known_goal(
     alloc: Global,
     winners: &Winners,
     libs: &Libraries,
     command: &Command,
     name: &[u8],
+    winner: Option<&Winner>,
 ) -> Result<Goal, OutOfMemory>
-    ensures { IfOk result (λ goal. goal ≡ goals.name_goal winners.now.literals command.now.dylib (command.now.dynamic || lists winners.now.flats name.now) (lists winners.now.weak name.now) name.now (provides.provider_of libs.now name.now) (winner_named winners.now.winners name.now)) }
+    ensures { IfOk result (λ goal. goal ≡ goals.name_goal winners.now.literals command.now.dylib (command.now.dynamic || lists winners.now.flats name.now) (lists winners.now.weak name.now) name.now (provides.provider_of libs.now name.now) (option_copied winner.entry)) }
 {
-    match winners.winner(name) {
+    match winner {
         Some(winner) => winner_goal(winners, winner),
         None => {
             if is_header(command.dylib, name) {
@@ -107,10 +109,39 @@ pub fn goal_of_name(
     ensures { IfOk result (λ goal. goal ≡ goals.goal_of_name loaded.now.files libs.now command.now name.now) }
 {
     let _files = &loaded.files;
-    known_goal(alloc, winners, libs, command, name)
+    known_goal(alloc, winners, libs, command, name, winners.winner(name))
 }
 
-// Where each name of a link leads, by the names' numbers.
+// Where the name of a number leads.
+fn goal_of_number(
+    alloc: Global,
+    winners: &Winners,
+    libs: &Libraries,
+    loaded: &Loaded,
+    command: &Command,
+    names: &NameTable,
+    id: u32,
+) -> Result<Goal, OutOfMemory>
+    requires known { AreKnown command.now loaded.now.files winners.now }
+    requires names { winners.now.names ≡ names.now }
+    requires id { id < length names.now }
+    ensures { IfOk result (λ goal. (name : List ℕ) → slice_get names.now id ≡ Some name → goal ≡ goals.goal_of_name loaded.now.files libs.now command.now name) }
+{
+    let _files = &loaded.files;
+    let winner = winners.winner_numbered(id);
+    known_goal(alloc, winners, libs, command, names.name_of(id), winner)
+}
+
+// Room for the goals of names and of symbols with numbers, so that no goal is moved.
+fn room(names: &NameTable, numbers: &[NumberList]) -> usize {
+    let mut room = names.len() as usize;
+    for list in numbers {
+        room = room.saturating_add(list.len());
+    }
+    room
+}
+
+// Where each name of a link leads, by the names' numbers, with room for the goals of symbols.
 fn goals_of_names(
     alloc: Global,
     winners: &Winners,
@@ -118,15 +149,15 @@ fn goals_of_names(
     loaded: &Loaded,
     command: &Command,
     names: &NameTable,
+    room: usize,
 ) -> Result<Vec<Goal>, OutOfMemory>
-    requires { AreKnown command.now loaded.now.files winners.now }
+    requires known { AreKnown command.now loaded.now.files winners.now }
+    requires names { winners.now.names ≡ names.now }
     ensures { IfOk result (λ pool. pool.items ≡ map (goals.goal_of_name loaded.now.files libs.now command.now) names.now) }
 {
-    let count = names.len();
-    let mut pool = Vec::with_capacity(alloc, count as usize)?;
-    for id in 0..count {
-        let name = names.name_of(id);
-        pool.push(goal_of_name(alloc, winners, libs, loaded, command, name)?)?;
+    let mut pool = Vec::with_capacity(alloc, room)?;
+    for id in 0..names.len() {
+        pool.push(goal_of_number(alloc, winners, libs, loaded, command, names, id)?)?;
     }
     Ok(pool)
 }
@@ -294,19 +325,15 @@ pub fn goal_table(
 ) -> Result<GoalTable, OutOfMemory>
     requires whole { IsWholeLoaded loaded.now }
     requires known { AreKnown command.now loaded.now.files winners.now }
+    requires names { winners.now.names ≡ names.now }
     requires numbers { numbers.now ≡ numbers_of names.now loaded.now.files }
     ensures { IfOk result (λ table. goals_of table ≡ goals.goal_table loaded.now.files libs.now command.now) }
 {
-    let mut pool = goals_of_names(alloc, winners, libs, loaded, command, names)?;
+    let numbers = numbers.as_slice();
+    let room = room(names, numbers);
+    let mut pool = goals_of_names(alloc, winners, libs, loaded, command, names, room)?;
     let places = put_files(
-        alloc,
-        &mut pool,
-        winners,
-        libs,
-        loaded,
-        command,
-        names,
-        numbers.as_slice(),
+        alloc, &mut pool, winners, libs, loaded, command, names, numbers,
     )?;
     Ok(GoalTable::new(pool, places))
 }

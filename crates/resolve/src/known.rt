@@ -1,7 +1,9 @@
 //! The winners with what a look-up of a name takes.
-ghost use Rattle.std.specs.Prelude.{◌≡◌};
+ghost use Rattle.std.specs.Prelude.{◌≡◌, ℕ, List, Some, true, slice_get};
 ghost use Rattle.std.specs.Option.{option_copied};
 ghost use Rattle.mo_types.specs.Keys.{compare_keys};
+ghost use Rattle.mo_types.specs.declared.object.Symbol.{Symbol as Declared};
+ghost use Rattle.name_ids.specs.Names.{number_of};
 ghost use Rattle.resolve.specs.Goals as goals;
 ghost use Rattle.resolve.specs.Winners.{lists, winner_named};
 ghost use Rattle.resolve.specs.inner.Literals.{AreInOrder};
@@ -45,8 +47,8 @@ fn stands_for(literals: &[Representative], key: AtomKey) -> AtomKey
 }
 
 /// The winner of each name and the representative of each literal, of some files and a command. Contracts see their
-/// lists, the names to which the files refer weakly alone, and those that the command looks up in all images. A private
-/// index makes the look-up of a name cost the same whatever there is.
+/// lists, the names to which the files refer weakly alone, those that the command looks up in all images, and all names by
+/// their numbers. A private index makes the look-up of a name cost the same whatever there is, and of a number less.
 #[derive(Drop)]
 pub struct Winners<'a> {
     winners: WinnerList,
@@ -62,7 +64,7 @@ impl<'a> Model for Winners<'a> {
 
     ghost Value = { Known };
 
-    ghost view = { λ w. record { winners = w.winners; literals = w.literals; weak = w.weak; flats = w.flats } };
+    ghost view = { λ w. record { winners = w.winners; literals = w.literals; weak = w.weak; flats = w.flats; names = w.index.names.now } };
 
     ghost invariant = { λ w. IsIndexed w.winners w.literals w.index };
 }
@@ -87,6 +89,18 @@ impl<'a> Winners<'a> {
         ensures { option_copied result ≡ winner_named self.now.winners name.now }
     {
         match self.index.get(name) {
+            Some(at) => self.winners.get(at),
+            None => None,
+        }
+    }
+
+    /// The winner of the name of a number, or `None` exactly where it has none. Takes no memory.
+    #[tactic(auto, using(crate::proofs::PlaceSteps::winner_there))]
+    pub(crate) fn winner_numbered(&self, number: u32) -> Option<&Winner>
+        ensures name { (name : List ℕ) → slice_get self.now.names number ≡ Some name → option_copied result ≡ winner_named self.now.winners name }
+        ensures symbol { (symbol : Declared) → symbol.external ≡ true → number ≡ number_of self.now.names symbol → option_copied result ≡ winner_named self.now.winners symbol.name }
+    {
+        match self.index.numbered(number) {
             Some(at) => self.winners.get(at),
             None => None,
         }
@@ -130,7 +144,7 @@ impl<'a> Winners<'a> {
         index: NameIndex<'a>,
     ) -> Winners<'a>
         requires { IsIndexed winners literals index }
-        ensures { result ≡ record { winners = winners; literals = literals; weak = weak.entry; flats = flats.entry } }
+        ensures { result ≡ record { winners = winners; literals = literals; weak = weak.entry; flats = flats.entry; names = index.entry.names.now } }
     {
         Winners {
             winners,

@@ -1,8 +1,9 @@
 //! The symbols that stand in atoms, and those of them that win.
-ghost use Rattle.std.specs.Prelude.{◌≡◌, ◌++◌, ◌<◌, IfOk, length, slice_index_or};
+ghost use Rattle.std.specs.Prelude.{◌≡◌, ◌++◌, ◌<◌, IfOk, length, slice_index_or, true};
 ghost use Rattle.std.specs.Option.{option_to_list};
 ghost use Rattle.mo_types.specs.Loaded.{IsWholeFile};
 ghost use Rattle.mo_types.specs.declared.object.Symbol.{Symbol as Declared};
+ghost use Rattle.name_ids.specs.Names.{number_of, numbers_in};
 ghost use Rattle.resolve.specs.Roots as spec;
 
 use crate::known::Winners;
@@ -36,15 +37,16 @@ pub(crate) fn symbol_atom(file: &LoadedFile, index: u32) -> Option<AtomKey>
     }
 }
 
-// Whether a file's symbol of an index is the winner of its name.
+// Whether a file's external symbol of an index is the winner of its name, which has this number.
 #[tactic(auto, unfolding(crate::specs::Roots::wins))]
-fn wins(winners: &Winners, file: &LoadedFile, index: u32) -> bool
+fn wins(winners: &Winners, file: &LoadedFile, index: u32, number: u32) -> bool
     requires whole { IsWholeFile file.now }
     requires index { index < length file.now.object.symbols }
-    ensures { (d : Declared) → result ≡ spec.wins winners.now.winners file.now (index, slice_index_or file.now.object.symbols index d) }
+    requires number { (d : Declared) → number ≡ number_of winners.now.names (slice_index_or file.now.object.symbols index d) }
+    ensures { (d : Declared) → (slice_index_or file.now.object.symbols index d).external ≡ true → result ≡ spec.wins winners.now.winners file.now (index, slice_index_or file.now.object.symbols index d) }
 {
     let symbol = &file.object.symbols.as_slice()[index as usize];
-    match winners.winner(symbol.name.as_slice()) {
+    match winners.winner_numbered(number) {
         Some(winner) => winner.word == file.id.word_of(index, symbol),
         None => false,
     }
@@ -64,16 +66,23 @@ fn external_atom(file: &LoadedFile, index: u32) -> Option<AtomKey>
     }
 }
 
-/// The atom in which a file's symbol of an index stands, where it is the winner of its name.
-#[tactic(auto, unfolding(crate::specs::Roots::winning_atom))]
-pub(crate) fn winning_atom(winners: &Winners, file: &LoadedFile, index: u32) -> Option<AtomKey>
+// The atom in which a file's external symbol of an index stands, where it is the winner of its name, which has this number.
+fn won(
+    winners: &Winners,
+    file: &LoadedFile,
+    index: u32,
+    number: u32,
+    atom: Option<AtomKey>,
+) -> Option<AtomKey>
     requires whole { IsWholeFile file.now }
     requires index { index < length file.now.object.symbols }
+    requires number { (d : Declared) → number ≡ number_of winners.now.names (slice_index_or file.now.object.symbols index d) }
+    requires atom { (d : Declared) → atom ≡ spec.external_atom file.now (index, slice_index_or file.now.object.symbols index d) }
     ensures { (d : Declared) → result ≡ spec.winning_atom winners.now.winners file.now (index, slice_index_or file.now.object.symbols index d) }
 {
-    match external_atom(file, index) {
+    match atom {
         Some(atom) => {
-            if wins(winners, file, index) {
+            if wins(winners, file, index, number) {
                 Some(atom)
             } else {
                 None
@@ -83,34 +92,41 @@ pub(crate) fn winning_atom(winners: &Winners, file: &LoadedFile, index: u32) -> 
     }
 }
 
-/// The atoms of a file in which external symbols stand, one for each symbol.
-#[tactic(auto, unfolding(crate::specs::Roots::external_atoms))]
-pub(crate) fn external_atoms(alloc: Global, file: &LoadedFile) -> Result<Vec<AtomKey>, OutOfMemory>
-    requires { IsWholeFile file.now }
-    ensures { IfOk result (λ list. list.items ≡ spec.external_atoms file.now) }
+/// The atom in which a file's symbol of an index stands, where it is the winner of its name, which has this number.
+pub(crate) fn winning_atom(
+    winners: &Winners,
+    file: &LoadedFile,
+    index: u32,
+    number: u32,
+) -> Option<AtomKey>
+    requires whole { IsWholeFile file.now }
+    requires index { index < length file.now.object.symbols }
+    requires number { (d : Declared) → number ≡ number_of winners.now.names (slice_index_or file.now.object.symbols index d) }
+    ensures { (d : Declared) → result ≡ spec.winning_atom winners.now.winners file.now (index, slice_index_or file.now.object.symbols index d) }
 {
-    let mut atoms = Vec::new(alloc);
-    let count = file.object.symbols.len();
-    for i in 0..count {
-        atoms = with_atom(atoms, external_atom(file, i as u32))?;
-    }
-    Ok(atoms)
+    won(winners, file, index, number, external_atom(file, index))
 }
 
-/// The atoms of a file in which winners stand, one for each winner.
-#[tactic(auto, unfolding(crate::specs::Roots::winning_atoms))]
-pub(crate) fn winning_atoms(
+/// The atoms of a file in which external symbols stand, one for each symbol, and those in which winners stand, one for each
+/// winner, by the numbers of the symbols' names.
+pub(crate) fn standing_atoms(
     alloc: Global,
     winners: &Winners,
     file: &LoadedFile,
-) -> Result<Vec<AtomKey>, OutOfMemory>
-    requires { IsWholeFile file.now }
-    ensures { IfOk result (λ list. list.items ≡ spec.winning_atoms winners.now.winners file.now) }
+    numbers: &[u32],
+) -> Result<(Vec<AtomKey>, Vec<AtomKey>), OutOfMemory>
+    requires whole { IsWholeFile file.now }
+    requires numbers { numbers.now ≡ numbers_in winners.now.names file.now }
+    ensures external { IfOk result (λ atoms. atoms.0.items ≡ spec.external_atoms file.now) }
+    ensures winning { IfOk result (λ atoms. atoms.1.items ≡ spec.winning_atoms winners.now.winners file.now) }
 {
-    let mut atoms = Vec::new(alloc);
-    let count = file.object.symbols.len();
-    for i in 0..count {
-        atoms = with_atom(atoms, winning_atom(winners, file, i as u32))?;
+    let mut external = Vec::new(alloc);
+    let mut winning = Vec::new(alloc);
+    for (at, number) in numbers.iter().enumerate() {
+        let index = at as u32;
+        let atom = external_atom(file, index);
+        external = with_atom(external, atom)?;
+        winning = with_atom(winning, won(winners, file, index, *number, atom))?;
     }
-    Ok(atoms)
+    Ok((external, winning))
 }

@@ -5,13 +5,14 @@ ghost use Rattle.std.specs.Option.{option_map};
 ghost use Rattle.mo_types.specs.Loaded.{IsWholeFile, IsWholeLoaded};
 ghost use Rattle.mo_types.specs.declared.atom.Atom.{Atom as Cut};
 ghost use Rattle.mo_types.specs.declared.object.Symbol.{Symbol as Declared};
+ghost use Rattle.name_ids.specs.Names.{number_of, numbers_in, numbers_of};
 ghost use Rattle.resolve.specs.Goals.{stands_for};
 ghost use Rattle.resolve.specs.Roots as spec;
 ghost use Rattle.resolve.specs.declared.representative.Representative.{Representative as Standing};
 
 use crate::atom_set::{AtomSet, set_of_atoms};
 use crate::known::Winners;
-use crate::standing::{external_atoms, symbol_atom, winning_atom, winning_atoms, with_atom};
+use crate::standing::{standing_atoms, symbol_atom, winning_atom, with_atom};
 use crate::winner::Winner;
 use mo_cmd::Command;
 use mo_format::loader::{S_ATTR_NO_DEAD_STRIP, S_MOD_INIT_FUNC_POINTERS};
@@ -19,6 +20,7 @@ use mo_types::{
     Atom, AtomKey, Bytes, COMMON_SECTION, Items, KeyList, Loaded, LoadedFile, Object, OutOfMemory,
     Section,
 };
+use name_ids::NumberList;
 use std::alloc::Global;
 
 // An atom of a file that is kept by itself, by the atoms in which external symbols and winners stand.
@@ -105,12 +107,13 @@ fn with_plain_roots(
     before: Vec<AtomKey>,
     winners: &Winners,
     file: &LoadedFile,
+    numbers: &[u32],
 ) -> Result<Vec<AtomKey>, OutOfMemory>
-    requires { IsWholeFile file.now }
+    requires whole { IsWholeFile file.now }
+    requires numbers { numbers.now ≡ numbers_in winners.now.names file.now }
     ensures { IfOk result (λ new. new.items ≡ before.items ++ spec.plain_roots winners.now file.now) }
 {
-    let external = external_atoms(alloc, file)?;
-    let winning = winning_atoms(alloc, winners, file)?;
+    let (external, winning) = standing_atoms(alloc, winners, file, numbers)?;
     let (all, taken_in) = sets_of(alloc, external.as_slice(), winning.as_slice())?;
     let atoms = file.atoms.as_slice();
     let roots = with_plain(before, winners, &all, &taken_in, atoms)?;
@@ -157,22 +160,24 @@ fn with_sections(
 }
 
 // The atom of a symbol that is marked as kept and wins, in the literal that stands for its own.
-fn winning_root(winners: &Winners, file: &LoadedFile, index: u32) -> Option<AtomKey>
+fn winning_root(winners: &Winners, file: &LoadedFile, index: u32, number: u32) -> Option<AtomKey>
     requires whole { IsWholeFile file.now }
     requires index { index < length file.now.object.symbols }
+    requires number { (d : Declared) → number ≡ number_of winners.now.names (slice_index_or file.now.object.symbols index d) }
     ensures { (d : Declared) → result ≡ option_map (stands_for winners.now.literals) (spec.winning_atom winners.now.winners file.now (index, slice_index_or file.now.object.symbols index d)) }
 {
-    match winning_atom(winners, file, index) {
+    match winning_atom(winners, file, index, number) {
         Some(atom) => Some(winners.representative(atom)),
         None => None,
     }
 }
 
-// The atom of a symbol that is marked as kept.
+// The atom of a symbol that is marked as kept, whose name has this number.
 #[tactic(auto, unfolding(crate::specs::Roots::marked_root))]
-fn marked_root(winners: &Winners, file: &LoadedFile, index: u32) -> Option<AtomKey>
+fn marked_root(winners: &Winners, file: &LoadedFile, index: u32, number: u32) -> Option<AtomKey>
     requires whole { IsWholeFile file.now }
     requires index { index < length file.now.object.symbols }
+    requires number { (d : Declared) → number ≡ number_of winners.now.names (slice_index_or file.now.object.symbols index d) }
     ensures { (d : Declared) → result ≡ spec.marked_root winners.now file.now (index, slice_index_or file.now.object.symbols index d) }
 {
     let symbol = &file.object.symbols.as_slice()[index as usize];
@@ -180,25 +185,26 @@ fn marked_root(winners: &Winners, file: &LoadedFile, index: u32) -> Option<AtomK
         return None;
     }
     if symbol.external {
-        winning_root(winners, file, index)
+        winning_root(winners, file, index, number)
     } else {
         symbol_atom(file, index)
     }
 }
 
-// Roots, and the atoms of a file's symbols that are marked as kept.
+// Roots, and the atoms of a file's symbols that are marked as kept, whose names have these numbers.
 fn with_marked(
     before: Vec<AtomKey>,
     winners: &Winners,
     file: &LoadedFile,
+    numbers: &[u32],
 ) -> Result<Vec<AtomKey>, OutOfMemory>
-    requires { IsWholeFile file.now }
+    requires whole { IsWholeFile file.now }
+    requires numbers { numbers.now ≡ numbers_in winners.now.names file.now }
     ensures { IfOk result (λ new. new.items ≡ before.items ++ filter_map (spec.marked_root winners.now file.now) (enumerate_from 0 file.now.object.symbols)) }
 {
     let mut roots = before;
-    let count = file.object.symbols.len();
-    for i in 0..count {
-        roots = with_atom(roots, marked_root(winners, file, i as u32))?;
+    for (index, number) in numbers.iter().enumerate() {
+        roots = with_atom(roots, marked_root(winners, file, index as u32, *number))?;
     }
     Ok(roots)
 }
@@ -209,12 +215,14 @@ fn with_kept_roots(
     before: Vec<AtomKey>,
     winners: &Winners,
     file: &LoadedFile,
+    numbers: &[u32],
 ) -> Result<Vec<AtomKey>, OutOfMemory>
-    requires { IsWholeFile file.now }
+    requires whole { IsWholeFile file.now }
+    requires numbers { numbers.now ≡ numbers_in winners.now.names file.now }
     ensures { IfOk result (λ new. new.items ≡ before.items ++ spec.kept_roots winners.now file.now) }
 {
     let roots = with_sections(before, &file.object, file.atoms.as_slice())?;
-    with_marked(roots, winners, file)
+    with_marked(roots, winners, file, numbers)
 }
 
 // The atom in which the winner of a name stands.
@@ -310,13 +318,15 @@ fn with_all_kept(
     before: Vec<AtomKey>,
     winners: &Winners,
     files: &[LoadedFile],
+    numbers: &[NumberList],
 ) -> Result<Vec<AtomKey>, OutOfMemory>
-    requires { All IsWholeFile files.now }
+    requires whole { All IsWholeFile files.now }
+    requires numbers { numbers.now ≡ numbers_of winners.now.names files.now }
     ensures { IfOk result (λ new. new.items ≡ before.items ++ flat_map (spec.kept_roots winners.now) files.now) }
 {
     let mut roots = before;
-    for file in files {
-        roots = with_kept_roots(roots, winners, file)?;
+    for (at, file) in files.iter().enumerate() {
+        roots = with_kept_roots(roots, winners, file, numbers[at].as_slice())?;
     }
     Ok(roots)
 }
@@ -326,13 +336,15 @@ fn all_plain(
     alloc: Global,
     winners: &Winners,
     files: &[LoadedFile],
+    numbers: &[NumberList],
 ) -> Result<Vec<AtomKey>, OutOfMemory>
-    requires { All IsWholeFile files.now }
+    requires whole { All IsWholeFile files.now }
+    requires numbers { numbers.now ≡ numbers_of winners.now.names files.now }
     ensures { IfOk result (λ list. list.items ≡ flat_map (spec.plain_roots winners.now) files.now) }
 {
     let mut roots = Vec::new(alloc);
-    for file in files {
-        roots = with_plain_roots(alloc, roots, winners, file)?;
+    for (at, file) in files.iter().enumerate() {
+        roots = with_plain_roots(alloc, roots, winners, file, numbers[at].as_slice())?;
     }
     Ok(roots)
 }
@@ -341,22 +353,26 @@ fn all_plain(
 /// others stand, and those whose external symbols all name winners elsewhere; a common symbol that wins has an atom of its
 /// own. With it those of an executable's entry, of the wanted names, of the exported winners of a library or where the
 /// command lists what is exported, of symbols and sections that are marked as kept (`nlist.h`: N_NO_DEAD_STRIP;
-/// `loader.h`: S_ATTR_NO_DEAD_STRIP), and of the pointers to initializers. An atom may be listed more than once.
+/// `loader.h`: S_ATTR_NO_DEAD_STRIP), and of the pointers to initializers. An atom may be listed more than once. The
+/// symbols' winners are found by the numbers of their names.
 #[tactic(auto, unfolding(crate::specs::Roots::roots))]
 pub fn roots(
     alloc: Global,
     loaded: &Loaded,
     winners: &Winners,
+    numbers: &Items<NumberList>,
     command: &Command,
 ) -> Result<KeyList, OutOfMemory>
-    requires { IsWholeLoaded loaded.now }
+    requires whole { IsWholeLoaded loaded.now }
+    requires numbers { numbers.now ≡ numbers_of winners.now.names loaded.now.files }
     ensures { IfOk result (λ list. list ≡ spec.roots command.now winners.now loaded.now.files) }
 {
     let files = loaded.files.as_slice();
+    let numbers = numbers.as_slice();
     if !command.dead_strip {
-        return Ok(Items::from_vec(all_plain(alloc, winners, files)?));
+        return Ok(Items::from_vec(all_plain(alloc, winners, files, numbers)?));
     }
     let wanted = wanted_roots(alloc, winners, command)?;
     let exported = with_exports(wanted, winners, command)?;
-    Ok(Items::from_vec(with_all_kept(exported, winners, files)?))
+    Ok(Items::from_vec(with_all_kept(exported, winners, files, numbers)?))
 }

@@ -24,7 +24,7 @@ use std::alloc::Global;
 pub fn winners<'a>(
     alloc: Global,
     loaded: &'a Loaded,
-    names: &NameTable,
+    names: &'a NameTable<'a>,
     numbers: &Items<NumberList>,
     words: &[u64],
     command: &'a Command,
@@ -33,7 +33,8 @@ pub fn winners<'a>(
     requires named { AreNamed names.now loaded.now.files }
     requires numbers { numbers.now ≡ numbers_of names.now loaded.now.files }
     requires words { AreLeast loaded.now.files names.now words.now }
-    ensures { IfOk result (AreKnown command.now loaded.now.files) }
+    ensures known { IfOk result (AreKnown command.now loaded.now.files) }
+    ensures names { IfOk result (λ winners. winners.names ≡ names.entry.now) }
 {
     let files = loaded.files.as_slice();
     let found = candidates(alloc, files, numbers)?;
@@ -41,7 +42,7 @@ pub fn winners<'a>(
     let chosen = chosen_by_name(alloc, table.as_slice())?;
     let rules = rules_of(alloc, command)?;
     let list = winners_of(alloc, chosen.as_slice(), &rules)?;
-    let index = index_of(alloc, chosen.as_slice())?;
+    let index = index_of(alloc, names, chosen.as_slice())?;
     let literals = representatives(alloc, loaded)?;
     let weak = weak_of(alloc, files)?;
     let flats = set_of(alloc, command.flats.as_slice())?;

@@ -1,7 +1,8 @@
 //! Winners, which of them other images see, and where names and symbols lead, against tables that were written by hand and
 //! what llvm-nm says of an object of clang's.
-ghost use Rattle.std.specs.Prelude.{◌<◌, IfOk, IfSome, length};
+ghost use Rattle.std.specs.Prelude.{◌≡◌, ◌<◌, IfOk, IfSome, length};
 ghost use Rattle.mo_types.specs.Loaded.{IsWholeLoaded};
+ghost use Rattle.name_ids.specs.Names.{numbers_of};
 ghost use Rattle.resolve.specs.Known.{AreKnown};
 
 use crate::clang_names::{NAMES, OBJECT, Told};
@@ -12,10 +13,10 @@ use lib_bind::Libraries;
 use mo_cmd::{Command, read_all_words};
 use mo_obj::read_object;
 use mo_types::{
-    Arg, ArgList, AtomKey, Bytes, Goal, Kind, Loaded, NameList, Object, OutOfMemory, Target,
+    Arg, ArgList, AtomKey, Bytes, Goal, Items, Kind, Loaded, NameList, Object, OutOfMemory, Target,
     kind_of,
 };
-use name_ids::gather;
+use name_ids::{NameTable, NumberList, gather};
 use resolve::{Winner, Winners, goal_of_name, goal_table, least_words, winners};
 use std::alloc::Global;
 use std::test::Fail;
@@ -30,24 +31,6 @@ fn command_of(alloc: Global, words: &str) -> Result<Option<Command>, OutOfMemory
         list.push(Arg::new(String::from_str(alloc, word)?))?;
     }
     Ok(read_all_words(alloc, &list).ok())
-}
-
-// The winners of files, by the words of a race of all their candidates.
-fn known<'a>(
-    alloc: Global,
-    loaded: &'a Loaded,
-    command: &'a Command,
-) -> Result<Option<Winners<'a>>, OutOfMemory>
-    requires { IsWholeLoaded loaded.now }
-    ensures { IfOk result (λ known. IfSome known (AreKnown command.now loaded.now.files)) }
-{
-    let extra = NameList::new(alloc);
-    let Ok(all) = gather(alloc, loaded, &extra) else {
-        return Ok(None);
-    };
-    let (names, numbers) = (&all.names, &all.numbers);
-    let words = least_words(alloc, loaded, names, numbers)?;
-    Ok(Some(winners(alloc, loaded, names, numbers, words.as_slice(), command)?))
 }
 
 fn key_of(file: (u16, u32), section: u16, offset: u64) -> AtomKey {
@@ -470,24 +453,16 @@ fn targets_lead(
     libs: &Libraries,
     loaded: &Loaded,
     command: &Command,
+    names: &NameTable,
+    numbers: &Items<NumberList>,
     known: &Winners,
 ) -> Result<bool, OutOfMemory>
     requires whole { IsWholeLoaded loaded.now }
+    requires numbers { numbers.now ≡ numbers_of names.now loaded.now.files }
     requires known { AreKnown command.now loaded.now.files known.now }
+    requires names { known.now.names ≡ names.now }
 {
-    let extra = NameList::new(alloc);
-    let Ok(all) = gather(alloc, loaded, &extra) else {
-        return Ok(false);
-    };
-    let table = goal_table(
-        alloc,
-        loaded,
-        known,
-        &all.names,
-        &all.numbers,
-        libs,
-        command,
-    )?;
+    let table = goal_table(alloc, loaded, known, names, numbers, libs, command)?;
     match table.file(1) {
         Some(goals) => Ok(loaded.files.len() == 2 && targets_of_file_lead(known, &goals)),
         None => Ok(false),
@@ -554,11 +529,15 @@ fn is_answered(
     alloc: Global,
     loaded: &Loaded,
     command: &Command,
+    names: &NameTable,
+    numbers: &Items<NumberList>,
     known: &Winners,
     ask: &Ask,
 ) -> Result<bool, OutOfMemory>
     requires whole { IsWholeLoaded loaded.now }
+    requires numbers { numbers.now ≡ numbers_of names.now loaded.now.files }
     requires known { AreKnown command.now loaded.now.files known.now }
+    requires names { known.now.names ≡ names.now }
 {
     match ask {
         Ask::Winners(rows) => Ok(are_won(known, *rows)),
@@ -568,7 +547,7 @@ fn is_answered(
                 .is_some_and(|winner| winner.exported == *seen),
         ),
         Ask::Names(libs, names) => all_lead(alloc, *libs, loaded, command, known, *names),
-        Ask::Targets(libs) => targets_lead(alloc, *libs, loaded, command, known),
+        Ask::Targets(libs) => targets_lead(alloc, *libs, loaded, command, names, numbers, known),
         Ask::Told => Ok(
             NAMES
                 .iter()
@@ -577,6 +556,7 @@ fn is_answered(
     }
 }
 
+// Whether the winners of files, by the words of a race of all their candidates, answer as they are to.
 fn is_known(
     alloc: Global,
     loaded: &Loaded,
@@ -585,11 +565,14 @@ fn is_known(
 ) -> Result<bool, OutOfMemory>
     requires { IsWholeLoaded loaded.now }
 {
-    let known = known(alloc, loaded, command)?;
-    match &known {
-        Some(known) => is_answered(alloc, loaded, command, known, ask),
-        None => Ok(false),
-    }
+    let extra = NameList::new(alloc);
+    let Ok(all) = gather(alloc, loaded, &extra) else {
+        return Ok(false);
+    };
+    let (names, numbers) = (&all.names, &all.numbers);
+    let words = least_words(alloc, loaded, names, numbers)?;
+    let known = winners(alloc, loaded, names, numbers, words.as_slice(), command)?;
+    is_answered(alloc, loaded, command, names, numbers, &known, ask)
 }
 
 // Whether files and the command of some words answer as they are to.

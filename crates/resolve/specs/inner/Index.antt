@@ -1,7 +1,6 @@
 -- How the code finds what stands under a name.
-use Rattle.std.specs.Prelude.{◌≡◌, ℕ, ◌<◌, List, get_or, slice_get, Option, Some, IsSome}
+use Rattle.std.specs.Prelude.{◌≡◌, ℕ, ◌<◌, List, get_or, position, slice_get, Option, Some, None, IsSome}
 use Rattle.std.specs.Option.{option_and_then}
-use Rattle.std.specs.HashMap.{get}
 use Rattle.std.specs.Str.{bytes_eq}
 use Rattle.mo_cmd.specs.declared.command.Command.{Command}
 use Rattle.resolve.specs.Winners.{lists, winner_named}
@@ -13,9 +12,12 @@ use Rattle.resolve.specs.declared.winner.Winner.{Winner}
 use Rattle.resolve.specs.inner.Best.{chosen_name}
 use Rattle.resolve.specs.inner.Literals.{AreInOrder}
 
--- the place of a name
+-- the place of a name, by its number
+unfoldable pub place_of_name : List (Option ℕ) → List (List ℕ) → List ℕ → Option ℕ
+place_of_name places names name = option_and_then (λ id. get_or places id None) (position (bytes_eq name) names)
+
 abbrev pub known : NameIndex → List ℕ → Option ℕ
-known index name = get bytes_eq index.map name
+known index name = place_of_name index.places.items index.names.now name
 
 -- the rules are a command's
 pub record AreRules (command : Command) (rules : ExportRules) : Type 0 where

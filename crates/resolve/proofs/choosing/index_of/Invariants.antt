@@ -1,5 +1,10 @@
+use Rattle.std.proofs.Common.{◌≡◌, length}
 use Rattle.resolve.specs.inner.Index.{IsIndexOf}
 use Rattle.resolve.proofs.choosing.index_of.Given as goal
 
 abbrev pub invariant-loop-i : goal.invariant-loop-i
-invariant-loop-i l = IsIndexOf l.chosen l.i l.index
+invariant-loop-i l = record {
+  index : IsIndexOf l.chosen l.i l.index;
+  names : l.index.names.now ≡ l.names;
+  len : length l.index.places.items ≡ length l.names;
+}

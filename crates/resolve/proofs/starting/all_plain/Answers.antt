@@ -1,13 +1,22 @@
-use Rattle.std.proofs.Common.{[]}
+use Rattle.std.proofs.Common.{[], ◌∙◌, refl}
 use Rattle.resolve.specs.Roots.{plain_roots}
 use Rattle.resolve.proofs.GrowLemmas.{grow_end, grow_item, whole_at}
+use Rattle.resolve.proofs.PoolLemmas.{as_many_lists, numbers_there}
 use Rattle.resolve.proofs.starting.all_plain.Goals as goal
 
-pub with_plain_roots-requires : goal.with_plain_roots-requires
-with_plain_roots-requires c = whole_at c.args.files.now c.loop-file.file-index c.file-item.result c.requires c.loop-file-test.true c.file-item.is
+pub bounds-numbers-at : goal.bounds-numbers-at
+bounds-numbers-at c = as_many_lists c.args.winners.now.names c.args.files.now c.args.files.now c.args.numbers.now c.loop-at.at c.requires.numbers refl c.loop-at-test.true
 
-pub loop-file-preserved : goal.loop-file-preserved
-loop-file-preserved c = grow_item (plain_roots c.args.winners.now) [] c.loop-file.roots.items c.in_ok-roots.roots.items c.args.files.now c.loop-file.file-index c.file-item.result c.file-item.result c.loop-file.invariant c.loop-file-test.true c.file-item.is c.in_ok-roots.ensures
+pub with_plain_roots-requires-clause-whole : goal.with_plain_roots-requires-clause-whole
+with_plain_roots-requires-clause-whole c = whole_at c.args.files.now c.loop-at.at c.index-files-at.result c.requires.whole c.loop-at-test.true c.index-files-at.is
+
+pub with_plain_roots-requires-clause-numbers : goal.with_plain_roots-requires-clause-numbers
+with_plain_roots-requires-clause-numbers c =
+    numbers_there c.args.winners.now.names c.args.files.now c.args.files.now c.args.numbers.now c.loop-at.at c.index-files-at.result c.as_slice.result.now c.index-numbers-at.result
+    c.requires.numbers refl c.loop-at-test.true c.index-files-at.is (c.as_slice.ensures ∙ c.index-numbers-at.is)
+
+pub loop-at-preserved : goal.loop-at-preserved
+loop-at-preserved c = grow_item (plain_roots c.args.winners.now) [] c.loop-at.roots.items c.in_ok-roots.roots.items c.args.files.now c.loop-at.at c.index-files-at.result c.index-files-at.result c.loop-at.invariant c.loop-at-test.true c.index-files-at.is c.in_ok-roots.ensures
 
 pub returns : goal.returns
-returns c = grow_end (plain_roots c.args.winners.now) [] c.loop-file.roots.items c.args.files.now c.loop-file.file-index c.loop-file.invariant c.loop-file-test.false
+returns c = grow_end (plain_roots c.args.winners.now) [] c.loop-at.roots.items c.args.files.now c.loop-at.at c.loop-at.invariant c.loop-at-test.false

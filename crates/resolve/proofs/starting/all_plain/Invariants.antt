@@ -3,5 +3,5 @@ use Rattle.resolve.specs.Roots.{plain_roots}
 use Rattle.resolve.proofs.GrowLemmas.{IsGrowing}
 use Rattle.resolve.proofs.starting.all_plain.Given as goal
 
-abbrev pub invariant-loop-file : goal.invariant-loop-file
-invariant-loop-file l = IsGrowing (plain_roots l.winners) [] l.roots.items l.files l.file-index
+abbrev pub invariant-loop-at : goal.invariant-loop-at
+invariant-loop-at l = IsGrowing (plain_roots l.winners) [] l.roots.items l.files l.at

@@ -1,8 +1,0 @@
-use Rattle.std.proofs.Common.{[]}
-use Rattle.std.specs.List.{enumerate_from}
-use Rattle.resolve.specs.Roots.{winning_atom}
-use Rattle.resolve.proofs.PickLemmas.{IsPicking}
-use Rattle.resolve.proofs.standing.winning_atoms.Given as goal
-
-abbrev pub invariant-loop-i : goal.invariant-loop-i
-invariant-loop-i l = IsPicking (winning_atom l.winners.winners l.file) [] l.atoms.items (enumerate_from 0 l.file.object.symbols) l.i
