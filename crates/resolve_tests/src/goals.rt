@@ -3,6 +3,7 @@
 ghost use Rattle.std.specs.Prelude.{◌≡◌, ◌<◌, IfOk, IfSome, length};
 ghost use Rattle.mo_types.specs.Loaded.{IsWholeLoaded};
 ghost use Rattle.name_ids.specs.Names.{numbers_of};
+ghost use Rattle.resolve.specs.Found.{AreNamed};
 ghost use Rattle.resolve.specs.Known.{AreKnown};
 
 use crate::clang_names::{NAMES, OBJECT, Told};
@@ -556,8 +557,26 @@ fn is_answered(
     }
 }
 
-// Whether the winners of files, by the words of a race of all their candidates, answer as they are to.
+// Whether the winners of files with numbered names, by the words of a race of all their candidates, answer as they are to.
 fn is_known(
+    alloc: Global,
+    loaded: &Loaded,
+    command: &Command,
+    names: &NameTable,
+    numbers: &Items<NumberList>,
+    ask: &Ask,
+) -> Result<bool, OutOfMemory>
+    requires whole { IsWholeLoaded loaded.now }
+    requires named { AreNamed names.now loaded.now.files }
+    requires numbers { numbers.now ≡ numbers_of names.now loaded.now.files }
+{
+    let words = least_words(alloc, loaded, names, numbers)?;
+    let known = winners(alloc, loaded, names, numbers, words.as_slice(), command)?;
+    is_answered(alloc, loaded, command, names, numbers, &known, ask)
+}
+
+// The same of files whose names have no numbers yet.
+fn is_gathered(
     alloc: Global,
     loaded: &Loaded,
     command: &Command,
@@ -566,13 +585,10 @@ fn is_known(
     requires { IsWholeLoaded loaded.now }
 {
     let extra = NameList::new(alloc);
-    let Ok(all) = gather(alloc, loaded, &extra) else {
-        return Ok(false);
-    };
-    let (names, numbers) = (&all.names, &all.numbers);
-    let words = least_words(alloc, loaded, names, numbers)?;
-    let known = winners(alloc, loaded, names, numbers, words.as_slice(), command)?;
-    is_answered(alloc, loaded, command, names, numbers, &known, ask)
+    match gather(alloc, loaded, &extra) {
+        Ok(all) => is_known(alloc, loaded, command, &all.names, &all.numbers, ask),
+        Err(_) => Ok(false),
+    }
 }
 
 // Whether files and the command of some words answer as they are to.
@@ -586,7 +602,7 @@ fn is_so(
 {
     let command = command_of(alloc, words)?;
     match (&command, loaded) {
-        (Some(command), Some(loaded)) => is_known(alloc, loaded, command, ask),
+        (Some(command), Some(loaded)) => is_gathered(alloc, loaded, command, ask),
         _ => Ok(false),
     }
 }
