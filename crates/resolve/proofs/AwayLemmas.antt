@@ -1,8 +1,8 @@
 -- The edges that lead away from some atoms are those of all edges that do.
-use Rattle.std.proofs.Common.{◌≡◌, ◌++◌, ℕ, zero, suc, ◌==◌, Bool, true, false, List, [], ◌∷◌, map, slice_get, Some, None, inl, inr, refl, sym, ap, ◌-◌, ◌∙◌, if◌then◌else◌}
+use Rattle.std.proofs.Common.{◌≡◌, ◌++◌, ℕ, zero, suc, ◌==◌, Bool, true, false, List, [], ◌∷◌, map, slice_get, Some, None, inl, inr, refl, sym, ap, ap₂, ◌-◌, ◌∙◌, if◌then◌else◌}
 use Rattle.std.specs.Prelude.{IfOk, Option, Result, Ok, Err}
 use Rattle.std.specs.List.{filter, flat_map, list_any}
-use Rattle.std.specs.Option.{option_and_then, option_map, option_map_or}
+use Rattle.std.specs.Option.{is_some, option_and_then, option_map, option_map_or}
 use Rattle.std.proofs.lemmas.Bool.{cases_Bool, false≢true}
 use Rattle.std.proofs.lemmas.List.{append-nil}
 use Rattle.std.proofs.lemmas.List.Elements.{filter-append}
@@ -25,7 +25,7 @@ use Rattle.mo_types.specs.declared.unwind.Unwind.{Unwind}
 use Rattle.resolve.specs.Edges.{edge_from, edges_at, file_edges, file_supports, goal_atom, is_live_support, ref_edges, ref_supports, supports_at, supports_live, target_atom, unwind_edges}
 use Rattle.resolve.specs.declared.representative.Representative.{Representative}
 use Rattle.resolve.proofs.PlacedLemmas.{ends_told}
-use Rattle.resolve.specs.inner.Away.{away, ends_in, file_away, goal_away, ref_away, target_away, unwind_away}
+use Rattle.resolve.specs.inner.Away.{AreAway, away, end_in, ends_in, file_away, goal_away, ref_away, target_away, unwind_away}
 
 -- ---- lists
 
@@ -103,13 +103,43 @@ file_filtered literals roots goals ends file is =
     ∙ filter_flat (leads_away roots) (unwind_edges literals goals) file.unwinds)
     ∙ sym (filter-append (leads_away roots) (flat_map (ref_edges literals goals) file.refs) (flat_map (unwind_edges literals goals) file.unwinds))
 
+-- ---- the ends of a pool's goals
+
+no_ends : (f : Goal → Option AtomKey) (pool : List Goal) (place : ℕ) → list_any (λ goal. is_some (f goal)) pool ≡ false → None ≡ end_in (map f pool) place
+no_ends f [] place none = refl
+no_ends f (goal ∷ pool) place none = by (f goal) refl (λ k rest. no_ends f pool k rest)
+  where
+    by : (end : Option AtomKey) → f goal ≡ end → ((k : ℕ) → list_any (λ goal. is_some (f goal)) pool ≡ false → None ≡ end_in (map f pool) k) → None ≡ end_in (map f (goal ∷ pool)) place
+    by (Some atom) e more = absurd (let some : list_any (λ goal. is_some (f goal)) (goal ∷ pool) ≡ true = rw e refl in let no : true ≡ false = sym some ∙ none in cc)
+    by None e more = here place
+      where
+        rest : list_any (λ goal. is_some (f goal)) pool ≡ false
+        rest = let same : list_any (λ goal. is_some (f goal)) (goal ∷ pool) ≡ list_any (λ goal. is_some (f goal)) pool = rw e refl in sym same ∙ none
+
+        here : (k : ℕ) → None ≡ end_in (map f (goal ∷ pool)) k
+        here zero = sym e
+        here (suc k) = more k rest
+
+pub nothing_away : (roots : List AtomKey) (pool : List Goal) (ends : List (Option AtomKey)) (any : Bool) → any ≡ list_any (λ goal. is_some (goal_away roots goal)) pool → any ≡ false → ends ≡ [] → AreAway roots pool ends
+nothing_away roots pool ends any is none empty = record { each = λ place. ap (λ (es : List (Option AtomKey)). end_in es place) empty ∙ no_ends (goal_away roots) pool place (sym is ∙ none) }
+
+pub each_away : (roots : List AtomKey) (pool : List Goal) (ends : List (Option AtomKey)) → ends ≡ map (goal_away roots) pool → AreAway roots pool ends
+each_away roots pool ends is = record { each = λ place. ap (λ (es : List (Option AtomKey)). end_in es place) is }
+
+pub ruleset aways = (nothing_away, each_away)
+
+ends_alike : (ends others : List (Option AtomKey)) (places : List ℕ) → ((place : ℕ) → end_in ends place ≡ end_in others place) → ends_in ends places ≡ ends_in others places
+unfolding ends_in
+ends_alike ends others [] same = refl
+ends_alike ends others (place ∷ places) same = ap₂ (λ (one : Option AtomKey) (more : List (Option AtomKey)). one ∷ more) (same place) (ends_alike ends others places same)
+
 -- with the edges that lead away of a file, whose symbols' goals stand in a pool
-pub edges_here : {V : Type 0} (items : V → List Edge) (result : Result V OutOfMemory) (literals : List Representative) (roots : List AtomKey) (pool : List Goal) (places read : List ℕ) (ends those : List (Option AtomKey)) (file : LoadedFile) (before : List Edge) → ends ≡ map (goal_away roots) pool → AreWithin pool places → read ≡ places → those ≡ ends_in ends read
+pub edges_here : {V : Type 0} (items : V → List Edge) (result : Result V OutOfMemory) (literals : List Representative) (roots : List AtomKey) (pool : List Goal) (places read : List ℕ) (ends those : List (Option AtomKey)) (file : LoadedFile) (before : List Edge) → AreAway roots pool ends → AreWithin pool places → read ≡ places → those ≡ ends_in ends read
     → IfOk result (λ new. items new ≡ before ++ file_away literals roots those file) → IfOk result (λ new. items new ≡ before ++ filter (leads_away roots) (file_edges literals (goals_in pool places) file))
 edges_here items (Ok new) literals roots pool places read ends those file before are within same of more =
     more ∙ ap (λ (es : List Edge). before ++ es)
     (file_filtered literals roots (goals_in pool places) those file
-    (of ∙ ap (ends_in ends) same ∙ ap (λ (es : List (Option AtomKey)). ends_in es places) are ∙ ends_told (goal_away roots) pool places within))
+    (of ∙ ap (ends_in ends) same ∙ ends_alike ends (map (goal_away roots) pool) places are.each ∙ ends_told (goal_away roots) pool places within))
 edges_here items (Err fault) literals roots pool places read ends those file before are within same of more = tt
 
 -- the goals of the file at a place, where there is one

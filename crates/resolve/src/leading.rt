@@ -1,7 +1,7 @@
 //! What leads from one atom to another that isn't a root.
-ghost use Rattle.std.specs.Prelude.{◌≡◌, ◌++◌, IfOk, map, slice_get};
+ghost use Rattle.std.specs.Prelude.{◌≡◌, ◌++◌, IfOk, slice_get};
 ghost use Rattle.std.specs.List.{filter, flat_map, list_any};
-ghost use Rattle.std.specs.Option.{option_and_then, option_map, option_to_list};
+ghost use Rattle.std.specs.Option.{is_some, option_and_then, option_map, option_to_list};
 ghost use Rattle.goal_table.specs.Table.{goals_in, goals_of};
 ghost use Rattle.mark_core.specs.Kept.{begins_away, leads_away};
 ghost use Rattle.resolve.specs.Edges as spec;
@@ -111,14 +111,26 @@ fn goal_away(roots: &KeySet, goal: &Goal) -> Option<AtomKey>
     }
 }
 
-// For each goal of a pool the atom in which it stands, if that isn't a root.
+// Whether a goal of a pool stands in an atom that isn't a root.
+fn lead_away(roots: &KeySet, goals: &[Goal]) -> bool
+    ensures { result ≡ list_any (λ goal. is_some (aways.goal_away roots.now goal)) goals.now }
+{
+    goals.iter().any(|goal| goal_away(roots, goal).is_some())
+}
+
+// For each goal of a pool the atom in which it stands, if that isn't a root, or nothing where all of these are roots: then
+// no reference to a name asks for memory.
+#[tactic(auto, using(crate::proofs::AwayLemmas::aways))]
 fn goals_away(
     alloc: Global,
     roots: &KeySet,
     goals: &[Goal],
 ) -> Result<Vec<Option<AtomKey>>, OutOfMemory>
-    ensures { IfOk result (λ ends. ends.items ≡ map (aways.goal_away roots.now) goals.now) }
+    ensures { IfOk result (λ ends. aways.AreAway roots.now goals.now ends.items) }
 {
+    if !lead_away(roots, goals) {
+        return Ok(Vec::new(alloc));
+    }
     Ok(
         goals
             .iter()
@@ -275,7 +287,7 @@ fn with_file_edges(
     goals: &FileGoals,
     file: &LoadedFile,
 ) -> Result<Vec<Edge>, OutOfMemory>
-    requires { ends.now ≡ map (aways.goal_away roots.now) goals.now.pool }
+    requires { aways.AreAway roots.now goals.now.pool ends.now }
     ensures { IfOk result (λ new. new.items ≡ before.items ++ filter (leads_away roots.now) (spec.file_edges winners.now.literals (goals_in goals.now.pool goals.now.places) file.now)) }
 {
     let ends = Ends::new(ends, goals.places());
@@ -293,7 +305,7 @@ fn with_edges_at(
     at: usize,
     file: &LoadedFile,
 ) -> Result<Vec<Edge>, OutOfMemory>
-    requires { ends.now ≡ map (aways.goal_away roots.now) table.now.pool }
+    requires { aways.AreAway roots.now table.now.pool ends.now }
     ensures { IfOk result (λ new. new.items ≡ before.items ++ filter (leads_away roots.now) (spec.edges_at winners.now.literals (goals_of table.now) (at, file.now))) }
 {
     match table.file(at) {

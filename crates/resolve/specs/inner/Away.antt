@@ -1,5 +1,5 @@
 -- The edges that lead away from some atoms, by where the symbols of a file lead.
-use Rattle.std.specs.Prelude.{ℕ, ◌++◌, not, List, map, Option, slice_get}
+use Rattle.std.specs.Prelude.{ℕ, ◌≡◌, ◌++◌, not, List, map, Option, slice_get}
 use Rattle.std.specs.List.{flat_map}
 use Rattle.std.specs.Option.{option_and_then, option_map}
 use Rattle.mark_core.specs.Kept.{has}
@@ -27,6 +27,10 @@ goal_away roots goal = option_and_then (away roots) (goal_atom goal)
 -- those of a file's symbols, by the places of their goals in a pool, from those of the pool
 abbrev pub end_in : List (Option AtomKey) → ℕ → Option AtomKey
 end_in ends place = option_and_then (λ end. end) (slice_get ends place)
+
+-- those of the goals of a pool, of which any that are missing lead nowhere
+pub record AreAway (roots : List AtomKey) (pool : List Goal) (ends : List (Option AtomKey)) : Type 0 where
+  pub each : (place : ℕ) → end_in ends place ≡ end_in (map (goal_away roots) pool) place
 
 unfoldable pub ends_in : List (Option AtomKey) → List ℕ → List (Option AtomKey)
 ends_in ends places = map (end_in ends) places
