@@ -114,6 +114,19 @@ fn last_start(atoms: &[Atom], count: usize) -> u64
     atoms[count - 1].key.offset
 }
 
+// How many atoms aren't after an offset of the section of an index, where the search begins at a place, and the cut
+// of the last of them.
+fn cut_from(cut: &CutObject, index: usize, offset: u64, from: usize) -> (usize, u64)
+    requires cut { IsCut cut.now }
+    requires index { index < length cut.now.object.now.sections }
+    requires linked { (d : Section) → is_dropped (slice_index_or cut.now.object.now.sections index d) ≡ false }
+    ensures value { (d : Section) → result.1 ≡ cutting.cut_of cut.now.object.now (index + 1) (slice_index_or cut.now.object.now.sections index d) offset }
+    ensures within { result.1 ≤ offset }
+{
+    let after = count_from(cut.atoms, index as u16 + 1, offset, from);
+    (after, last_start(cut.atoms, after))
+}
+
 /// The cut of the atom to which an offset of the section of an index belongs.
 pub fn cut_of(cut: &CutObject, index: usize, offset: u64) -> u64
     requires cut { IsCut cut.now }
@@ -123,6 +136,20 @@ pub fn cut_of(cut: &CutObject, index: usize, offset: u64) -> u64
     ensures within { result ≤ offset }
 {
     let from = first_for(cut.guides, index, offset);
-    let after = count_from(cut.atoms, index as u16 + 1, offset, from);
-    last_start(cut.atoms, after)
+    cut_from(cut, index, offset, from).1
+}
+
+/// The cuts of the atoms to which two offsets of the section of an index belong; the second is looked for from the
+/// atom of the first on.
+pub fn cuts_of(cut: &CutObject, index: usize, offset: u64, behind: u64) -> (u64, u64)
+    requires cut { IsCut cut.now }
+    requires index { index < length cut.now.object.now.sections }
+    requires linked { (d : Section) → is_dropped (slice_index_or cut.now.object.now.sections index d) ≡ false }
+    ensures first { (d : Section) → result.0 ≡ cutting.cut_of cut.now.object.now (index + 1) (slice_index_or cut.now.object.now.sections index d) offset }
+    ensures second { (d : Section) → result.1 ≡ cutting.cut_of cut.now.object.now (index + 1) (slice_index_or cut.now.object.now.sections index d) behind }
+{
+    let from = first_for(cut.guides, index, offset);
+    let (after, first) = cut_from(cut, index, offset, from);
+    let (_, second) = cut_from(cut, index, behind, after);
+    (first, second)
 }

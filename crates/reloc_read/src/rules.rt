@@ -7,7 +7,7 @@ ghost use Rattle.reloc_read.specs.Fields.{IsSmall};
 ghost use Rattle.reloc_read.specs.LinkedSection.{IsLinked};
 ghost use Rattle.reloc_read.specs.Overlaps.{Tells};
 
-use crate::linked_section::{LinkedSection, cut_at};
+use crate::linked_section::{LinkedSection, cuts_at};
 use crate::overlaps::{Overlaps, overlaps_another};
 use crate::rows::{
     field_at, first_before, is_first, is_instruction, is_second, is_subtractor, kind_at, last_at,
@@ -67,7 +67,11 @@ fn is_in_one_atom(linked: &LinkedSection, field: &Field) -> bool
     ensures { result ≡ rules.is_in_one_atom linked.now.cut.object.now (linked.now.index + 1) linked.now.section.now field.now }
 {
     let end = field.offset + field.size;
-    end <= linked.section.size && cut_at(linked, end - 1) == cut_at(linked, field.offset)
+    if end > linked.section.size {
+        return false;
+    }
+    let (first, last) = cuts_at(linked, field.offset, end - 1);
+    last == first
 }
 
 fn has_fields(section: &Section) -> bool

@@ -1,6 +1,6 @@
 use Rattle.reloc_read.proofs.LookupLemmas.{finds_some, rising_atoms}
 use Rattle.reloc_read.proofs.PointLemmas.{start_is_cut_of, start_is_within}
-use Rattle.reloc_read.proofs.cut_object.cut_of.Goals as goal
+use Rattle.reloc_read.proofs.cut_object.cut_from.Goals as goal
 
 pub count_from-after-requires : goal.count_from-after-requires
 count_from-after-requires c = rising_atoms c.args.cut.now.object.now c.args.cut.now.file c.args.cut.now.atoms.now c.requires.cut.atoms
