@@ -10,4 +10,5 @@ pub mod NumberLemmas
 pub mod OverlapLemmas
 pub mod PointLemmas
 pub mod RefLemmas
+pub mod RowLemmas
 pub mod ScanLemmas

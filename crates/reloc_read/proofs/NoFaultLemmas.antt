@@ -96,8 +96,6 @@ target_is_good object number section at reloc field none is its =
     second true b x y e = cc
     second false b x y e = unless b x e
 
-pub ruleset good_rows = (field_fits, target_is_good)
-
 held : (section : Section) (address : ℕ) (dropped within : Bool) → is_dropped section ≡ dropped → is_within section address ≡ within → (dropped || not within) ≡ false → (is_dropped section ≡ false) × (section.address ≤ address)
 held section address true within e w none = absurd (false≢true (sym none))
 held section address false true e w none = (e, leb-true section.address address ((both _ _ w).0))

@@ -5,3 +5,4 @@ pub mod Features
 pub mod Fields
 pub mod LinkedSection
 pub mod Overlaps
+pub mod RelocRow

@@ -1,16 +1,20 @@
 //! The least place at which each rule of relocations fails.
 
-ghost use Rattle.std.specs.Prelude.{◌≡◌, ◌+◌, ◌*◌, ◌<◌, ◌^◌, length, slice_index_or, IfSome, IfOk};
+ghost use Rattle.std.specs.Prelude.{◌≡◌, ◌+◌, ◌*◌, ◌<◌, ◌^◌, ℕ, None, length, slice_index_or, IfSome, IfOk};
+ghost use Rattle.mo_types.specs.RelocationRules as rules;
+ghost use Rattle.mo_types.specs.declared.object.Object.{Object};
 ghost use Rattle.mo_types.specs.declared.object.Section.{Section};
 ghost use Rattle.reloc_read.specs.CutObject.{IsCut};
 ghost use Rattle.reloc_read.specs.Faults as faults;
 ghost use Rattle.reloc_read.specs.LinkedSection.{IsLinked};
 ghost use Rattle.reloc_read.specs.Overlaps.{Tells};
+ghost use Rattle.reloc_read.specs.RelocRow.{IsRow};
 
 use crate::cut_object::CutObject;
 use crate::linked_section::LinkedSection;
 use crate::overlaps::{Overlaps, overlaps_of};
-use crate::rules::{pair_fault, place_fault, shape_fault};
+use crate::rows::{RelocRow, row_at};
+use crate::rules::{field_fault, pair_fault, place_fault, shape_fault};
 use crate::targets::target_fault;
 use mo_types::{OutOfMemory, Section};
 use std::alloc::Global;
@@ -62,6 +66,40 @@ fn place_of(section: &Section, index: Option<usize>) -> Option<u64>
     Some(section.reloc_offset + 8 * index as u64)
 }
 
+// The faults of a row, which keeps the rules of pairs and shapes.
+#[tactic(auto, using(crate::proofs::RowLemmas::faults, crate::proofs::LinkedLemmas::linked))]
+fn faults_of_row(linked: &LinkedSection, at: usize, row: &RelocRow, overlaps: &Overlaps) -> Faults
+    requires linked { IsLinked linked.now }
+    requires index { at < length linked.now.section.now.relocs }
+    requires row { IsRow linked.now.section.now.relocs at row.now }
+    requires overlaps { Tells linked.now.section.now.relocs overlaps.now }
+    ensures { result ≡ faults.row_faults linked.now.cut.object.now (linked.now.index + 1) linked.now.section.now at }
+{
+    let section = linked.section;
+    Faults {
+        pair: None,
+        shape: None,
+        place: place_of(section, place_fault(linked, at, row, overlaps)),
+        target: place_of(section, target_fault(linked.cut.object, section, at, row)),
+    }
+}
+
+// The faults at a place at which no row with a field ends.
+#[tactic(auto, using(crate::proofs::RowLemmas::faults))]
+fn faults_of_none(section: &Section, at: usize) -> Faults
+    requires room { section.now.reloc_offset + 8 * length section.now.relocs < 2 ^ 64 }
+    requires index { at < length section.now.relocs }
+    requires none { rules.field_at section.now.relocs at ≡ None }
+    ensures { (object : Object) (number : ℕ) → result ≡ faults.row_faults object number section.now at }
+{
+    Faults {
+        pair: place_of(section, pair_fault(section, at)),
+        shape: place_of(section, shape_fault(section, at)),
+        place: place_of(section, field_fault(section, at)),
+        target: None,
+    }
+}
+
 #[tactic(auto, using(crate::proofs::LinkedLemmas::linked))]
 fn row_faults(linked: &LinkedSection, at: usize, overlaps: &Overlaps) -> Faults
     requires linked { IsLinked linked.now }
@@ -69,12 +107,9 @@ fn row_faults(linked: &LinkedSection, at: usize, overlaps: &Overlaps) -> Faults
     requires overlaps { Tells linked.now.section.now.relocs overlaps.now }
     ensures { result ≡ faults.row_faults linked.now.cut.object.now (linked.now.index + 1) linked.now.section.now at }
 {
-    let section = linked.section;
-    Faults {
-        pair: place_of(section, pair_fault(section, at)),
-        shape: place_of(section, shape_fault(section, at)),
-        place: place_of(section, place_fault(linked, at, overlaps)),
-        target: place_of(section, target_fault(linked.cut.object, section, at)),
+    match row_at(linked.section.relocs.as_slice(), at) {
+        Some(row) => faults_of_row(linked, at, &row, overlaps),
+        None => faults_of_none(linked.section, at),
     }
 }
 

@@ -13,7 +13,7 @@ ghost use Rattle.reloc_read.specs.LinkedSection.{IsLinked};
 use crate::cut_object::CutObject;
 use crate::linked_section::{LinkedSection, cut_at};
 use crate::numbers::{field_number, field_signed, signed_24};
-use crate::rows::{field_at, first_before, is_subtractor, kind_at, last_at};
+use crate::rows::{is_subtractor, row_at};
 use mo_types::{AtomKey, Field, OutOfMemory, RawReloc, Ref, RefKind, RefList, Target};
 use std::alloc::Global;
 
@@ -118,7 +118,7 @@ fn reference(
 }
 
 /// The reference of the row that ends at a place, at which no rule fails.
-#[tactic(auto, using(crate::proofs::NoFaultLemmas::good_rows), unfolding(mo_types::specs::Refs::reference_at))]
+#[tactic(auto, using(crate::proofs::RowLemmas::references))]
 pub fn reference_at(linked: &LinkedSection, at: usize) -> Option<Ref>
     requires linked { IsLinked linked.now }
     requires index { at < length linked.now.section.now.relocs }
@@ -126,11 +126,8 @@ pub fn reference_at(linked: &LinkedSection, at: usize) -> Option<Ref>
     requires target { rules.target_fault linked.now.cut.object.now (linked.now.index + 1) linked.now.section.now at ≡ None }
     ensures { result ≡ refs.reference_at linked.now.cut.object.now linked.now.cut.file (linked.now.index + 1) linked.now.section.now at }
 {
-    let relocs = linked.section.relocs.as_slice();
-    let reloc = last_at(relocs, at)?;
-    let kind = kind_at(relocs, at)?;
-    let field = field_at(relocs, at)?;
-    reference(linked, first_before(relocs, at), &reloc, kind, field)
+    let row = row_at(linked.section.relocs.as_slice(), at)?;
+    reference(linked, row.first, &row.last, row.kind, row.field)
 }
 
 fn add(out: &mut RefList, reference: Option<Ref>) -> Result<(), OutOfMemory>

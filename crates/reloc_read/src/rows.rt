@@ -4,6 +4,7 @@ ghost use Rattle.std.specs.Prelude.{◌≡◌, ◌≤◌, IfSome};
 ghost use Rattle.mo_types.specs.RelocationRules as rules;
 ghost use Rattle.mo_types.specs.Rows as rows;
 ghost use Rattle.reloc_read.specs.Fields.{IsSmall};
+ghost use Rattle.reloc_read.specs.RelocRow.{IsRead};
 
 use mo_format::reloc::{
     ARM64_RELOC_ADDEND, ARM64_RELOC_AUTHENTICATED_POINTER, ARM64_RELOC_BRANCH26,
@@ -12,6 +13,17 @@ use mo_format::reloc::{
     ARM64_RELOC_TLVP_LOAD_PAGE21, ARM64_RELOC_TLVP_LOAD_PAGEOFF12, ARM64_RELOC_UNSIGNED,
 };
 use mo_types::{Field, RawReloc, RefKind};
+
+/// What a row of the table says: its field and kind, by its relocations.
+#[derive(Clone, Copy)]
+pub struct RelocRow {
+    pub field: Field,
+    pub first: Option<RawReloc>,
+    pub last: RawReloc,
+    pub kind: RefKind,
+}
+
+const _: () = prove!(size_of::<RelocRow>() == 48);
 
 /// Whether a relocation says what is taken from the next one (`arm64/reloc.h`: `ARM64_RELOC_SUBTRACTOR`).
 pub fn is_subtractor(reloc: &RawReloc) -> bool
@@ -185,16 +197,31 @@ fn field_of(address: u32, kind: RefKind) -> Field
     }
 }
 
-/// The field of the row that ends at a place; `r_address` is signed, and there is no field below the section.
-#[tactic(auto, unfolding(mo_types::specs::RelocationRules::field_at))]
+/// What the row that ends at a place says, where it has a field; `r_address` is signed, and there is no field below
+/// the section.
+#[tactic(auto, using(crate::proofs::RowLemmas::reads))]
+pub fn row_at(relocs: &[RawReloc], at: usize) -> Option<RelocRow>
+    ensures { IsRead relocs.now at result }
+{
+    let last = last_at(relocs, at)?;
+    let first = first_before(relocs, at);
+    let kind = kind_of(first, &last)?;
+    if last.address >= 1 << 31 {
+        return None;
+    }
+    Some(RelocRow {
+        field: field_of(last.address, kind),
+        first,
+        last,
+        kind,
+    })
+}
+
+/// The field of the row that ends at a place.
+#[tactic(auto, using(crate::proofs::RowLemmas::fields))]
 pub fn field_at(relocs: &[RawReloc], at: usize) -> Option<Field>
     ensures value { result ≡ rules.field_at relocs.now at }
     ensures small { IfSome result IsSmall }
 {
-    let kind = kind_at(relocs, at)?;
-    let address = relocs.get(at)?.address;
-    if address >= 1 << 31 {
-        return None;
-    }
-    Some(field_of(address, kind))
+    Some(row_at(relocs, at)?.field)
 }

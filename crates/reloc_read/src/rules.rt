@@ -1,16 +1,17 @@
 //! The rules that relocations keep: for a place of a section's table, the relocation at fault there.
 
-ghost use Rattle.std.specs.Prelude.{◌≡◌, ◌+◌, ◌<◌, ◌≤◌, ℕ, length, Some, IfSome};
+ghost use Rattle.std.specs.Prelude.{◌≡◌, ◌+◌, ◌<◌, ◌≤◌, ℕ, length, None, Some, IfSome};
 ghost use Rattle.mo_types.specs.RelocationRules as rules;
 ghost use Rattle.mo_types.specs.declared.object.Object.{Object};
 ghost use Rattle.reloc_read.specs.Fields.{IsSmall};
 ghost use Rattle.reloc_read.specs.LinkedSection.{IsLinked};
 ghost use Rattle.reloc_read.specs.Overlaps.{Tells};
+ghost use Rattle.reloc_read.specs.RelocRow.{IsRow};
 
 use crate::linked_section::{LinkedSection, cuts_at};
 use crate::overlaps::{Overlaps, overlaps_another};
 use crate::rows::{
-    field_at, first_before, is_first, is_instruction, is_second, is_subtractor, kind_at, last_at,
+    RelocRow, first_before, is_first, is_instruction, is_second, is_subtractor, kind_at, last_at,
 };
 use mo_types::{Field, RawReloc, RefKind, Section};
 
@@ -102,18 +103,36 @@ fn is_bad_field(
 
 /// The first relocation of a row whose field lies where none may lie; `overlaps` tells which fields of the section
 /// overlap.
-#[tactic(auto, unfolding(mo_types::specs::RelocationRules::place_fault))]
-pub fn place_fault(linked: &LinkedSection, at: usize, overlaps: &Overlaps) -> Option<usize>
+#[tactic(auto, using(crate::proofs::RowLemmas::places))]
+pub fn place_fault(
+    linked: &LinkedSection,
+    at: usize,
+    row: &RelocRow,
+    overlaps: &Overlaps,
+) -> Option<usize>
     requires linked { IsLinked linked.now }
     requires index { at < length linked.now.section.now.relocs }
+    requires row { IsRow linked.now.section.now.relocs at row.now }
     requires overlaps { Tells linked.now.section.now.relocs overlaps.now }
     ensures value { result ≡ rules.place_fault linked.now.cut.object.now (linked.now.index + 1) linked.now.section.now at }
     ensures within { IfSome result (λ index. index ≤ at) }
 {
-    let relocs = linked.section.relocs.as_slice();
-    let kind = kind_at(relocs, at)?;
-    match field_at(relocs, at) {
-        Some(field) if !is_bad_field(linked, at, kind, &field, overlaps) => None,
-        _ => Some(row_start(relocs, at)),
+    if is_bad_field(linked, at, row.kind, &row.field, overlaps) {
+        return Some(row_start(linked.section.relocs.as_slice(), at));
     }
+    None
+}
+
+/// The first relocation of a row that has a kind and no field.
+#[tactic(auto, unfolding(mo_types::specs::RelocationRules::place_fault))]
+pub fn field_fault(section: &Section, at: usize) -> Option<usize>
+    requires { rules.field_at section.now.relocs at ≡ None }
+    ensures value { (object : Object) (number : ℕ) → result ≡ rules.place_fault object number section.now at }
+    ensures within { IfSome result (λ index. index ≤ at) }
+{
+    let relocs = section.relocs.as_slice();
+    if kind_at(relocs, at).is_none() {
+        return None;
+    }
+    Some(row_start(relocs, at))
 }

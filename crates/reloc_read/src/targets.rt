@@ -1,12 +1,14 @@
 //! What relocations name.
 
-ghost use Rattle.std.specs.Prelude.{◌≡◌, ◌≤◌, ℕ, IfSome};
-ghost use Rattle.std.specs.Option.{option_copied};
+ghost use Rattle.std.specs.Prelude.{◌≡◌, ◌≤◌, ◌&&◌, ℕ, false, IfSome};
+ghost use Rattle.std.specs.Option.{option_copied, option_map_or};
 ghost use Rattle.mo_types.specs.RelocationRules as rules;
+ghost use Rattle.mo_types.specs.Rows as rows;
 ghost use Rattle.reloc_read.specs.Fields.{IsSmall};
+ghost use Rattle.reloc_read.specs.RelocRow.{IsRow};
 
 use crate::numbers::field_number;
-use crate::rows::{field_at, first_before, is_subtractor, last_at};
+use crate::rows::{RelocRow, is_subtractor};
 use mo_types::{Field, Object, RawReloc, Section, Symbol, SymbolKind};
 
 /// The section of a number from 1.
@@ -54,13 +56,14 @@ fn is_outside(sections: &[Section], number: u32, address: u64) -> bool
     }
 }
 
-fn is_bad_target(object: &Object, bytes: &[u8], field: Field, reloc: &RawReloc) -> bool
+fn is_bad_target(object: &Object, section: &Section, field: Field, reloc: &RawReloc) -> bool
     requires { IsSmall field }
-    ensures { result ≡ rules.is_bad_target object.now bytes.now field reloc.now }
+    ensures { result ≡ rules.is_bad_target object.now section.now.bytes field reloc.now }
 {
     let sections = object.sections.as_slice();
     if !reloc.external {
-        return is_outside(sections, reloc.number, field_number(bytes, field));
+        let address = field_number(section.bytes.as_slice(), field);
+        return is_outside(sections, reloc.number, address);
     }
     match object.symbols.get(reloc.number as usize) {
         Some(symbol) => is_unnameable(sections, symbol),
@@ -68,23 +71,28 @@ fn is_bad_target(object: &Object, bytes: &[u8], field: Field, reloc: &RawReloc) 
     }
 }
 
+// Whether what a row subtracts is nothing that it may name.
+fn is_bad_minus(object: &Object, section: &Section, row: &RelocRow) -> bool
+    requires { IsSmall row.now.field }
+    ensures { result ≡ option_map_or (λ first. rows.is_subtractor first && rules.is_bad_target object.now section.now.bytes row.now.field first) row.now.first false }
+{
+    match row.first {
+        Some(first) => is_subtractor(&first) && is_bad_target(object, section, row.field, &first),
+        None => false,
+    }
+}
+
 /// The relocation of a row that names nothing that it may name.
-#[tactic(auto, unfolding(mo_types::specs::RelocationRules::target_fault))]
-pub fn target_fault(object: &Object, section: &Section, at: usize) -> Option<usize>
+#[tactic(auto, using(crate::proofs::RowLemmas::field_small))]
+pub fn target_fault(object: &Object, section: &Section, at: usize, row: &RelocRow) -> Option<usize>
+    requires { IsRow section.now.relocs at row.now }
     ensures value { (number : ℕ) → result ≡ rules.target_fault object.now number section.now at }
     ensures within { IfSome result (λ index. index ≤ at) }
 {
-    let relocs = section.relocs.as_slice();
-    let bytes = section.bytes.as_slice();
-    let field = field_at(relocs, at)?;
-    let reloc = last_at(relocs, at)?;
-    if let Some(first) = first_before(relocs, at)
-        && is_subtractor(&first)
-        && is_bad_target(object, bytes, field, &first)
-    {
-        return Some(at - 1);
+    if is_bad_minus(object, section, row) {
+        return Some(at.saturating_sub(1));
     }
-    if is_bad_target(object, bytes, field, &reloc) {
+    if is_bad_target(object, section, row.field, &row.last) {
         return Some(at);
     }
     None
