@@ -1,4 +1,3 @@
-pub mod Listed
 pub mod Orders
 pub mod Spots
 pub mod Told
