@@ -1,3 +1,4 @@
+pub mod Kept
 pub mod Listed
 pub mod Orders
 pub mod Spots

@@ -8,5 +8,5 @@ mod orders;
 mod rows;
 
 pub use addresses::goal_address;
-pub use kept::{KeptAtom, KeptList, atoms_of, kept_atoms};
+pub use kept::{KeptAtom, KeptList, kept_atoms};
 pub use rows::{Work, work_of};

@@ -1,5 +1,5 @@
 //! The atoms that have bytes in the image, in its order, with their places and references.
-ghost use Rattle.std.specs.Prelude.{◌≡◌, ◌+◌, ◌-◌, ◌++◌, ◌∷◌, [], List, IfOk, IsTrue, length, map, not};
+ghost use Rattle.std.specs.Prelude.{◌≡◌, ◌+◌, ◌-◌, ◌++◌, ◌∷◌, [], List, IfOk, IsTrue, length, map, not, slice_get};
 ghost use Rattle.std.specs.List.{filter, filter_map, find, flat_map};
 ghost use Rattle.std.specs.List.Sorted.{IsStrictlySortedBy};
 ghost use Rattle.std.specs.Option.{option_map, option_to_list};
@@ -15,7 +15,7 @@ ghost use Rattle.atom_work.specs.inner.Orders.{AreOrders};
 ghost use Rattle.atom_work.specs.inner.Told.{AreTold, scene_of};
 
 use crate::addresses::{Setting, address_beside, addresses_of};
-use crate::kept::KeptAtom;
+use crate::kept::{KeptAtom, KeptList};
 use crate::mets::with_mets;
 use crate::orders::orders_of;
 use goal_table::GoalTable;
@@ -41,7 +41,7 @@ pub struct Work {
 struct Sources<'a> {
     files: &'a LoadedList,
     orders: &'a Items<SpotList>,
-    atoms: &'a [KeptAtom],
+    atoms: &'a KeptList,
     setting: &'a Setting<'a>,
 }
 
@@ -65,16 +65,24 @@ struct Found {
     at: usize,
 }
 
+// The kept atom at a place.
+fn found_at(atoms: &KeptList, at: usize) -> Option<Found>
+    ensures { option_map (λ found. found.kept) result ≡ slice_get atoms.now at }
+{
+    Some(Found {
+        kept: atoms.get(at)?,
+        at,
+    })
+}
+
 // The kept atom with a key.
-fn find_kept(atoms: &[KeptAtom], key: AtomKey) -> Option<Found>
+fn find_kept(atoms: &KeptList, key: AtomKey) -> Option<Found>
     requires { IsStrictlySortedBy (on (λ (kept : KeptAtom). kept.atom.key) compare_keys) atoms.now }
     ensures { option_map (λ found. found.kept) result ≡ kept_at atoms.now key }
 {
-    match atoms.binary_search_by(|kept| compare(&kept.atom.key, &key)) {
-        Ok(at) => Some(Found {
-            kept: atoms[at],
-            at,
-        }),
+    let alone = atoms.atoms().as_slice();
+    match alone.binary_search_by(|atom| compare(&atom.key, &key)) {
+        Ok(at) => found_at(atoms, at),
         Err(_) => None,
     }
 }
@@ -87,12 +95,12 @@ fn has_key(kept: &KeptAtom, key: &AtomKey) -> bool
 }
 
 // The kept atom with a key, which mostly stands at a place of the list.
-fn find_near(atoms: &[KeptAtom], near: usize, key: AtomKey) -> Option<Found>
+#[tactic(auto, using(crate::proofs::KeptListLemmas::near))]
+fn find_near(atoms: &KeptList, near: usize, key: AtomKey) -> Option<Found>
     requires { IsStrictlySortedBy (on (λ (kept : KeptAtom). kept.atom.key) compare_keys) atoms.now }
     ensures { option_map (λ found. found.kept) result ≡ kept_at atoms.now key }
 {
-    if near < atoms.len() {
-        let kept = atoms[near];
+    if let Some(kept) = atoms.get(near) {
         if has_key(&kept, &key) {
             return Some(Found { kept, at: near });
         }
@@ -292,7 +300,7 @@ pub fn work_of(
     loaded: &Loaded,
     winners: &Winners,
     goals: &GoalTable,
-    kept: &[KeptAtom],
+    kept: &KeptList,
     layout: &Layout,
     base: u64,
 ) -> Result<Work, OutOfMemory>
