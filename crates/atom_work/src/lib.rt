@@ -9,6 +9,6 @@ mod orders;
 mod rows;
 
 pub use addresses::goal_address;
-pub use kept::{KeptAtom, KeptList, atoms_of, kept_atoms};
+pub use kept::{KeptAtom, KeptList, kept_atoms};
 pub use meeting::Meets;
 pub use rows::work_of;

@@ -1,5 +1,5 @@
 //! The atoms that have bytes in the image, in its order, with their places.
-ghost use Rattle.std.specs.Prelude.{◌≡◌, ◌+◌, ◌-◌, ◌++◌, ◌∷◌, [], IfOk, IsTrue};
+ghost use Rattle.std.specs.Prelude.{◌≡◌, ◌+◌, ◌-◌, ◌++◌, ◌∷◌, [], IfOk, IsTrue, slice_get};
 ghost use Rattle.std.specs.List.{filter_map};
 ghost use Rattle.std.specs.List.Sorted.{IsStrictlySortedBy};
 ghost use Rattle.std.specs.Option.{option_map, option_to_list};
@@ -11,7 +11,7 @@ ghost use Rattle.atom_work.specs.Rows as spec;
 ghost use Rattle.atom_work.specs.declared.kept.KeptAtom.{KeptAtom};
 
 use crate::addresses::address_beside;
-use crate::kept::KeptAtom;
+use crate::kept::{KeptAtom, KeptList};
 use mo_types::{AtomKey, OutOfMemory};
 use patch::PlacedWork;
 use sect_place::{Layout, PlacedSection, is_zerofill};
@@ -31,16 +31,24 @@ struct Found {
     at: usize,
 }
 
+// The kept atom at a place.
+fn found_at(atoms: &KeptList, at: usize) -> Option<Found>
+    ensures { option_map (λ found. found.kept) result ≡ slice_get atoms.now at }
+{
+    Some(Found {
+        kept: atoms.get(at)?,
+        at,
+    })
+}
+
 // The kept atom with a key.
-fn find_kept(atoms: &[KeptAtom], key: AtomKey) -> Option<Found>
+fn find_kept(atoms: &KeptList, key: AtomKey) -> Option<Found>
     requires { IsStrictlySortedBy (on (λ (kept : KeptAtom). kept.atom.key) compare_keys) atoms.now }
     ensures { option_map (λ found. found.kept) result ≡ kept_at atoms.now key }
 {
-    match atoms.binary_search_by(|kept| compare(&kept.atom.key, &key)) {
-        Ok(at) => Some(Found {
-            kept: atoms[at],
-            at,
-        }),
+    let alone = atoms.atoms().as_slice();
+    match alone.binary_search_by(|atom| compare(&atom.key, &key)) {
+        Ok(at) => found_at(atoms, at),
         Err(_) => None,
     }
 }
@@ -53,12 +61,12 @@ fn has_key(kept: &KeptAtom, key: &AtomKey) -> bool
 }
 
 // The kept atom with a key, which mostly stands at a place of the list.
-fn find_near(atoms: &[KeptAtom], near: usize, key: AtomKey) -> Option<Found>
+#[tactic(auto, using(crate::proofs::KeptListLemmas::near))]
+fn find_near(atoms: &KeptList, near: usize, key: AtomKey) -> Option<Found>
     requires { IsStrictlySortedBy (on (λ (kept : KeptAtom). kept.atom.key) compare_keys) atoms.now }
     ensures { option_map (λ found. found.kept) result ≡ kept_at atoms.now key }
 {
-    if near < atoms.len() {
-        let kept = atoms[near];
+    if let Some(kept) = atoms.get(near) {
         if has_key(&kept, &key) {
             return Some(Found { kept, at: near });
         }
@@ -102,7 +110,7 @@ fn with_row(
 #[tactic(auto, using(crate::proofs::ListLemmas::no_more), unfolding(crate::specs::Rows::row_of))]
 fn with_key(
     before: Vec<PlacedWork>,
-    atoms: &[KeptAtom],
+    atoms: &KeptList,
     layout: &Layout,
     section: &PlacedSection,
     key: AtomKey,
@@ -126,7 +134,7 @@ fn with_key(
 #[tactic(auto, using(crate::proofs::ListLemmas::keys_start, crate::proofs::ListLemmas::keys_end))]
 fn with_keys(
     before: Vec<PlacedWork>,
-    atoms: &[KeptAtom],
+    atoms: &KeptList,
     layout: &Layout,
     section: &PlacedSection,
     keys: &[AtomKey],
@@ -146,7 +154,7 @@ fn with_keys(
 // Atoms, and those of a section.
 fn with_section(
     before: Vec<PlacedWork>,
-    atoms: &[KeptAtom],
+    atoms: &KeptList,
     layout: &Layout,
     section: &PlacedSection,
 ) -> Result<Vec<PlacedWork>, OutOfMemory>
@@ -173,7 +181,7 @@ fn has_bytes(section: &PlacedSection) -> bool
 #[tactic(auto, using(crate::proofs::ListLemmas::sections))]
 fn with_sections(
     before: Vec<PlacedWork>,
-    atoms: &[KeptAtom],
+    atoms: &KeptList,
     layout: &Layout,
     sections: &[PlacedSection],
 ) -> Result<Vec<PlacedWork>, OutOfMemory>
@@ -194,7 +202,7 @@ fn with_sections(
 /// places in the file and in memory. A place of 2^64 or more is answered as want of memory.
 pub fn work_of(
     alloc: Global,
-    kept: &[KeptAtom],
+    kept: &KeptList,
     layout: &Layout,
 ) -> Result<Vec<PlacedWork>, OutOfMemory>
     requires once { AreOnce layout.now.placed }

@@ -1,7 +1,6 @@
 -- A layout of kept atoms that rise has each atom once.
-use Rattle.std.proofs.Common.{◌≡◌, ◌≢◌, ◌≤◌, ◌<◌, ℕ, length, subst, List, [], ◌∷◌, map, get_or, refl, sym, ap, ◌∙◌}
+use Rattle.std.proofs.Common.{◌≡◌, ◌≤◌, ◌<◌, ℕ, length, subst, List, map, get_or, sym, ap, ◌∙◌}
 use Rattle.std.specs.Prelude.{All}
-use Rattle.std.specs.List.{AllPairs}
 use Rattle.std.specs.List.Sorted.{IsStrictlySortedBy}
 use Rattle.std.specs.Ordering.{on}
 use Rattle.std.specs.declared.cmp.Ordering.TheVariants.{Less, Equal}
@@ -36,11 +35,6 @@ less_not_equal e = cc
 pub once : (placed : List Placed) → IsStrictlySortedBy (on (λ (p : Placed). p.atom) compare_keys) placed → AreOnce placed
 once placed rising = λ i j d low high same.
     less_not_equal (sym (rising_at (on (λ (p : Placed). p.atom) compare_keys) placed i j d rising low high) ∙ ap (λ a. compare_keys a (get_or placed j d).atom) same ∙ tied_itself compare_keys_total (get_or placed j d).atom)
-
-pub rising_atoms : (kept : List KeptAtom) → IsStrictlySortedBy (on (λ (one : KeptAtom). one.atom.key) compare_keys) kept → IsStrictlySortedBy (on (λ (atom : Atom). atom.key) compare_keys) (map atom_of kept)
-unfolding IsStrictlySortedBy
-rising_atoms [] rising = tt
-rising_atoms (one ∷ kept) rising = (all_map atom_of (λ (atom : Atom). compare_keys one.atom.key atom.key ≡ Less) kept rising.0, rising_atoms kept rising.1)
 
 pub low_atoms : (kept : List KeptAtom) → All (λ (one : KeptAtom). one.atom.align ≤ 14) kept → All (λ (atom : Atom). atom.align ≤ 14) (map atom_of kept)
 low_atoms kept low = λ k d within. all_at (λ (atom : Atom). atom.align ≤ 14) (map atom_of kept) k d (all_map atom_of (λ (atom : Atom). atom.align ≤ 14) kept (recursion_from_All (λ (one : KeptAtom). one.atom.align ≤ 14) kept low)) within

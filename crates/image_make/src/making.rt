@@ -65,7 +65,7 @@ pub fn make_image<R: Threads + Sync, G: Gate + Sync>(
         scheme.command,
         scheme.libs,
         scheme.loaded,
-        kept.as_slice(),
+        &kept,
         scheme.slots,
         scheme.islands,
     )?;
@@ -83,7 +83,7 @@ pub fn make_image<R: Threads + Sync, G: Gate + Sync>(
         scheme.loaded,
         scheme.winners,
         scheme.goals,
-        kept.as_slice(),
+        &kept,
         &layout,
         base_of(scheme.command),
     )?;

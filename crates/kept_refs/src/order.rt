@@ -10,15 +10,18 @@ use mo_types::{Items, OutOfMemory, RefList};
 use std::alloc::Global;
 use std::cmp::Ordering;
 
+// Four of them share a cache line.
+const _: () = prove!(size_of::<Spot>() == 16);
+
 /// A reference of a file: where its atom is cut from the object, and its place among the file's references.
 #[derive(Clone, Copy, Debug, PartialEq, Eq)]
 pub struct Spot {
-    /// The number of the atom's section, counted from 1.
-    pub section: u16,
     /// The atom's offset in its section, in bytes.
     pub offset: u64,
     /// The reference's place in the file's list, counted from 0.
     pub index: u32,
+    /// The number of the atom's section, counted from 1.
+    pub section: u16,
 }
 
 /// References in a stated order.
