@@ -7,7 +7,7 @@ use Rattle.std.specs.Ordering.{is_eq, on}
 use Rattle.std.specs.declared.cmp.Ordering.TheVariants.{Less, Equal}
 use Rattle.std.proofs.lemmas.Cmp.{tied_itself}
 use Rattle.std.proofs.lemmas.List.Sorted.{Contains-permutation}
-use Rattle.list_lemmas.proofs.Members.{Contains_from_in, In, all_in, all_map, from_filter, from_filter_map, from_flat}
+use Rattle.list_lemmas.proofs.Members.{Contains_from_in, In, all_in, from_filter, from_filter_map, from_flat}
 use Rattle.list_lemmas.proofs.Rising.{rising_at}
 use Rattle.mo_types.proofs.KeyOrder.{compare_keys_total}
 use Rattle.mo_types.specs.Keys.{compare_keys}
@@ -31,6 +31,7 @@ use Rattle.atom_work.specs.Atoms.{atom_of, kept_at}
 use Rattle.atom_work.specs.Rows.{Row, has_bytes, row_at, row_of, rows, section_rows}
 use Rattle.atom_work.specs.declared.kept.KeptAtom.{KeptAtom}
 use Rattle.atom_work.proofs.AddressLemmas.{address_is}
+use Rattle.atom_work.proofs.KeptListLemmas.{rising_atoms}
 use Rattle.image_make.specs.Made.{IsLaid, Making, kept_of, plan_for, plan_with, rows_of, scene_of, sizes_of}
 use Rattle.image_means.specs.Means.{AreRising}
 use Rattle.image_means.proofs.Spots.{all_have, spaced_in, spot, stands}
@@ -43,11 +44,6 @@ less_not_equal e = cc
 once : (placed : List Placed) → IsStrictlySortedBy (on (λ (p : Placed). p.atom) compare_keys) placed → AreOnce placed
 once placed rising = λ i j d low high same.
     less_not_equal (sym (rising_at (on (λ (p : Placed). p.atom) compare_keys) placed i j d rising low high) ∙ ap (λ a. compare_keys a (get_or placed j d).atom) same ∙ tied_itself compare_keys_total (get_or placed j d).atom)
-
-rising_atoms : (kept : List KeptAtom) → IsStrictlySortedBy (on (λ (one : KeptAtom). one.atom.key) compare_keys) kept → IsStrictlySortedBy (on (λ (atom : Atom). atom.key) compare_keys) (map atom_of kept)
-unfolding IsStrictlySortedBy
-rising_atoms [] rising = tt
-rising_atoms (one ∷ kept) rising = (all_map atom_of (λ (atom : Atom). compare_keys one.atom.key atom.key ≡ Less) kept rising.0, rising_atoms kept rising.1)
 
 pub placed_once : (m : Making) (layout : Layout) → AreRising m → IsLaid m layout → AreOnce layout.placed
 unfolding plan_with
