@@ -8,12 +8,12 @@ use Rattle.mo_types.specs.declared.key.AtomKey.{AtomKey}
 use Rattle.mo_types.specs.declared.loaded.LoadedFile.{LoadedFile}
 use Rattle.resolve.specs.declared.representative.Representative.{Representative}
 use Rattle.resolve.proofs.GrowLemmas.{IsGrowing, grow_end, grow_item, grow_start}
-use Rattle.atom_work.specs.Atoms.{kept_as, kept_atoms, kept_in}
+use Rattle.atom_work.specs.Atoms.{kept_as, kept_atoms, kept_in, raised}
 use Rattle.atom_work.specs.declared.kept.KeptAtom.{KeptAtom}
 
 -- an atom, if it is kept
-abbrev pub kept_if : List Representative → List AtomKey → ℕ → Atom → List KeptAtom
-kept_if literals keys at atom = map (kept_as literals at) (if has keys atom.key then atom ∷ [] else [])
+abbrev pub kept_if : List Representative → List AtomKey → Atom → List Atom
+kept_if literals keys atom = map (raised literals) (if has keys atom.key then atom ∷ [] else [])
 
 filtered : {X Y : Type 0} (g : X → Y) (p : X → Bool) (xs : List X) → flat_map (λ x. map g (if p x then x ∷ [] else [])) xs ≡ map g (filter p xs)
 filtered g p [] = refl
@@ -23,25 +23,26 @@ filtered {X = X} {Y = Y} g p (x ∷ xs) = by (filtered g p xs) (p x)
     by rest true = ap (λ (ys : List Y). g x ∷ ys) rest
     by rest false = rest
 
-pub atoms_start : (literals : List Representative) (keys : List AtomKey) (at : ℕ) (before : List KeptAtom) (atoms : List Atom) → IsGrowing (kept_if literals keys at) before before atoms 0
-atoms_start literals keys at before atoms = grow_start (kept_if literals keys at) before atoms
+pub atoms_start : (literals : List Representative) (keys : List AtomKey) (before : List Atom) (atoms : List Atom) → IsGrowing (kept_if literals keys) before before atoms 0
+atoms_start literals keys before atoms = grow_start (kept_if literals keys) before atoms
 
-pub atoms_end : (literals : List Representative) (keys : List AtomKey) (at : ℕ) (before now : List KeptAtom) (atoms : List Atom) (i : ℕ) → IsGrowing (kept_if literals keys at) before now atoms i → length atoms ≤ i → now ≡ before ++ map (kept_as literals at) (filter (λ atom. has keys atom.key) atoms)
-atoms_end literals keys at before now atoms i grows past =
-    grow_end (kept_if literals keys at) before now atoms i grows past
-    ∙ ap (λ (ys : List KeptAtom). before ++ ys) (filtered (kept_as literals at) (λ (atom : Atom). has keys atom.key) atoms)
+pub atoms_end : (literals : List Representative) (keys : List AtomKey) (before now : List Atom) (atoms : List Atom) (i : ℕ) → IsGrowing (kept_if literals keys) before now atoms i → length atoms ≤ i → now ≡ before ++ map (raised literals) (filter (λ atom. has keys atom.key) atoms)
+atoms_end literals keys before now atoms i grows past =
+    grow_end (kept_if literals keys) before now atoms i grows past
+    ∙ ap (λ (ys : List Atom). before ++ ys) (filtered (raised literals) (λ (atom : Atom). has keys atom.key) atoms)
 
 pub ruleset atoms = (atoms_start)
 
 numbered : (files : List LoadedFile) (i : ℕ) (d : LoadedFile) → i < length files → get_or (enumerate_from 0 files) i (0, d) ≡ (i, get_or files i d)
 numbered files i d low = let e : 0 + i ≡ i = omega arith in get_or-enumerate_from 0 files i (0, d) low ∙ ap (λ (n : ℕ). (n, get_or files i d)) e
 
-pub file_more : (literals : List Representative) (keys : List AtomKey) (now new : List KeptAtom) (files : List LoadedFile) (at : ℕ) (file : LoadedFile) → IsGrowing (kept_in literals keys) [] now (enumerate_from 0 files) at → at < length files → file ≡ get_or files at file
-    → new ≡ now ++ map (kept_as literals at) (filter (λ atom. has keys atom.key) file.atoms) → IsGrowing (kept_in literals keys) [] new (enumerate_from 0 files) (at + 1)
+pub file_more : (literals : List Representative) (keys : List AtomKey) (now new : List KeptAtom) (files : List LoadedFile) (at place : ℕ) (file : LoadedFile) → IsGrowing (kept_in literals keys) [] now (enumerate_from 0 files) at → at < length files → file ≡ get_or files at file
+    → place ≡ at → new ≡ now ++ map (kept_as literals place) (filter (λ atom. has keys atom.key) file.atoms) → IsGrowing (kept_in literals keys) [] new (enumerate_from 0 files) (at + 1)
 unfolding kept_in
-file_more literals keys now new files at file grows low is more =
+file_more literals keys now new files at place file grows low is same more =
     grow_item (kept_in literals keys) [] now new (enumerate_from 0 files) at (at, file) (0, file) grows (omega (arith, low, length-enumerate_from 0 files))
-    (ap (λ (x : LoadedFile). (at, x)) is ∙ sym (numbered files at file low)) more
+    (ap (λ (x : LoadedFile). (at, x)) is ∙ sym (numbered files at file low))
+    (more ∙ ap (λ (n : ℕ). now ++ map (kept_as literals n) (filter (λ (atom : Atom). has keys atom.key) file.atoms)) same)
 
 pub files_start : (literals : List Representative) (keys : List AtomKey) (files : List LoadedFile) → IsGrowing (kept_in literals keys) [] [] (enumerate_from 0 files) 0
 files_start literals keys files = grow_start (kept_in literals keys) [] (enumerate_from 0 files)

@@ -1,6 +1,7 @@
 pub mod AddressLemmas
 pub mod GrowLemmas
 pub mod KeptLemmas
+pub mod KeptListLemmas
 pub mod ListLemmas
 pub mod OrderLemmas
 pub mod SpotLemmas

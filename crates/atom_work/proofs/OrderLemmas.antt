@@ -10,10 +10,10 @@ use Rattle.kept_refs.specs.declared.order.Spot.{Spot}
 use Rattle.mo_types.specs.declared.goal.Goal.{Goal}
 use Rattle.mo_types.specs.declared.loaded.LoadedFile.{LoadedFile}
 use Rattle.patch.specs.declared.met.Met.{Met}
+use Rattle.patch.specs.declared.range.PlacedWork.{PlacedWork}
 use Rattle.atom_work.specs.Addresses.{Scene}
 use Rattle.atom_work.specs.Mets.{mets_of}
 use Rattle.atom_work.specs.Rows.{goals_at, kept_mets}
-use Rattle.atom_work.specs.declared.kept.KeptAtom.{KeptAtom}
 use Rattle.atom_work.specs.inner.Orders.{AreOrders}
 
 -- orders of the files before a place
@@ -81,16 +81,16 @@ no_order files orders at file are f o = absurd (omega (arith, within files file 
 
 -- ---- the references of a kept atom
 
-pub no_kept_mets : (scene : Scene) (files : List LoadedFile) (goals : List (List Goal)) (kept : KeptAtom) (before : List Met) → slice_get files kept.file ≡ None → before ≡ before ++ kept_mets scene files goals kept
+pub no_kept_mets : (scene : Scene) (files : List LoadedFile) (goals : List (List Goal)) (item : PlacedWork) (before : List Met) → slice_get files item.file ≡ None → before ≡ before ++ kept_mets scene files goals item
 unfolding kept_mets
-no_kept_mets scene files goals kept before none =
-    sym (append-nil before) ∙ ap (λ (o : Option LoadedFile). before ++ option_map_or (λ (file : LoadedFile). mets_of scene (goals_at goals kept.file) file.refs kept.atom.key) o []) (sym none)
+no_kept_mets scene files goals item before none =
+    sym (append-nil before) ∙ ap (λ (o : Option LoadedFile). before ++ option_map_or (λ (file : LoadedFile). mets_of scene (goals_at goals item.file) file.refs item.atom.key) o []) (sym none)
 
-pub kept_mets_of : (scene : Scene) (files : List LoadedFile) (goals : List (List Goal)) (kept : KeptAtom) (file : LoadedFile) (some : List Goal) → slice_get files kept.file ≡ Some file → some ≡ goals_at goals kept.file → kept_mets scene files goals kept ≡ mets_of scene some file.refs kept.atom.key
+pub kept_mets_of : (scene : Scene) (files : List LoadedFile) (goals : List (List Goal)) (item : PlacedWork) (file : LoadedFile) (some : List Goal) → slice_get files item.file ≡ Some file → some ≡ goals_at goals item.file → kept_mets scene files goals item ≡ mets_of scene some file.refs item.atom.key
 unfolding kept_mets
-kept_mets_of scene files goals kept file some f is =
-    ap (λ (o : Option LoadedFile). option_map_or (λ (x : LoadedFile). mets_of scene (goals_at goals kept.file) x.refs kept.atom.key) o []) f
-    ∙ ap (λ (gs : List Goal). mets_of scene gs file.refs kept.atom.key) (sym is)
+kept_mets_of scene files goals item file some f is =
+    ap (λ (o : Option LoadedFile). option_map_or (λ (x : LoadedFile). mets_of scene (goals_at goals item.file) x.refs item.atom.key) o []) f
+    ∙ ap (λ (gs : List Goal). mets_of scene gs file.refs item.atom.key) (sym is)
 
 -- ---- the goals of the symbols of a file
 

@@ -1,4 +1,4 @@
-pub mod Listed
+pub mod Kept
 pub mod Orders
 pub mod Spots
 pub mod Told

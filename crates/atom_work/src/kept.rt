@@ -1,5 +1,5 @@
 //! The atoms that are kept.
-ghost use Rattle.std.specs.Prelude.{◌≡◌, ◌++◌, ◌∷◌, [], ℕ, IfOk, map, if◌then◌else◌};
+ghost use Rattle.std.specs.Prelude.{◌≡◌, ◌++◌, ◌∷◌, [], ℕ, IfOk, length, map, slice_get, if◌then◌else◌};
 ghost use Rattle.std.specs.List.{filter};
 ghost use Rattle.std.specs.List.Sorted.{IsStrictlySortedBy};
 ghost use Rattle.mark_core.specs.Kept.{has};
@@ -7,9 +7,10 @@ ghost use Rattle.mo_types.specs.Keys.{compare_keys};
 ghost use Rattle.atom_work.specs.Atoms as spec;
 
 use mark_core::is_kept_near;
-use mo_types::{Atom, AtomKey, AtomList, Items, KeyList, Loaded, LoadedFile, OutOfMemory};
+use mo_types::{Atom, AtomKey, AtomList, KeyList, Loaded, LoadedFile, OutOfMemory};
 use resolve::Winners;
 use std::alloc::Global;
+use std::marker::Model;
 
 /// An atom of the image, with the alignment with which it is placed.
 #[derive(Clone, Copy, Debug, PartialEq, Eq)]
@@ -19,8 +20,66 @@ pub struct KeptAtom {
     pub file: usize,
 }
 
-/// The atoms of an image, file by file.
-pub type KeptList = Items<KeptAtom>;
+/// The atoms of an image, file by file. Contracts see it as the list of them.
+#[derive(Debug, Drop)]
+pub struct KeptList {
+    atoms: AtomList,
+    files: Vec<u32>,
+}
+
+impl Model for KeptList {
+    ghost use Rattle.std.specs.Prelude.{◌≡◌, List, length};
+    ghost use Rattle.atom_work.specs.declared.kept.KeptAtom.{KeptAtom};
+    ghost use Rattle.atom_work.specs.inner.Kept.{kept_list};
+
+    ghost Value = { List KeptAtom };
+
+    ghost view = { λ kept. kept_list kept.atoms kept.files.items };
+
+    ghost invariant = { λ kept. length kept.atoms ≡ length kept.files.items };
+}
+
+impl KeptList {
+    // No atoms, with room for some.
+    #[tactic(auto, using(crate::proofs::KeptListLemmas::nothing))]
+    fn with_capacity(alloc: Global, count: usize) -> Result<KeptList, OutOfMemory>
+        ensures { IfOk result (λ kept. kept ≡ []) }
+    {
+        Ok(KeptList {
+            atoms: AtomList::from_vec(Vec::with_capacity(alloc, count)?),
+            files: Vec::with_capacity(alloc, count)?,
+        })
+    }
+
+    /// How many atoms it has.
+    #[tactic(auto, using(crate::proofs::KeptListLemmas::counts))]
+    pub fn len(&self) -> usize
+        ensures { result ≡ length self.now }
+    {
+        self.atoms.len()
+    }
+
+    /// The atom at a place, or `None` exactly where the list ends before it.
+    #[tactic(auto, using(crate::proofs::KeptListLemmas::gets))]
+    pub fn get(&self, at: usize) -> Option<KeptAtom>
+        ensures { result ≡ slice_get self.now at }
+    {
+        let atom = *self.atoms.get(at)?;
+        let file = *self.files.get(at)?;
+        Some(KeptAtom {
+            atom,
+            file: file as usize,
+        })
+    }
+
+    /// The atoms alone.
+    #[tactic(auto, using(crate::proofs::KeptListLemmas::alone))]
+    pub fn atoms(&self) -> &AtomList
+        ensures { result.now ≡ map spec.atom_of self.now }
+    {
+        &self.atoms
+    }
+}
 
 // An atom with the alignment with which it is placed.
 #[tactic(auto, unfolding(crate::specs::Atoms::raised))]
@@ -37,66 +96,87 @@ fn raised(winners: &Winners, atom: Atom) -> Atom
     }
 }
 
-// Kept atoms, and one of the file at a place, if it is kept.
+// Kept atoms, and one more, if it is kept.
 fn with_atom(
-    before: Vec<KeptAtom>,
+    before: Vec<Atom>,
     winners: &Winners,
     keys: &[AtomKey],
-    at: usize,
     atom: Atom,
-) -> Result<Vec<KeptAtom>, OutOfMemory>
+) -> Result<Vec<Atom>, OutOfMemory>
     requires { IsStrictlySortedBy compare_keys keys.now }
-    ensures { IfOk result (λ new. new.items ≡ before.items ++ map (spec.kept_as winners.now.literals at) (if has keys.now atom.key then atom ∷ [] else [])) }
+    ensures { IfOk result (λ new. new.items ≡ before.items ++ map (spec.raised winners.now.literals) (if has keys.now atom.key then atom ∷ [] else [])) }
 {
     let mut kept = before;
     if is_kept_near(keys, kept.len(), atom.key) {
-        kept.push(KeptAtom {
-            atom: raised(winners, atom),
-            file: at,
-        })?;
+        kept.push(raised(winners, atom))?;
+    }
+    Ok(kept)
+}
+
+// Kept atoms, and those among some.
+#[tactic(auto, using(crate::proofs::KeptLemmas::atoms))]
+fn with_atoms(
+    before: Vec<Atom>,
+    winners: &Winners,
+    keys: &[AtomKey],
+    atoms: &[Atom],
+) -> Result<Vec<Atom>, OutOfMemory>
+    requires { IsStrictlySortedBy compare_keys keys.now }
+    ensures { IfOk result (λ new. new.items ≡ before.items ++ map (spec.raised winners.now.literals) (filter (λ atom. has keys.now atom.key) atoms.now)) }
+{
+    let mut kept = before;
+    for atom in atoms {
+        kept = with_atom(kept, winners, keys, *atom)?;
     }
     Ok(kept)
 }
 
 // Kept atoms, and those among some of the file at a place.
-#[tactic(auto, using(crate::proofs::KeptLemmas::atoms))]
-fn with_atoms(
-    before: Vec<KeptAtom>,
+fn with_file(
+    before: KeptList,
     winners: &Winners,
     keys: &[AtomKey],
-    at: usize,
+    at: u32,
     atoms: &[Atom],
-) -> Result<Vec<KeptAtom>, OutOfMemory>
+) -> Result<KeptList, OutOfMemory>
     requires { IsStrictlySortedBy compare_keys keys.now }
-    ensures { IfOk result (λ new. new.items ≡ before.items ++ map (spec.kept_as winners.now.literals at) (filter (λ atom. has keys.now atom.key) atoms.now)) }
+    ensures { IfOk result (λ new. new ≡ before ++ map (spec.kept_as winners.now.literals at) (filter (λ atom. has keys.now atom.key) atoms.now)) }
 {
-    let mut kept = before;
-    for atom in atoms {
-        kept = with_atom(kept, winners, keys, at, *atom)?;
-    }
-    Ok(kept)
+    let KeptList {
+        atoms: kept,
+        mut files,
+    } = before;
+    let kept = with_atoms(kept.into_vec(), winners, keys, atoms)?;
+    files.resize(kept.len(), at)?;
+    Ok(KeptList {
+        atoms: AtomList::from_vec(kept),
+        files,
+    })
 }
 
-// Those of files.
+// Those of files. 2^32 files run out of memory.
 #[tactic(auto, using(crate::proofs::KeptLemmas::files))]
 fn kept_of(
     alloc: Global,
     files: &[LoadedFile],
     winners: &Winners,
     keys: &[AtomKey],
-) -> Result<Vec<KeptAtom>, OutOfMemory>
+) -> Result<KeptList, OutOfMemory>
     requires { IsStrictlySortedBy compare_keys keys.now }
-    ensures { IfOk result (λ kept. kept.items ≡ spec.kept_atoms winners.now.literals keys.now files.now) }
+    ensures { IfOk result (λ kept. kept ≡ spec.kept_atoms winners.now.literals keys.now files.now) }
 {
-    let mut kept = Vec::with_capacity(alloc, keys.len())?;
+    let mut kept = KeptList::with_capacity(alloc, keys.len())?;
     for (at, file) in files.iter().enumerate() {
-        kept = with_atoms(kept, winners, keys, at, file.atoms.as_slice())?;
+        let Ok(place) = u32::try_from(at) else {
+            return Err(OutOfMemory);
+        };
+        kept = with_file(kept, winners, keys, place, file.atoms.as_slice())?;
     }
     Ok(kept)
 }
 
 /// The atoms of loaded files whose keys are kept, file by file and in each as it is cut, with the alignments with which
-/// they are placed: a literal has the greatest of those for which it stands.
+/// they are placed: a literal has the greatest of those for which it stands. Those of 2^32 files run out of memory.
 pub fn kept_atoms(
     alloc: Global,
     loaded: &Loaded,
@@ -106,25 +186,5 @@ pub fn kept_atoms(
     requires { IsStrictlySortedBy compare_keys keys.now }
     ensures { IfOk result (λ kept. kept ≡ spec.kept_atoms winners.now.literals keys.now loaded.now.files) }
 {
-    let kept = kept_of(alloc, loaded.files.as_slice(), winners, keys.as_slice())?;
-    Ok(KeptList::from_vec(kept))
-}
-
-fn atom_of(kept: &KeptAtom) -> Atom
-    ensures { result ≡ spec.atom_of kept.now }
-{
-    kept.atom
-}
-
-fn alone(alloc: Global, kept: &[KeptAtom]) -> Result<Vec<Atom>, OutOfMemory>
-    ensures { IfOk result (λ atoms. atoms.items ≡ map spec.atom_of kept.now) }
-{
-    Ok(kept.iter().map(atom_of).collect(alloc)?)
-}
-
-/// The atoms alone.
-pub fn atoms_of(alloc: Global, kept: &[KeptAtom]) -> Result<AtomList, OutOfMemory>
-    ensures { IfOk result (λ atoms. atoms ≡ map spec.atom_of kept.now) }
-{
-    Ok(AtomList::from_vec(alone(alloc, kept)?))
+    kept_of(alloc, loaded.files.as_slice(), winners, keys.as_slice())
 }

@@ -3,10 +3,12 @@
 
 mod addresses;
 mod kept;
+mod meeting;
 mod mets;
 mod orders;
 mod rows;
 
 pub use addresses::goal_address;
-pub use kept::{KeptAtom, KeptList, atoms_of, kept_atoms};
-pub use rows::{Work, work_of};
+pub use kept::{KeptAtom, KeptList, kept_atoms};
+pub use meeting::Meets;
+pub use rows::work_of;

@@ -72,43 +72,43 @@ fn add_met(
     Ok(())
 }
 
-// References, and those at some places of a file's list.
+// Puts the references at some places of a file's list behind others.
 #[tactic(auto, using(resolve::proofs::GrowLemmas::grow_start, resolve::proofs::GrowLemmas::grow_end))]
-fn with_spots(
-    before: Vec<Met>,
+fn add_spots(
+    mets: &mut Vec<Met>,
     setting: &Setting,
     places: &[u32],
     refs: &RefList,
     spots: &[Spot],
-) -> Result<Vec<Met>, OutOfMemory>
+) -> Result<(), OutOfMemory>
     requires once { AreOnce setting.now.layout.now.placed }
     requires told { AreTold setting.now }
     requires within { AreWithin setting.now.goals.now.pool places.now }
-    ensures { IfOk result (λ new. new.items ≡ before.items ++ flat_map (mets_at (scene_of setting.now) (goals_in setting.now.goals.now.pool places.now) refs.now) spots.now) }
+    ensures { OnOk result (mets.new.items ≡ mets.old.items ++ flat_map (mets_at (scene_of setting.now) (goals_in setting.now.goals.now.pool places.now) refs.now) spots.now) }
 {
-    let mut mets = before;
     for spot in spots {
-        add_met(&mut mets, setting, places, refs, spot)?;
+        add_met(mets, setting, places, refs, spot)?;
     }
-    Ok(mets)
+    Ok(())
 }
 
-/// References, and those of an atom, as its file lists them. They mostly stand where those of the last atom ended.
-pub(crate) fn with_mets(
-    before: Vec<Met>,
+/// Puts the references of an atom, as its file lists them, behind others. They mostly stand where those of the last atom
+/// ended.
+pub(crate) fn add_mets(
+    mets: &mut Vec<Met>,
     setting: &Setting,
     places: &[u32],
     refs: &RefList,
     order: &[Spot],
     next: &mut usize,
     key: AtomKey,
-) -> Result<Vec<Met>, OutOfMemory>
+) -> Result<(), OutOfMemory>
     requires once { AreOnce setting.now.layout.now.placed }
     requires told { AreTold setting.now }
     requires within { AreWithin setting.now.goals.now.pool places.now }
     requires order { AreInOrder refs.now order.now }
-    ensures { IfOk result (λ new. new.items ≡ before.items ++ spec.mets_of (scene_of setting.now) (goals_in setting.now.goals.now.pool places.now) refs.now key) }
+    ensures { OnOk result (mets.new.items ≡ mets.old.items ++ spec.mets_of (scene_of setting.now) (goals_in setting.now.goals.now.pool places.now) refs.now key) }
 {
     let spots = next_spots(order, next, key.section, key.offset);
-    with_spots(before, setting, places, refs, spots)
+    add_spots(mets, setting, places, refs, spots)
 }

@@ -12,9 +12,11 @@ use Rattle.mo_types.specs.declared.key.AtomKey.{AtomKey}
 use Rattle.mo_types.specs.declared.loaded.LoadedFile.{LoadedFile}
 use Rattle.patch.specs.declared.met.Met.{Met}
 use Rattle.patch.specs.declared.met.RangeFault.{RangeFault}
+use Rattle.patch.specs.declared.range.PatchFault.{PatchFault}
+use Rattle.patch.specs.declared.range.PatchFault.TheVariants.{Range, OutOfMemory}
 use Rattle.patch.specs.declared.range.PlacedWork.{PlacedWork}
 use Rattle.patch.specs.Patched.{ArePatched}
-use Rattle.patch.specs.Range.{AllFit, AreWork, IsBeside, IsLeastFault, IsPlaced, IsSameBeside, IsUpTo, IsWork, bytes_of, part_of, refs_of}
+use Rattle.patch.specs.Range.{AllFit, AreStanding, HasFields, IsBeside, IsLeastFault, IsPlaced, IsSameBeside, IsStanding, IsUpTo, bytes_of, part_of}
 use Rattle.patch.proofs.KeyLemmas.{through, turned_round}
 use Rattle.image_join.specs.inner.Halves.{IsFilled, least_of}
 use Rattle.patch.proofs.LeastLemmas.{element_at}
@@ -34,23 +36,23 @@ pairs_behind R n xs room all i j d low high =
     (subst (λ y. R (get_or xs (n + i) d) y) (sym (get_or-drop n xs j d)) (all (n + i) (n + j) d (omega arith) (omega arith)))
 
 -- the work is cut before the atom at a place, which begins at an offset of the file
-pub record IsCut (files : List LoadedFile) (mets : List Met) (from size : ℕ) (work : List PlacedWork) (at seam : ℕ) : Type 0 where
+pub record IsCut (files : List LoadedFile) (mets : PlacedWork → List Met) (from size : ℕ) (work : List PlacedWork) (at seam : ℕ) : Type 0 where
   pub some : PlacedWork
-  pub work_is : AreWork files mets from size work
+  pub work_is : AreStanding files from size work
   pub within : at < length work
   pub begins : (d : PlacedWork) → (get_or work at d).at ≡ seam
 
-seam_inside : (files : List LoadedFile) (mets : List Met) (from size : ℕ) (work : List PlacedWork) (at seam : ℕ) (d : PlacedWork) → IsCut files mets from size work at seam → (from ≤ seam) × (seam ≤ from + size)
+seam_inside : (files : List LoadedFile) (mets : PlacedWork → List Met) (from size : ℕ) (work : List PlacedWork) (at seam : ℕ) (d : PlacedWork) → IsCut files mets from size work at seam → (from ≤ seam) × (seam ≤ from + size)
 seam_inside files mets from size work at seam d cut =
-    let it : IsWork files mets from size (get_or work at d) = cut.work_is.items at d cut.within in
+    let it : IsStanding files from size (get_or work at d) = cut.work_is.items at d cut.within in
     let here : (get_or work at d).at ≡ seam = cut.begins d in
     (omega (arith, it.begins), omega (arith, it.ends))
 
-ends_before : (files : List LoadedFile) (mets : List Met) (from size : ℕ) (work : List PlacedWork) (at seam : ℕ) (k : ℕ) (d : PlacedWork) → IsCut files mets from size work at seam → k < at → (get_or work k d).at + length (bytes_of files (get_or work k d)) ≤ seam
+ends_before : (files : List LoadedFile) (mets : PlacedWork → List Met) (from size : ℕ) (work : List PlacedWork) (at seam : ℕ) (k : ℕ) (d : PlacedWork) → IsCut files mets from size work at seam → k < at → (get_or work k d).at + length (bytes_of files (get_or work k d)) ≤ seam
 ends_before files mets from size work at seam k d cut low =
     subst (λ (n : ℕ). (get_or work k d).at + length (bytes_of files (get_or work k d)) ≤ n) (cut.begins d) (cut.work_is.in_order k at d low cut.within)
 
-begins_behind : (files : List LoadedFile) (mets : List Met) (from size : ℕ) (work : List PlacedWork) (at seam : ℕ) (k : ℕ) (d : PlacedWork) → IsCut files mets from size work at seam → at + k < length work → seam ≤ (get_or work (at + k) d).at
+begins_behind : (files : List LoadedFile) (mets : PlacedWork → List Met) (from size : ℕ) (work : List PlacedWork) (at seam : ℕ) (k : ℕ) (d : PlacedWork) → IsCut files mets from size work at seam → at + k < length work → seam ≤ (get_or work (at + k) d).at
 begins_behind files mets from size work at seam k d cut high = elim (cases_lt 0 k) [
   | inl later ↦
       let ordered : (get_or work at d).at + length (bytes_of files (get_or work at d)) ≤ (get_or work (at + k) d).at = cut.work_is.in_order at (at + k) d (omega arith) high in
@@ -62,47 +64,43 @@ begins_behind files mets from size work at seam k d cut high = elim (cases_lt 0 
       omega arith
 ]
 
-pub low_work : (files : List LoadedFile) (mets : List Met) (from size : ℕ) (work : List PlacedWork) (at seam n : ℕ) → IsCut files mets from size work at seam → n ≡ seam - from → AreWork files mets from n (take at work)
+pub low_work : (files : List LoadedFile) (mets : PlacedWork → List Met) (from size : ℕ) (work : List PlacedWork) (at seam n : ℕ) → IsCut files mets from size work at seam → n ≡ seam - from → AreStanding files from n (take at work)
 low_work files mets from size work at seam n cut e = record {
   items = items;
   in_order = pairs_before (λ a b. a.at + length (bytes_of files a) ≤ b.at) at work (let w = cut.within in omega arith) cut.work_is.in_order;
 }
   where
-    items : (k : ℕ) (d : PlacedWork) → k < length (take at work) → IsWork files mets from n (get_or (take at work) k d)
+    items : (k : ℕ) (d : PlacedWork) → k < length (take at work) → IsStanding files from n (get_or (take at work) k d)
     items k d low =
         let room : length (take at work) ≡ at = length-take-le at work (let w = cut.within in omega arith) in
         let below : k < at = omega arith in
-        let it : IsWork files mets from size (get_or work k d) = cut.work_is.items k d (let w = cut.within in omega arith) in
+        let it : IsStanding files from size (get_or work k d) = cut.work_is.items k d (let w = cut.within in omega arith) in
         let last : (get_or work k d).at + length (bytes_of files (get_or work k d)) ≤ seam = ends_before files mets from size work at seam k d cut below in
         let start : from ≤ seam = (seam_inside files mets from size work at seam d cut).0 in
-        subst (IsWork files mets from n) (sym (get_or-take at work k d below)) (record {
+        subst (IsStanding files from n) (sym (get_or-take at work k d below)) (record {
           file = it.file;
           begins = it.begins;
           ends = omega arith;
-          refs = it.refs;
-          fields = it.fields;
         })
 
-pub high_work : (files : List LoadedFile) (mets : List Met) (from size : ℕ) (work : List PlacedWork) (at seam n : ℕ) → IsCut files mets from size work at seam → n + (seam - from) ≡ size → AreWork files mets seam n (drop at work)
+pub high_work : (files : List LoadedFile) (mets : PlacedWork → List Met) (from size : ℕ) (work : List PlacedWork) (at seam n : ℕ) → IsCut files mets from size work at seam → n + (seam - from) ≡ size → AreStanding files seam n (drop at work)
 high_work files mets from size work at seam n cut e = record {
   items = items;
   in_order = pairs_behind (λ a b. a.at + length (bytes_of files a) ≤ b.at) at work (let w = cut.within in omega arith) cut.work_is.in_order;
 }
   where
-    items : (k : ℕ) (d : PlacedWork) → k < length (drop at work) → IsWork files mets seam n (get_or (drop at work) k d)
+    items : (k : ℕ) (d : PlacedWork) → k < length (drop at work) → IsStanding files seam n (get_or (drop at work) k d)
     items k d low =
         let room : length (drop at work) ≡ length work - at = length-drop at work in
         let high : at + k < length work = omega arith in
-        let it : IsWork files mets from size (get_or work (at + k) d) = cut.work_is.items (at + k) d high in
+        let it : IsStanding files from size (get_or work (at + k) d) = cut.work_is.items (at + k) d high in
         let start : seam ≤ (get_or work (at + k) d).at = begins_behind files mets from size work at seam k d cut high in
         let low : from ≤ seam = (seam_inside files mets from size work at seam d cut).0 in
         let last : (get_or work (at + k) d).at + length (bytes_of files (get_or work (at + k) d)) ≤ from + size = it.ends in
-        subst (IsWork files mets seam n) (sym (get_or-drop at work k d)) (record {
+        subst (IsStanding files seam n) (sym (get_or-drop at work k d)) (record {
           file = it.file;
           begins = start;
           ends = omega arith;
-          refs = it.refs;
-          fields = it.fields;
         })
 
 -- ---- the bytes of both halves
@@ -128,7 +126,7 @@ pub record AreHalves (from seam : ℕ) (old front back new_front new_back : List
   pub front_size : length new_front ≡ length front
   pub back_size : length new_back ≡ length back
 
-both_beside : (files : List LoadedFile) (mets : List Met) (from size : ℕ) (work : List PlacedWork) (at seam : ℕ) (old front back new_front new_back : List ℕ) (d : PlacedWork) → IsCut files mets from size work at seam → AreHalves from seam old front back new_front new_back
+both_beside : (files : List LoadedFile) (mets : PlacedWork → List Met) (from size : ℕ) (work : List PlacedWork) (at seam : ℕ) (old front back new_front new_back : List ℕ) (d : PlacedWork) → IsCut files mets from size work at seam → AreHalves from seam old front back new_front new_back
     → IsSameBeside files from (take at work) front new_front → IsSameBeside files seam (drop at work) back new_back → IsSameBeside files from work old (new_front ++ new_back)
 both_beside files mets from size work at seam old front back new_front new_back d cut halves low high = record {
   size = rw (length-append, halves.front_size, halves.back_size) (sym (ap (λ (z : List ℕ). length z) halves.whole ∙ length-append front back));
@@ -150,14 +148,14 @@ both_beside files mets from size work at seam old front back new_front new_back 
   ];
 }
 
-still : (files : List LoadedFile) (mets : List Met) (from other : ℕ) (piece more : List ℕ) (item : PlacedWork) → part_of files other item more ≡ part_of files from item piece → IsPlaced files mets from piece item → IsPlaced files mets other more item
-still files mets from other piece more item e placed = subst (λ (z : List ℕ). ArePatched item.address (refs_of mets item) (bytes_of files item) z) (sym e) placed
+still : (files : List LoadedFile) (mets : PlacedWork → List Met) (from other : ℕ) (piece more : List ℕ) (item : PlacedWork) → part_of files other item more ≡ part_of files from item piece → IsPlaced files mets from piece item → IsPlaced files mets other more item
+still files mets from other piece more item e placed = subst (λ (z : List ℕ). ArePatched item.address (mets item) (bytes_of files item) z) (sym e) placed
 
-low_placed : (files : List LoadedFile) (mets : List Met) (from size : ℕ) (work : List PlacedWork) (at seam : ℕ) (old front back new_front new_back : List ℕ) → IsCut files mets from size work at seam → AreHalves from seam old front back new_front new_back → All (IsPlaced files mets from new_front) (take at work) → All (IsPlaced files mets from (new_front ++ new_back)) (take at work)
+low_placed : (files : List LoadedFile) (mets : PlacedWork → List Met) (from size : ℕ) (work : List PlacedWork) (at seam : ℕ) (old front back new_front new_back : List ℕ) → IsCut files mets from size work at seam → AreHalves from seam old front back new_front new_back → All (IsPlaced files mets from new_front) (take at work) → All (IsPlaced files mets from (new_front ++ new_back)) (take at work)
 low_placed files mets from size work at seam old front back new_front new_back cut halves all k d within =
     let room : length (take at work) ≡ at = length-take-le at work (let w = cut.within in omega arith) in
     let same : get_or (take at work) k d ≡ get_or work k d = get_or-take at work k d (omega arith) in
-    let it : IsWork files mets from size (get_or work k d) = cut.work_is.items k d (let w = cut.within in omega arith) in
+    let it : IsStanding files from size (get_or work k d) = cut.work_is.items k d (let w = cut.within in omega arith) in
     let last : (get_or work k d).at + length (bytes_of files (get_or work k d)) ≤ seam = ends_before files mets from size work at seam k d cut (omega arith) in
     let start : from ≤ (get_or work k d).at = it.begins in
     let fits : ((get_or work k d).at - from) + length (bytes_of files (get_or work k d)) ≤ length new_front = (let m = halves.long in let s = halves.front_size in omega arith) in
@@ -165,7 +163,7 @@ low_placed files mets from size work at seam old front back new_front new_back c
     (still files mets from from new_front (new_front ++ new_back) (get_or work k d) (part_in_front files from (get_or work k d) new_front new_back fits)
     (subst (IsPlaced files mets from new_front) same (all k d within)))
 
-high_placed : (files : List LoadedFile) (mets : List Met) (from size : ℕ) (work : List PlacedWork) (at seam : ℕ) (old front back new_front new_back : List ℕ) → IsCut files mets from size work at seam → AreHalves from seam old front back new_front new_back → All (IsPlaced files mets seam new_back) (drop at work) → All (IsPlaced files mets from (new_front ++ new_back)) (drop at work)
+high_placed : (files : List LoadedFile) (mets : PlacedWork → List Met) (from size : ℕ) (work : List PlacedWork) (at seam : ℕ) (old front back new_front new_back : List ℕ) → IsCut files mets from size work at seam → AreHalves from seam old front back new_front new_back → All (IsPlaced files mets seam new_back) (drop at work) → All (IsPlaced files mets from (new_front ++ new_back)) (drop at work)
 high_placed files mets from size work at seam old front back new_front new_back cut halves all k d within =
     let room : length (drop at work) ≡ length work - at = length-drop at work in
     let same : get_or (drop at work) k d ≡ get_or work (at + k) d = get_or-drop at work k d in
@@ -178,7 +176,7 @@ high_placed files mets from size work at seam old front back new_front new_back 
 
 -- ---- the fault of both halves
 
-fit_where_placed : (files : List LoadedFile) (mets : List Met) (from : ℕ) (piece : List ℕ) (work : List PlacedWork) → All (IsPlaced files mets from piece) work → All (AllFit files mets) work
+fit_where_placed : (files : List LoadedFile) (mets : PlacedWork → List Met) (from : ℕ) (piece : List ℕ) (work : List PlacedWork) → All (IsPlaced files mets from piece) work → All (AllFit files mets) work
 fit_where_placed files mets from piece work all = λ k d within j e low. (_, (all k d within).fields j e low)
 
 contains_low : (at : ℕ) (work : List PlacedWork) (item : PlacedWork) → at ≤ length work → Contains (take at work) item → Contains work item
@@ -195,7 +193,7 @@ both_halves : (P : PlacedWork → Type 0) (at : ℕ) (work : List PlacedWork) �
 both_halves P at work low high = subst (All P) (take-append-drop at work) (All-append P (take at work) (drop at work) low high)
 
 -- what is up to the greater of two keys is no less than the lesser
-lower : (files : List LoadedFile) (mets : List Met) (low high : AtomKey) (work : List PlacedWork) → IsUpTo low high → All (λ other. AllFit files mets other ⊎ IsUpTo high other.atom.key) work → All (λ other. AllFit files mets other ⊎ IsUpTo low other.atom.key) work
+lower : (files : List LoadedFile) (mets : PlacedWork → List Met) (low high : AtomKey) (work : List PlacedWork) → IsUpTo low high → All (λ other. AllFit files mets other ⊎ IsUpTo high other.atom.key) work → All (λ other. AllFit files mets other ⊎ IsUpTo low other.atom.key) work
 lower files mets low high work h all =
     All-weaker (λ other. AllFit files mets other ⊎ IsUpTo high other.atom.key) (λ other. AllFit files mets other ⊎ IsUpTo low other.atom.key) (λ other so. one other so) work all
   where
@@ -203,76 +201,80 @@ lower files mets low high work h all =
     one other (inl fit) = inl fit
     one other (inr above) = inr (through low high other.atom.key h above)
 
-low_fault : (files : List LoadedFile) (mets : List Met) (at : ℕ) (work : List PlacedWork) (fault : AtomKey × RangeFault) → at ≤ length work → IsLeastFault files mets (take at work) fault.0 fault.1 → All (λ other. AllFit files mets other ⊎ IsUpTo fault.0 other.atom.key) (drop at work) → IsLeastFault files mets work fault.0 fault.1
-low_fault files mets at work fault room (item, it) others = (
+low_fault : (files : List LoadedFile) (mets : PlacedWork → List Met) (at : ℕ) (work : List PlacedWork) (key : AtomKey) (fault : RangeFault) → at ≤ length work → IsLeastFault files mets (take at work) key fault → All (λ other. AllFit files mets other ⊎ IsUpTo key other.atom.key) (drop at work) → IsLeastFault files mets work key fault
+low_fault files mets at work key fault room (item, it) others = (
   item,
   record {
     among = contains_low at work item room it.among;
     of_item = it.of_item;
     fails = it.fails;
-    least = both_halves (λ other. AllFit files mets other ⊎ IsUpTo fault.0 other.atom.key) at work it.least others;
+    least = both_halves (λ other. AllFit files mets other ⊎ IsUpTo key other.atom.key) at work it.least others;
   },
 )
 
-high_fault : (files : List LoadedFile) (mets : List Met) (at : ℕ) (work : List PlacedWork) (fault : AtomKey × RangeFault) → at ≤ length work → IsLeastFault files mets (drop at work) fault.0 fault.1 → All (λ other. AllFit files mets other ⊎ IsUpTo fault.0 other.atom.key) (take at work) → IsLeastFault files mets work fault.0 fault.1
-high_fault files mets at work fault room (item, it) others = (
+high_fault : (files : List LoadedFile) (mets : PlacedWork → List Met) (at : ℕ) (work : List PlacedWork) (key : AtomKey) (fault : RangeFault) → at ≤ length work → IsLeastFault files mets (drop at work) key fault → All (λ other. AllFit files mets other ⊎ IsUpTo key other.atom.key) (take at work) → IsLeastFault files mets work key fault
+high_fault files mets at work key fault room (item, it) others = (
   item,
   record {
     among = contains_high at work item room it.among;
     of_item = it.of_item;
     fails = it.fails;
-    least = both_halves (λ other. AllFit files mets other ⊎ IsUpTo fault.0 other.atom.key) at work others it.least;
+    least = both_halves (λ other. AllFit files mets other ⊎ IsUpTo key other.atom.key) at work others it.least;
   },
 )
 
-fitting : (files : List LoadedFile) (mets : List Met) (key : AtomKey) (work : List PlacedWork) → All (AllFit files mets) work → All (λ other. AllFit files mets other ⊎ IsUpTo key other.atom.key) work
+fitting : (files : List LoadedFile) (mets : PlacedWork → List Met) (key : AtomKey) (work : List PlacedWork) → All (AllFit files mets) work → All (λ other. AllFit files mets other ⊎ IsUpTo key other.atom.key) work
 fitting files mets key work all = All-weaker (AllFit files mets) (λ other. AllFit files mets other ⊎ IsUpTo key other.atom.key) (λ other fit. inl fit) work all
 
 -- ---- both halves together
 
-pub filled_both : (files : List LoadedFile) (mets : List Met) (from size : ℕ) (work : List PlacedWork) (at seam : ℕ) (old front back new_front new_back : List ℕ) (low high : Result (Unit {0}) (AtomKey × RangeFault)) → IsCut files mets from size work at seam → AreHalves from seam old front back new_front new_back
+pub filled_both : (files : List LoadedFile) (mets : PlacedWork → List Met) (from size : ℕ) (work : List PlacedWork) (at seam : ℕ) (old front back new_front new_back : List ℕ) (low high : Result (Unit {0}) (PatchFault)) → IsCut files mets from size work at seam → AreHalves from seam old front back new_front new_back
     → (d : PlacedWork) → IsFilled files mets from (take at work) front new_front low → IsFilled files mets seam (drop at work) back new_back high → IsFilled files mets from work old (new_front ++ new_back) (least_of low high)
 filled_both files mets from size work at seam old front back new_front new_back low high cut halves d first second = by_answers low high first second
   where
-    beside : (a b : Result (Unit {0}) (AtomKey × RangeFault)) → IsFilled files mets from (take at work) front new_front a → IsFilled files mets seam (drop at work) back new_back b → IsSameBeside files from work old (new_front ++ new_back)
+    beside : (a b : Result (Unit {0}) (PatchFault)) → IsFilled files mets from (take at work) front new_front a → IsFilled files mets seam (drop at work) back new_back b → IsSameBeside files from work old (new_front ++ new_back)
     beside a b one other = both_beside files mets from size work at seam old front back new_front new_back d cut halves one.beside other.beside
 
     room : at ≤ length work
     room = let w = cut.within in omega arith
 
-    chosen : (a b : AtomKey × RangeFault) (after : Bool) → is_gt (compare_keys a.0 b.0) ≡ after → IsFilled files mets from (take at work) front new_front (Err a) → IsFilled files mets seam (drop at work) back new_back (Err b) → IsFilled files mets from work old (new_front ++ new_back) (least_of (Err a) (Err b))
-    chosen a b true e one other = rw e (record {
-      beside = beside (Err a) (Err b) one other;
-      placed = tt;
-      fault = high_fault files mets at work b room other.fault (lower files mets b.0 a.0 (take at work) (turned_round a.0 b.0 e) one.fault.1.least);
+    fields : All (HasFields files mets) (take at work) → All (HasFields files mets) (drop at work) → All (HasFields files mets) work
+    fields one other = both_halves (HasFields files mets) at work one other
+
+    chosen : (a b : AtomKey) (f g : RangeFault) (after : Bool) → is_gt (compare_keys a b) ≡ after → IsFilled files mets from (take at work) front new_front (Err (Range a f)) → IsFilled files mets seam (drop at work) back new_back (Err (Range b g)) → IsFilled files mets from work old (new_front ++ new_back) (least_of (Err (Range a f)) (Err (Range b g)))
+    chosen a b f g true e one other = rw e (record {
+      beside = beside (Err (Range a f)) (Err (Range b g)) one other;
+      patched = (fields one.patched.0 other.patched.0, high_fault files mets at work b g room other.patched.1 (lower files mets b a (take at work) (turned_round a b e) one.patched.1.1.least));
     })
-    chosen a b false e one other = rw e (record {
-      beside = beside (Err a) (Err b) one other;
-      placed = tt;
-      fault = low_fault files mets at work a room one.fault (lower files mets a.0 b.0 (drop at work) e other.fault.1.least);
+    chosen a b f g false e one other = rw e (record {
+      beside = beside (Err (Range a f)) (Err (Range b g)) one other;
+      patched = (fields one.patched.0 other.patched.0, low_fault files mets at work a f room one.patched.1 (lower files mets a b (drop at work) e other.patched.1.1.least));
     })
 
-    by_answers : (a b : Result (Unit {0}) (AtomKey × RangeFault)) → IsFilled files mets from (take at work) front new_front a → IsFilled files mets seam (drop at work) back new_back b → IsFilled files mets from work old (new_front ++ new_back) (least_of a b)
+    by_answers : (a b : Result (Unit {0}) PatchFault) → IsFilled files mets from (take at work) front new_front a → IsFilled files mets seam (drop at work) back new_back b → IsFilled files mets from work old (new_front ++ new_back) (least_of a b)
     by_answers (Ok x) (Ok y) one other = record {
       beside = beside (Ok x) (Ok y) one other;
-      placed = both_halves (IsPlaced files mets from (new_front ++ new_back)) at work
-          (low_placed files mets from size work at seam old front back new_front new_back cut halves one.placed)
-          (high_placed files mets from size work at seam old front back new_front new_back cut halves other.placed);
-      fault = tt;
+      patched = (
+        fields one.patched.0 other.patched.0,
+        both_halves (IsPlaced files mets from (new_front ++ new_back)) at work
+            (low_placed files mets from size work at seam old front back new_front new_back cut halves one.patched.1)
+            (high_placed files mets from size work at seam old front back new_front new_back cut halves other.patched.1),
+      );
     }
-    by_answers (Ok x) (Err b) one other = record {
-      beside = beside (Ok x) (Err b) one other;
-      placed = tt;
-      fault = high_fault files mets at work b room other.fault (fitting files mets b.0 (take at work) (fit_where_placed files mets from new_front (take at work) one.placed));
+    by_answers (Ok x) (Err (Range b g)) one other = record {
+      beside = beside (Ok x) (Err (Range b g)) one other;
+      patched = (fields one.patched.0 other.patched.0, high_fault files mets at work b g room other.patched.1 (fitting files mets b (take at work) (fit_where_placed files mets from new_front (take at work) one.patched.1)));
     }
-    by_answers (Err a) (Ok y) one other = record {
-      beside = beside (Err a) (Ok y) one other;
-      placed = tt;
-      fault = low_fault files mets at work a room one.fault (fitting files mets a.0 (drop at work) (fit_where_placed files mets seam new_back (drop at work) other.placed));
+    by_answers (Ok x) (Err OutOfMemory) one other = record { beside = beside (Ok x) (Err OutOfMemory) one other; patched = tt }
+    by_answers (Err OutOfMemory) high one other = record { beside = beside (Err OutOfMemory) high one other; patched = tt }
+    by_answers (Err (Range a f)) (Ok y) one other = record {
+      beside = beside (Err (Range a f)) (Ok y) one other;
+      patched = (fields one.patched.0 other.patched.0, low_fault files mets at work a f room one.patched.1 (fitting files mets a (drop at work) (fit_where_placed files mets seam new_back (drop at work) other.patched.1)));
     }
-    by_answers (Err a) (Err b) one other = chosen a b (is_gt (compare_keys a.0 b.0)) refl one other
+    by_answers (Err (Range a f)) (Err OutOfMemory) one other = record { beside = beside (Err (Range a f)) (Err OutOfMemory) one other; patched = tt }
+    by_answers (Err (Range a f)) (Err (Range b g)) one other = chosen a b f g (is_gt (compare_keys a b)) refl one other
 
-pub is_cut : (files : List LoadedFile) (mets : List Met) (from size : ℕ) (work behind : List PlacedWork) (at : ℕ) (d : PlacedWork) → AreWork files mets from size work → at < length work → behind ≡ drop at work → IsCut files mets from size work at (get_or behind 0 d).at
+pub is_cut : (files : List LoadedFile) (mets : PlacedWork → List Met) (from size : ℕ) (work behind : List PlacedWork) (at : ℕ) (d : PlacedWork) → AreStanding files from size work → at < length work → behind ≡ drop at work → IsCut files mets from size work at (get_or behind 0 d).at
 is_cut files mets from size work behind at d are within is =
     let first : get_or behind 0 d ≡ get_or work at d = ap (λ (z : List PlacedWork). get_or z 0 d) is ∙ get_or-drop at work 0 d ∙ ap (λ (n : ℕ). get_or work n d) (add-zero at) in
     record {
@@ -282,7 +284,7 @@ is_cut files mets from size work behind at d are within is =
       begins = λ e. ap (λ (item : PlacedWork). item.at) (element_at work at e d within ∙ sym first);
     }
 
-pub halves_filled : (files : List LoadedFile) (mets : List Met) (from size : ℕ) (work before behind : List PlacedWork) (at seam : ℕ) (old front back new_front new_back : List ℕ) (low high answer : Result (Unit {0}) (AtomKey × RangeFault))
+pub halves_filled : (files : List LoadedFile) (mets : PlacedWork → List Met) (from size : ℕ) (work before behind : List PlacedWork) (at seam : ℕ) (old front back new_front new_back : List ℕ) (low high answer : Result (Unit {0}) (PatchFault))
     → IsCut files mets from size work at seam → before ≡ take at work → behind ≡ drop at work → old ≡ front ++ back → length front ≡ seam - from
     → IsFilled files mets from before front new_front low → IsFilled files mets seam behind back new_back high → answer ≡ least_of low high → IsFilled files mets from work old (new_front ++ new_back) answer
 halves_filled files mets from size work before behind at seam old front back new_front new_back low high answer cut is_before is_behind whole long first second is =

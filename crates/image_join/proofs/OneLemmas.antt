@@ -18,7 +18,7 @@ use Rattle.patch.specs.declared.met.RangeFault.{RangeFault}
 use Rattle.patch.specs.declared.range.PlacedWork.{PlacedWork}
 use Rattle.patch.specs.Field.{field_of}
 use Rattle.patch.specs.Patched.{AreApart, AreFields, Fits, IsFirstAtFault, IsFirstFault}
-use Rattle.patch.specs.Range.{AllFit, AreWork, IsBeside, IsLeastFault, IsPlaced, IsSameBeside, IsUpTo, IsWork, bytes_of, part_of, refs_of}
+use Rattle.patch.specs.Range.{AllFit, AreStanding, HasFields, IsBeside, IsLeastFault, IsPlaced, IsSameBeside, IsUpTo, bytes_of, part_of}
 use Rattle.patch.proofs.OneLemmas.{by_element, one_patch}
 use Rattle.patch.proofs.WriteLemmas.{four_at_least}
 
@@ -46,15 +46,15 @@ byte_of_part files from k item image begins low high =
     ∙ get_or-drop (item.at - from) image (from + k - item.at) 0
     ∙ ap (λ (j : ℕ). slice_index image j) there
 
-byte_of_atom : (files : List LoadedFile) (mets : List Met) (from k : ℕ) (item : PlacedWork) (a b : List ℕ) → from ≤ item.at → All (λ byte. byte < 256) a → All (λ byte. byte < 256) b → IsPlaced files mets from a item → IsPlaced files mets from b item → item.at ≤ from + k → from + k < item.at + length (bytes_of files item) → slice_index a k ≡ slice_index b k
+byte_of_atom : (files : List LoadedFile) (mets : PlacedWork → List Met) (from k : ℕ) (item : PlacedWork) (a b : List ℕ) → from ≤ item.at → All (λ byte. byte < 256) a → All (λ byte. byte < 256) b → IsPlaced files mets from a item → IsPlaced files mets from b item → item.at ≤ from + k → from + k < item.at + length (bytes_of files item) → slice_index a k ≡ slice_index b k
 byte_of_atom files mets from k item a b begins low_a low_b first second low high =
     let same : part_of files from item a ≡ part_of files from item b =
-    one_patch item.address (refs_of mets item) (bytes_of files item) (part_of files from item a) (part_of files from item b) (part_is_bytes files from item a low_a) (part_is_bytes files from item b low_b) first second in
+    one_patch item.address (mets item) (bytes_of files item) (part_of files from item a) (part_of files from item b) (part_is_bytes files from item a low_a) (part_is_bytes files from item b low_b) first second in
     sym (byte_of_part files from k item a begins low high)
     ∙ ap (λ (part : List ℕ). slice_index part (from + k - item.at)) same
     ∙ byte_of_part files from k item b begins low high
 
-pub one_image : (files : List LoadedFile) (mets : List Met) (from : ℕ) (work : List PlacedWork) (old a b : List ℕ) → AreWork files mets from (length old) work → All (λ byte. byte < 256) a → All (λ byte. byte < 256) b → IsSameBeside files from work old a → All (IsPlaced files mets from a) work → IsSameBeside files from work old b → All (IsPlaced files mets from b) work → a ≡ b
+pub one_image : (files : List LoadedFile) (mets : PlacedWork → List Met) (from : ℕ) (work : List PlacedWork) (old a b : List ℕ) → AreStanding files from (length old) work → All (λ byte. byte < 256) a → All (λ byte. byte < 256) b → IsSameBeside files from work old a → All (IsPlaced files mets from a) work → IsSameBeside files from work old b → All (IsPlaced files mets from b) work → a ≡ b
 one_image files mets from work old a b are low_a low_b beside_a placed_a beside_b placed_b = ext_get_or 0 a b (beside_a.size ∙ sym beside_b.size) byte
   where
     byte : (k : ℕ) → k < length a → slice_index a k ≡ slice_index b k
@@ -127,20 +127,20 @@ one_first address size bytes mets fault other fields (a, first) (b, second) =
     ]
 
 -- a key is up to those of the atoms at fault
-least_key : (files : List LoadedFile) (mets : List Met) (work : List PlacedWork) (fault other : AtomKey × RangeFault) → IsLeastFault files mets work fault.0 fault.1 → IsLeastFault files mets work other.0 other.1 → IsUpTo fault.0 other.0
+least_key : (files : List LoadedFile) (mets : PlacedWork → List Met) (work : List PlacedWork) (fault other : AtomKey × RangeFault) → IsLeastFault files mets work fault.0 fault.1 → IsLeastFault files mets work other.0 other.1 → IsUpTo fault.0 other.0
 least_key files mets work fault other (a, first) (b, second) =
     elim (All-contains (λ item. AllFit files mets item ⊎ IsUpTo fault.0 item.atom.key) work b first.least second.among) [
-      | inl fit ↦ absurd (not_all_fit b.address (bytes_of files b) (refs_of mets b) other.1 second.fails fit)
+      | inl fit ↦ absurd (not_all_fit b.address (bytes_of files b) (mets b) other.1 second.fails fit)
       | inr low ↦ subst (IsUpTo fault.0) (sym second.of_item) low
     ]
 
-pub one_fault : (files : List LoadedFile) (mets : List Met) (from size : ℕ) (work : List PlacedWork) (fault other : AtomKey × RangeFault) → AreWork files mets from size work → AllPairs (λ a b. a.atom.key ≢ b.atom.key) work → IsLeastFault files mets work fault.0 fault.1 → IsLeastFault files mets work other.0 other.1 → fault ≡ other
-one_fault files mets from size work fault other are differ (a, first) (b, second) =
+pub one_fault : (files : List LoadedFile) (mets : PlacedWork → List Met) (work : List PlacedWork) (fault other : AtomKey × RangeFault) → All (HasFields files mets) work → AllPairs (λ a b. a.atom.key ≢ b.atom.key) work → IsLeastFault files mets work fault.0 fault.1 → IsLeastFault files mets work other.0 other.1 → fault ≡ other
+one_fault files mets work fault other fields differ (a, first) (b, second) =
     elim (two_of (λ a b. a.atom.key ≢ b.atom.key) work a b differ first.among second.among) [
       | inl same ↦
-          let fails : IsFirstFault b.address (bytes_of files b) (refs_of mets b) fault.1 = subst (λ (item : PlacedWork). IsFirstFault item.address (bytes_of files item) (refs_of mets item) fault.1) same first.fails in
-          let it : IsWork files mets from size b = All-contains (IsWork files mets from size) work b are.items second.among in
-          let faults : fault.1 ≡ other.1 = one_first b.address (length (bytes_of files b)) (bytes_of files b) (refs_of mets b) fault.1 other.1 it.fields fails second.fails in
+          let fails : IsFirstFault b.address (bytes_of files b) (mets b) fault.1 = subst (λ (item : PlacedWork). IsFirstFault item.address (bytes_of files item) (mets item) fault.1) same first.fails in
+          let it : HasFields files mets b = All-contains (HasFields files mets) work b fields second.among in
+          let faults : fault.1 ≡ other.1 = one_first b.address (length (bytes_of files b)) (bytes_of files b) (mets b) fault.1 other.1 it fails second.fails in
           both keys faults
       | inr (inl not) ↦ absurd (not (sym first.of_item ∙ keys ∙ second.of_item))
       | inr (inr not) ↦ absurd (not (sym second.of_item ∙ sym keys ∙ first.of_item))
@@ -153,7 +153,7 @@ one_fault files mets from size work fault other are differ (a, first) (b, second
     both e f = ap (λ (key : AtomKey). (key, fault.1)) e ∙ ap (λ (range : RangeFault). (other.0, range)) f
 
 -- where a value doesn't fit, nothing is filled
-pub not_filled : (files : List LoadedFile) (mets : List Met) (from : ℕ) (work : List PlacedWork) (key : AtomKey) (fault : RangeFault) (image : List ℕ) → IsLeastFault files mets work key fault → ¬ All (IsPlaced files mets from image) work
+pub not_filled : (files : List LoadedFile) (mets : PlacedWork → List Met) (from : ℕ) (work : List PlacedWork) (key : AtomKey) (fault : RangeFault) (image : List ℕ) → IsLeastFault files mets work key fault → ¬ All (IsPlaced files mets from image) work
 not_filled files mets from work key fault image (item, it) all =
     let placed : IsPlaced files mets from image item = All-contains (IsPlaced files mets from image) work item all it.among in
-    not_all_fit item.address (bytes_of files item) (refs_of mets item) fault it.fails (λ k d low. (_, placed.fields k d low))
+    not_all_fit item.address (bytes_of files item) (mets item) fault it.fails (λ k d low. (_, placed.fields k d low))

@@ -1,7 +1,6 @@
 -- A layout of kept atoms that rise has each atom once.
-use Rattle.std.proofs.Common.{◌≡◌, ◌≢◌, ◌≤◌, ◌<◌, ℕ, length, subst, List, [], ◌∷◌, map, get_or, refl, sym, ap, ◌∙◌}
+use Rattle.std.proofs.Common.{◌≡◌, ◌≤◌, ◌<◌, ℕ, length, subst, List, map, get_or, sym, ap, ◌∙◌}
 use Rattle.std.specs.Prelude.{All}
-use Rattle.std.specs.List.{AllPairs}
 use Rattle.std.specs.List.Sorted.{IsStrictlySortedBy}
 use Rattle.std.specs.Ordering.{on}
 use Rattle.std.specs.declared.cmp.Ordering.TheVariants.{Less, Equal}
@@ -25,7 +24,9 @@ use Rattle.slot_plan.specs.declared.list.Slots.{Slots}
 use Rattle.atom_work.specs.Atoms.{atom_of}
 use Rattle.atom_work.specs.declared.kept.KeptAtom.{KeptAtom}
 use Rattle.image_make.specs.Made.{IsFilledImage, no_parts, plan_with, sizes_of}
-use Rattle.patch.specs.Range.{AreWork, IsPlaced, IsSameBeside}
+use Rattle.mo_types.specs.declared.key.AtomKey.{AtomKey}
+use Rattle.patch.specs.declared.met.RangeFault.{RangeFault}
+use Rattle.patch.specs.Range.{AreStanding, AreWork, HasFields, IsLeastFault, IsPlaced, IsSameBeside}
 use Rattle.patch.specs.declared.met.Met.{Met}
 use Rattle.patch.specs.declared.range.PlacedWork.{PlacedWork}
 use Rattle.atom_work.specs.Addresses.{AreOnce}
@@ -36,11 +37,6 @@ less_not_equal e = cc
 pub once : (placed : List Placed) → IsStrictlySortedBy (on (λ (p : Placed). p.atom) compare_keys) placed → AreOnce placed
 once placed rising = λ i j d low high same.
     less_not_equal (sym (rising_at (on (λ (p : Placed). p.atom) compare_keys) placed i j d rising low high) ∙ ap (λ a. compare_keys a (get_or placed j d).atom) same ∙ tied_itself compare_keys_total (get_or placed j d).atom)
-
-pub rising_atoms : (kept : List KeptAtom) → IsStrictlySortedBy (on (λ (one : KeptAtom). one.atom.key) compare_keys) kept → IsStrictlySortedBy (on (λ (atom : Atom). atom.key) compare_keys) (map atom_of kept)
-unfolding IsStrictlySortedBy
-rising_atoms [] rising = tt
-rising_atoms (one ∷ kept) rising = (all_map atom_of (λ (atom : Atom). compare_keys one.atom.key atom.key ≡ Less) kept rising.0, rising_atoms kept rising.1)
 
 pub low_atoms : (kept : List KeptAtom) → All (λ (one : KeptAtom). one.atom.align ≤ 14) kept → All (λ (atom : Atom). atom.align ≤ 14) (map atom_of kept)
 low_atoms kept low = λ k d within. all_at (λ (atom : Atom). atom.align ≤ 14) (map atom_of kept) k d (all_map atom_of (λ (atom : Atom). atom.align ≤ 14) kept (recursion_from_All (λ (one : KeptAtom). one.atom.align ≤ 14) kept low)) within
@@ -53,11 +49,24 @@ same_plan command libs files kept slots islands atoms sections size a s z =
     ∙ ap (λ (xs : List OutSection). plan_of atoms xs slots islands (sizes_of command libs) command) s
     ∙ ap (λ (xs : List Atom). plan_of xs (out_sections files xs) slots islands (sizes_of command libs) command) a
 
-pub filled : (files f : List LoadedFile) (mets m : List Met) (items w : List PlacedWork) (blank old image : List ℕ) (n : ℕ) → f ≡ files → m ≡ mets → w ≡ items → old ≡ blank → n ≡ length blank
-    → AreWork f m 0 n w → IsSameBeside files 0 w old image → All (IsPlaced files m 0 image) w → All (λ byte. byte < 256) image → IsFilledImage files mets items blank image
-filled files f mets m items w blank old image n a b c d e work beside placed bytes = record {
-  work = subst (λ (x : List LoadedFile). AreWork x mets 0 (length blank) items) a (subst (λ (x : List Met). AreWork f x 0 (length blank) items) b (subst (λ (x : List PlacedWork). AreWork f m 0 (length blank) x) c (subst (λ (x : ℕ). AreWork f m 0 x w) e work)));
-  beside = subst (λ (x : List PlacedWork). IsSameBeside files 0 x blank image) c (subst (λ (x : List ℕ). IsSameBeside files 0 w x image) d beside);
-  placed = subst (λ (x : List PlacedWork). All (IsPlaced files mets 0 image) x) c (subst (λ (x : List Met). All (IsPlaced files x 0 image) w) b placed);
+pub filled : (files f : List LoadedFile) (mets : PlacedWork → List Met) (items : List PlacedWork) (blank old image : List ℕ) (n : ℕ) → f ≡ files → old ≡ blank → n ≡ length blank
+    → AreStanding f 0 n items → IsSameBeside files 0 items old image → All (HasFields files mets) items × All (IsPlaced files mets 0 image) items → All (λ byte. byte < 256) image → IsFilledImage files mets items blank image
+filled files f mets items blank old image n a b c stand beside patched bytes = record {
+  work = record {
+    stand = subst (λ (x : List LoadedFile). AreStanding x 0 (length blank) items) a (subst (λ (x : ℕ). AreStanding f 0 x items) c stand);
+    fields = patched.0;
+  };
+  beside = subst (λ (x : List ℕ). IsSameBeside files 0 items x image) b beside;
+  placed = patched.1;
   bytes = bytes;
 }
+
+pub at_fault : (files f : List LoadedFile) (mets : PlacedWork → List Met) (items : List PlacedWork) (blank : List ℕ) (n : ℕ) (key : AtomKey) (fault : RangeFault) → f ≡ files → n ≡ length blank
+    → AreStanding f 0 n items → All (HasFields files mets) items × IsLeastFault files mets items key fault → AreWork files mets 0 (length blank) items × IsLeastFault files mets items key fault
+at_fault files f mets items blank n key fault a c stand patched = (
+  record {
+    stand = subst (λ (x : List LoadedFile). AreStanding x 0 (length blank) items) a (subst (λ (x : ℕ). AreStanding f 0 x items) c stand);
+    fields = patched.0;
+  },
+  patched.1,
+)

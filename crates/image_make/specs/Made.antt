@@ -1,9 +1,9 @@
 -- The image of the atoms that are kept (`loader.h`).
-use Rattle.std.specs.Prelude.{ℕ, ◌≡◌, ◌+◌, ◌-◌, ◌<◌, ◌≤◌, ◌^◌, Bool, false, List, [], ◌∷◌, length, map, slice_get, All, Result, Ok, Err, if◌then◌else◌}
+use Rattle.std.specs.Prelude.{ℕ, ◌+◌, ◌-◌, ◌<◌, ◌^◌, false, List, [], ◌∷◌, length, map, slice_get, All, Result, Ok, Err}
 use Rattle.std.specs.Option.{option_map_or}
 use Rattle.atom_work.specs.Addresses.{Scene, goal_address}
 use Rattle.atom_work.specs.Atoms.{atom_of, kept_atoms}
-use Rattle.atom_work.specs.Rows.{Row, all_mets, items_from, rows}
+use Rattle.atom_work.specs.Rows.{kept_mets, rows}
 use Rattle.atom_work.specs.declared.kept.KeptAtom.{KeptAtom}
 use Rattle.image_join.specs.Joined.{joined}
 use Rattle.lib_bind.specs.declared.library.LibraryGraph.{LibraryGraph}
@@ -114,18 +114,16 @@ blank m layout = blank_of (front_of m layout) layout
 abbrev pub scene_of : Making → Layout → Scene
 scene_of m layout = record { literals = m.literals; base = base_of m.command; placed = layout.placed }
 
--- the atoms that have bytes, with their places and references
-abbrev pub rows_of : Making → Layout → List Row
-rows_of m layout = rows (scene_of m layout) m.files m.goals (kept_of m) layout.sections
+-- the atoms that have bytes, with their places
+abbrev pub rows_of : Making → Layout → List PlacedWork
+rows_of m layout = rows layout.placed (kept_of m) layout.sections
 
-abbrev pub work_of : Making → Layout → List PlacedWork
-work_of m layout = items_from 0 (rows_of m layout)
-
-abbrev pub mets_of : Making → Layout → List Met
-mets_of m layout = all_mets (rows_of m layout)
+-- the references of an atom
+abbrev pub mets_of : Making → Layout → PlacedWork → List Met
+mets_of m layout = kept_mets (scene_of m layout) m.files m.goals
 
 -- an image is a blank one with its atoms, which stand apart, each with its fields, and no other change
-pub record IsFilledImage (files : List LoadedFile) (mets : List Met) (items : List PlacedWork) (old image : List ℕ) : Type 0 where
+pub record IsFilledImage (files : List LoadedFile) (mets : PlacedWork → List Met) (items : List PlacedWork) (old image : List ℕ) : Type 0 where
   pub work : AreWork files mets 0 (length old) items
   pub beside : IsSameBeside files 0 items old image
   pub placed : All (IsPlaced files mets 0 image) items
@@ -133,9 +131,9 @@ pub record IsFilledImage (files : List LoadedFile) (mets : List Met) (items : Li
 
 -- an image, or why there is none; want of memory is left to the code
 abbrev pub IsMade : Making → Result (List ℕ) MakeFault → Type 0
-IsMade m (Ok image) = (layout : Layout) × IsLaid m layout × IsFilledImage m.files (mets_of m layout) (work_of m layout) (blank m layout) image
+IsMade m (Ok image) = (layout : Layout) × IsLaid m layout × IsFilledImage m.files (mets_of m layout) (rows_of m layout) (blank m layout) image
 IsMade m (Err (Place fault)) = IsTooLarge (image_size (plan_for m)) fault
 IsMade m (Err (Range key fault)) =
-    (layout : Layout) × IsLaid m layout × AreWork m.files (mets_of m layout) 0 (length (blank m layout)) (work_of m layout)
-    × IsLeastFault m.files (mets_of m layout) (work_of m layout) key fault
+    (layout : Layout) × IsLaid m layout × AreWork m.files (mets_of m layout) 0 (length (blank m layout)) (rows_of m layout)
+    × IsLeastFault m.files (mets_of m layout) (rows_of m layout) key fault
 IsMade m (Err OutOfMemory) = Unit {0}

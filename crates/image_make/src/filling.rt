@@ -1,14 +1,15 @@
 //! A blank image, filled with its atoms.
 ghost use Rattle.std.specs.Prelude.{◌≡◌, ◌<◌, All, IfOk};
+ghost use Rattle.atom_work.specs.Meets.{IsReady, met_by};
 ghost use Rattle.image_make.specs.Made as spec;
 ghost use Rattle.image_make.specs.inner.Filled.{IsFilled};
 
 use crate::fault::MakeFault;
-use atom_work::Work;
+use atom_work::Meets;
 use image_join::{Part, PartList, Parts, fill, join};
 use mo_outside::Gate;
 use mo_types::{Bytes, Loaded, OutOfMemory};
-use patch::work_is_apart;
+use patch::{PatchFault, PlacedWork, work_stands};
 use sect_place::{Layout, Segment};
 use std::alloc::Global;
 use std::thread::Threads;
@@ -57,31 +58,40 @@ fn are_bytes(bytes: &[u8])
 }
 
 /// An image with its atoms, each with the fields of its references, written by so many workers. Atoms that don't stand
-/// apart are answered as want of memory.
+/// one behind the other are answered as want of memory.
 pub(crate) fn fill_image<R: Threads + Sync, G: Gate + Sync>(
     rt: &R,
     alloc: Global,
     gate: &G,
     workers: u32,
     loaded: &Loaded,
-    work: &Work,
+    work: &[PlacedWork],
+    meets: &Meets,
     blank: Vec<u8>,
 ) -> Result<Bytes, MakeFault>
-    ensures { IsFilled loaded.now.files work.now.mets.items work.now.items.items blank.items result }
+    requires ready { IsReady meets.now }
+    ensures { IsFilled loaded.now.files (met_by meets.now) work.now blank.items result }
 {
     let mut image = blank;
-    let files = loaded.files.as_slice();
-    let items = work.items.as_slice();
-    let mets = work.mets.as_slice();
-    if !work_is_apart(alloc, items, files, mets, 0, image.len())? {
+    if !work_stands(work, loaded.files.as_slice(), 0, image.len()) {
         return Err(MakeFault::OutOfMemory);
     }
-    match fill(rt, gate, workers, image.as_mut_slice(), items, loaded, mets) {
+    match fill(
+        rt,
+        alloc,
+        gate,
+        workers,
+        image.as_mut_slice(),
+        work,
+        loaded,
+        meets,
+    ) {
         Ok(()) => {
             let image = Bytes::from_vec(image)?;
             are_bytes(image.as_slice());
             Ok(image)
         }
-        Err((atom, fault)) => Err(MakeFault::Range { atom, fault }),
+        Err(PatchFault::Range { atom, fault }) => Err(MakeFault::Range { atom, fault }),
+        Err(PatchFault::OutOfMemory) => Err(MakeFault::OutOfMemory),
     }
 }

@@ -13,7 +13,7 @@ ghost use Rattle.sect_place.specs.Whole.{IsWholeLayout};
 ghost use Rattle.image_make.specs.Made as spec;
 
 use crate::fault::MakeFault;
-use atom_work::{KeptAtom, atoms_of};
+use atom_work::KeptList;
 use lib_bind::Libraries;
 use load_cmds::{PartKinds, other_size};
 use mo_cmd::Command;
@@ -37,7 +37,7 @@ pub(crate) fn lay_out(
     command: &Command,
     libs: &Libraries,
     loaded: &Loaded,
-    kept: &[KeptAtom],
+    kept: &KeptList,
     slots: &Slots,
     islands: &IslandPlan,
 ) -> Result<Layout, MakeFault>
@@ -50,13 +50,13 @@ pub(crate) fn lay_out(
     ensures once { IfOk result (λ layout. AreOnce layout.placed) }
     ensures fault { IfErr result (spec.IsSizeFault (spec.plan_with command.now libs.now loaded.now.files kept.now slots.now islands.now)) }
 {
-    let atoms = atoms_of(alloc, kept)?;
-    let sections = out_sections(alloc, loaded, &atoms)?;
+    let atoms = kept.atoms();
+    let sections = out_sections(alloc, loaded, atoms)?;
     let sizes = PlaceSizes {
         commands: other_size(NO_PARTS, command, libs),
         unwind: 0,
     };
-    match place(alloc, &atoms, &sections, slots, islands, &sizes, command) {
+    match place(alloc, atoms, &sections, slots, islands, &sizes, command) {
         Ok(layout) => Ok(layout),
         Err(PlaceFault::OutOfMemory) => Err(MakeFault::OutOfMemory),
         Err(fault) => Err(MakeFault::Place(fault)),

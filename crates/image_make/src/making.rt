@@ -13,7 +13,7 @@ use crate::fault::MakeFault;
 use crate::filling::{blank_image, fill_image};
 use crate::front::{base_of, front_of};
 use crate::laying::lay_out;
-use atom_work::{kept_atoms, work_of};
+use atom_work::{Meets, kept_atoms, work_of};
 use goal_table::GoalTable;
 use lib_bind::Libraries;
 use mo_cmd::Command;
@@ -65,7 +65,7 @@ pub fn make_image<R: Threads + Sync, G: Gate + Sync>(
         scheme.command,
         scheme.libs,
         scheme.loaded,
-        kept.as_slice(),
+        &kept,
         scheme.slots,
         scheme.islands,
     )?;
@@ -78,12 +78,12 @@ pub fn make_image<R: Threads + Sync, G: Gate + Sync>(
         scheme.entry,
     )?;
     let blank = blank_image(alloc, &layout, front)?;
-    let work = work_of(
+    let work = work_of(alloc, &kept, &layout)?;
+    let meets = Meets::of(
         alloc,
         scheme.loaded,
         scheme.winners,
         scheme.goals,
-        kept.as_slice(),
         &layout,
         base_of(scheme.command),
     )?;
@@ -93,7 +93,8 @@ pub fn make_image<R: Threads + Sync, G: Gate + Sync>(
         gate,
         scheme.command.threads,
         scheme.loaded,
-        &work,
+        work.as_slice(),
+        &meets,
         blank,
     )
 }

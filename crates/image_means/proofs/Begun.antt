@@ -33,8 +33,7 @@ use Rattle.image_join.specs.declared.parts.Part.{Part}
 use Rattle.image_join.specs.declared.parts.Parts.{Parts}
 use Rattle.image_join.proofs.JoinedLemmas.{byte_here, byte_of_joined, byte_past, covers_not, length-joined}
 use Rattle.atom_work.specs.Atoms.{atom_of}
-use Rattle.atom_work.specs.Rows.{Row, item_at, items_from}
-use Rattle.image_make.specs.Made.{IsLaid, Making, blank, blank_of, entry_offset, file_end, front_of, kept_of, no_parts, parts_of, plan_for, plan_with, rows_of, sizes_of, work_of}
+use Rattle.image_make.specs.Made.{IsLaid, Making, blank, blank_of, entry_offset, file_end, front_of, kept_of, no_parts, parts_of, plan_for, plan_with, rows_of, sizes_of}
 use Rattle.image_read.specs.Commands.{ncmds, sizeofcmds}
 use Rattle.image_means.specs.Means.{AreRising, IsImage}
 use Rattle.image_means.proofs.Fronted.{IsFronted}
@@ -163,7 +162,7 @@ blank_rest front layout k past = elim (cases_lt k (file_end layout.segments)) [
 -- ---- where rows stand in the file
 
 -- a row in its segment: at the same distance from its start in memory and in the file, behind the header and the commands
-pub record IsRowAt (m : Making) (layout : Layout) (row : Row) : Type 0 where
+pub record IsRowAt (m : Making) (layout : Layout) (row : PlacedWork) : Type 0 where
   pub segment : Segment
   pub among : In segment layout.segments
   pub open_to : 0 < segment.protection
@@ -180,7 +179,7 @@ held_in_layout m layout section laid among =
     all_in (IsHeldBy (image_segments m.command plan) (plan.base + plan.lead) plan.lead) (image_sections plan) section (all_held m.command plan) (subst (λ (ss : List PlacedSection). In section ss) laid.layout_of.sections among) in
     subst (λ (ss : List Segment). IsHeldBy ss (plan.base + plan.lead) plan.lead section) (sym laid.layout_of.segments) held
 
-pub row_at_place : (m : Making) (layout : Layout) (row : Row) → AreRising m → IsLaid m layout → In row (rows_of m layout) → IsRowAt m layout row
+pub row_at_place : (m : Making) (layout : Layout) (row : PlacedWork) → AreRising m → IsLaid m layout → In row (rows_of m layout) → IsRowAt m layout row
 row_at_place m layout row rising laid h =
     let one = row_in m layout row rising laid h in
     let section : PlacedSection = one.section in
@@ -188,7 +187,7 @@ row_at_place m layout row rising laid h =
     let held = by.held in
     let within = one.within in
     let far = by.far row.address within.low in
-    let at : section.file_offset + (row.address - section.address) ≡ row.at = ap (λ (r : Row). r.at) one.is in
+    let at : section.file_offset + (row.address - section.address) ≡ row.at = ap (λ (r : PlacedWork). r.at) one.is in
     let file : section.file_offset ≡ by.segment.file_offset + (section.address - by.segment.address) = held.file one.solid in
     let low = held.low in
     let high = held.high in
@@ -205,22 +204,15 @@ row_at_place m layout row rising laid h =
       behind = omega arith;
     }
 
-pub from_items : (first : ℕ) (rows : List Row) (item : PlacedWork) → In item (items_from first rows) → (row : Row) × (n : ℕ) × In row rows × (item_at n row ≡ item)
-from_items first [] item h = absurd h
-from_items first (row ∷ rows) item (inl e) = (row, first, inl refl, e)
-from_items first (row ∷ rows) item (inr h) = let later = from_items (first + length row.mets) rows item h in (later.0, later.1, inr later.2, later.3)
-
 pub all_places : {X : Type 0} (P : X → Type 0) (xs : List X) → ((x : X) → In x xs → P x) → All P xs
 all_places P xs each = λ k d within. all_at P xs k d (all_from_in P xs each) within
 
 -- a place of the file before all rows is as it was
 pub before_rows : (m : Making) (layout : Layout) (image : List ℕ) (k : ℕ) → AreRising m → IsImage m layout image → k < (plan_for m).lead → get_or image k 0 ≡ get_or (blank m layout) k 0
 before_rows m layout image k rising is low =
-    is.filled.beside.others k (all_places (IsBeside m.files 0 k) (work_of m layout) (λ item h.
-    let of_row = from_items 0 (rows_of m layout) item h in
-    let at = row_at_place m layout of_row.0 rising is.laid of_row.2 in
+    is.filled.beside.others k (all_places (IsBeside m.files 0 k) (rows_of m layout) (λ row h.
+    let at = row_at_place m layout row rising is.laid h in
     let behind = at.behind in
-    let place : of_row.0.at ≡ item.at = ap (λ (i : PlacedWork). i.at) of_row.3 in
     inl (omega arith)))
 
 -- ---- the front of the image

@@ -6,9 +6,7 @@ use Rattle.std.proofs.lemmas.List.Sorted.{Contains-permutation}
 use Rattle.list_lemmas.proofs.Members.{Contains_from_in, In, from_map, in_filter, in_from_Contains, in_map, in_either, in_filter_map, in_flat, in_left, in_right}
 use Rattle.mo_types.specs.Whole.{is_zerofill}
 use Rattle.mo_types.specs.declared.atom.Atom.{Atom}
-use Rattle.mo_types.specs.declared.goal.Goal.{Goal}
 use Rattle.mo_types.specs.declared.key.AtomKey.{AtomKey}
-use Rattle.mo_types.specs.declared.loaded.LoadedFile.{LoadedFile}
 use Rattle.tlv_plan.specs.Template.{aligned, atoms_of, stand}
 use Rattle.sect_place.specs.Layout.{Plan, image_places, image_sections, plan_of}
 use Rattle.sect_place.specs.OutSections.{Home, home_of, out_sections}
@@ -21,9 +19,10 @@ use Rattle.sect_place.specs.declared.part.Group.{Group}
 use Rattle.sect_place.specs.declared.part.Part.{Part}
 use Rattle.sect_place.proofs.Listed.{kept_are_listed}
 use Rattle.sect_place.proofs.Positions.{keys_listed, placed_there}
-use Rattle.atom_work.specs.Addresses.{Scene, address_in}
+use Rattle.atom_work.specs.Addresses.{address_in}
 use Rattle.atom_work.specs.Atoms.{atom_of, kept_at}
-use Rattle.atom_work.specs.Rows.{Row, has_bytes, row_at, row_of, rows, section_rows}
+use Rattle.atom_work.specs.Rows.{has_bytes, row_at, row_of, rows, section_rows}
+use Rattle.patch.specs.declared.range.PlacedWork.{PlacedWork}
 use Rattle.atom_work.specs.declared.kept.KeptAtom.{KeptAtom}
 use Rattle.atom_work.proofs.AddressLemmas.{address_is}
 use Rattle.image_make.specs.Made.{IsLaid, Making, kept_of, plan_for, plan_with, rows_of, scene_of, sizes_of}
@@ -122,21 +121,21 @@ seated m layout kept home rising laid keeps is =
       stood = sym (address_is layout.placed key (Some placed.0) (placed_once m layout rising laid) there);
     }
 
-row_is : (scene : Scene) (files : List LoadedFile) (goals : List (List Goal)) (atoms : List KeptAtom) (section : PlacedSection) (key : AtomKey) (kept : KeptAtom) (address : ℕ) → kept_at atoms key ≡ Some kept → address_in scene.placed key ≡ Some address → row_of scene files goals atoms section key ≡ Some (row_at scene files goals section kept address)
+row_is : (placed : List Placed) (atoms : List KeptAtom) (section : PlacedSection) (key : AtomKey) (kept : KeptAtom) (address : ℕ) → kept_at atoms key ≡ Some kept → address_in placed key ≡ Some address → row_of placed atoms section key ≡ Some (row_at section kept address)
 unfolding row_of
-row_is scene files goals atoms section key kept address known stood = rw (known, stood) refl
+row_is placed atoms section key kept address known stood = rw (known, stood) refl
 
 written : (m : Making) (layout : Layout) (kept : KeptAtom) (section : PlacedSection) (address : ℕ) → In section layout.sections → is_zerofill section.section.kind ≡ false → In kept.atom.key section.section.atoms → kept_at (kept_of m) kept.atom.key ≡ Some kept → address_in layout.placed kept.atom.key ≡ Some address → IsWritten m layout kept address
 unfolding rows section_rows
 written m layout kept section address among solid listed known stood =
     let scene = scene_of m layout in
-    let row : Row = row_at scene m.files m.goals section kept address in
+    let row : PlacedWork = row_at section kept address in
     let passes : has_bytes section ≡ true = ap not solid in
     record {
       row = row;
       of_rows = Contains_from_in (rows_of m layout) row
-          (in_flat (section_rows scene m.files m.goals (kept_of m)) (filter has_bytes layout.sections) section row (in_filter has_bytes layout.sections section among passes)
-          (in_filter_map (row_of scene m.files m.goals (kept_of m) section) section.section.atoms kept.atom.key row listed (row_is scene m.files m.goals (kept_of m) section kept.atom.key kept address known stood)));
+          (in_flat (section_rows layout.placed (kept_of m)) (filter has_bytes layout.sections) section row (in_filter has_bytes layout.sections section among passes)
+          (in_filter_map (row_of layout.placed (kept_of m) section) section.section.atoms kept.atom.key row listed (row_is layout.placed (kept_of m) section kept.atom.key kept address known stood)));
       atom = refl;
       file = refl;
       stands = refl;

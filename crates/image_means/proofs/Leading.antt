@@ -1,5 +1,5 @@
 -- The references of an image's atoms lead to their goals.
-use Rattle.std.proofs.Common.{◌≡◌, ℕ, ◌+◌, ◌≤◌, true, List, [], length, map, Option, Some, None, Contains, refl, sym, ap, ◌∙◌, arith, subst}
+use Rattle.std.proofs.Common.{◌≡◌, ℕ, ◌+◌, ◌≤◌, true, List, [], length, map, Option, Some, None, Contains, refl, sym, arith, subst}
 use Rattle.std.specs.Prelude.{slice_get}
 use Rattle.std.specs.List.{filter}
 use Rattle.std.specs.Option.{option_map, option_map_or}
@@ -10,80 +10,73 @@ use Rattle.mo_types.specs.declared.loaded.LoadedFile.{LoadedFile}
 use Rattle.mo_types.specs.declared.reference.Ref.{Ref}
 use Rattle.mo_types.specs.declared.reference.Target.{Target}
 use Rattle.patch.specs.Patched.{size_of}
+use Rattle.patch.specs.Range.{bytes_of}
 use Rattle.patch.specs.Reading.{Tells}
 use Rattle.patch.specs.declared.met.Met.{Met}
 use Rattle.patch.proofs.ReadingLemmas.{read_back}
 use Rattle.sect_place.specs.declared.layout.Layout.{Layout}
 use Rattle.atom_work.specs.Addresses.{Scene, target_address}
 use Rattle.atom_work.specs.Mets.{is_ref_of, met_of, mets_of}
-use Rattle.atom_work.specs.Rows.{Row, goals_at, kept_mets}
-use Rattle.atom_work.specs.declared.kept.KeptAtom.{KeptAtom}
+use Rattle.atom_work.specs.Rows.{goals_at, kept_mets}
+use Rattle.patch.specs.declared.range.PlacedWork.{PlacedWork}
 use Rattle.image_make.specs.Made.{Making, rows_of, scene_of}
+use Rattle.image_make.specs.Made as made
 use Rattle.image_read.specs.Held.{AtomMap, goal_address}
-use Rattle.image_means.specs.Means.{AreRising, IsImage, addresses_of, row_bytes}
+use Rattle.image_means.specs.Means.{AreRising, IsImage, addresses_of}
 use Rattle.image_means.specs.References.{IsDirect, IsReferenceOf, TellsGoal, goal_of, minus_of, places_of}
 use Rattle.image_means.proofs.Goals.{goal_there}
 use Rattle.image_means.proofs.Loading.{from_all, row_fields, row_loaded}
 use Rattle.image_means.proofs.Referring.{IsMetFrom, IsToldAt, denotes_by}
-use Rattle.image_means.proofs.Rowed.{IsRowIn, row_in}
 
 -- ---- a reference among those that a row has met
 
-mets_with : (scene : Scene) (goals : List (List Goal)) (at : ℕ) (file : LoadedFile) (found : Option LoadedFile) (kept : KeptAtom) → found ≡ Some file → option_map_or (λ (f : LoadedFile). mets_of scene (goals_at goals at) f.refs kept.atom.key) found [] ≡ mets_of scene (goals_at goals at) file.refs kept.atom.key
-mets_with scene goals at file found kept e = rw e refl
+mets_with : (scene : Scene) (goals : List (List Goal)) (file : LoadedFile) (found : Option LoadedFile) (row : PlacedWork) → found ≡ Some file → option_map_or (λ (f : LoadedFile). mets_of scene (goals_at goals row.file) f.refs row.atom.key) found [] ≡ mets_of scene (goals_at goals row.file) file.refs row.atom.key
+mets_with scene goals file found row e = rw e refl
 
-kept_with : (scene : Scene) (files : List LoadedFile) (goals : List (List Goal)) (kept : KeptAtom) (file : LoadedFile) → slice_get files kept.file ≡ Some file → kept_mets scene files goals kept ≡ mets_of scene (goals_at goals kept.file) file.refs kept.atom.key
+kept_with : (scene : Scene) (files : List LoadedFile) (goals : List (List Goal)) (row : PlacedWork) (file : LoadedFile) → slice_get files row.file ≡ Some file → kept_mets scene files goals row ≡ mets_of scene (goals_at goals row.file) file.refs row.atom.key
 unfolding kept_mets
-kept_with scene files goals kept file e = mets_with scene goals kept.file file (slice_get files kept.file) kept e
+kept_with scene files goals row file e = mets_with scene goals file (slice_get files row.file) row e
 
 among_mets : (scene : Scene) (goals : List Goal) (refs : List Ref) (section offset : ℕ) (reference : Ref) → In reference refs → is_ref_of section offset reference ≡ true → In (met_of scene goals reference) (map (met_of scene goals) (filter (is_ref_of section offset) refs))
 among_mets scene goals refs section offset reference h e = in_map (met_of scene goals) (filter (is_ref_of section offset) refs) reference (in_filter (is_ref_of section offset) refs reference h e)
 
-met_in : (m : Making) (layout : Layout) (row : Row) (reference : Ref) → IsRowIn m layout row → IsReferenceOf m row reference → In (met_of (scene_of m layout) (goals_at m.goals row.file) reference) row.mets
+met_in : (m : Making) (layout : Layout) (row : PlacedWork) (reference : Ref) → IsReferenceOf m row reference → In (met_of (scene_of m layout) (goals_at m.goals row.file) reference) (kept_mets (scene_of m layout) m.files m.goals row)
 unfolding mets_of
-met_in m layout row reference of_section of_row =
+met_in m layout row reference of_row =
     let scene = scene_of m layout in
-    let kept : KeptAtom = of_section.kept in
-    let place : kept.file ≡ row.file = ap (λ (r : Row). r.file) of_section.is in
     let file : LoadedFile = of_row.file in
-    let found : slice_get m.files kept.file ≡ Some file = ap (slice_get m.files) place ∙ of_row.of_file in
-    let mets : kept_mets scene m.files m.goals kept ≡ row.mets = ap (λ (r : Row). r.mets) of_section.is in
-    let key : kept.atom.key ≡ row.atom.key = ap (λ (r : Row). r.atom.key) of_section.is in
-    let own : is_ref_of kept.atom.key.section kept.atom.key.offset reference ≡ true = ap (λ k. is_ref_of k.section k.offset reference) key ∙ of_row.of_atom in
-    let there : In (met_of scene (goals_at m.goals kept.file) reference) (mets_of scene (goals_at m.goals kept.file) file.refs kept.atom.key) =
-    among_mets scene (goals_at m.goals kept.file) file.refs kept.atom.key.section kept.atom.key.offset reference (in_from_Contains file.refs reference of_row.among) own in
-    subst (λ (n : ℕ). In (met_of scene (goals_at m.goals n) reference) row.mets) place
-    (subst (λ (xs : List Met). In (met_of scene (goals_at m.goals kept.file) reference) xs) (sym (kept_with scene m.files m.goals kept file found) ∙ mets) there)
+    subst (λ (xs : List Met). In (met_of scene (goals_at m.goals row.file) reference) xs) (sym (kept_with scene m.files m.goals row file of_row.of_file))
+    (among_mets scene (goals_at m.goals row.file) file.refs row.atom.key.section row.atom.key.offset reference (in_from_Contains file.refs reference of_row.among) of_row.of_atom)
 
 -- ---- its field
 
-met_told : (m : Making) (layout : Layout) (image : List ℕ) (row : Row) (met : Met) → AreRising m → IsImage m layout image → In row (rows_of m layout) → In met row.mets → IsToldAt image met.kind row.address met.place met
+met_told : (m : Making) (layout : Layout) (image : List ℕ) (row : PlacedWork) (met : Met) → AreRising m → IsImage m layout image → In row (rows_of m layout) → In met (made.mets_of m layout row) → IsToldAt image met.kind row.address met.place met
 met_told m layout image row met rising is h among =
     let loaded = row_loaded m layout image row rising is h in
     let fields = row_fields m layout image row is h in
     let size = loaded.patched.size in
-    let within = from_all (λ (x : Met). x.place + size_of x ≤ length (row_bytes m.files row)) row.mets met fields.within among in
+    let within = from_all (λ (x : Met). x.place + size_of x ≤ length (bytes_of m.files row)) (made.mets_of m layout row) met fields.within among in
     let addresses = fields.addresses in
     record {
       bytes = loaded.bytes;
       there = loaded.there;
       room = omega arith;
       low = omega arith;
-      tells = from_all (λ (x : Met). Tells x.kind (row.address + x.place) (number (size_of x) loaded.bytes x.place) x) row.mets met (read_back row.address row.mets (row_bytes m.files row) loaded.bytes loaded.patched) among;
+      tells = from_all (λ (x : Met). Tells x.kind (row.address + x.place) (number (size_of x) loaded.bytes x.place) x) (made.mets_of m layout row) met (read_back row.address (made.mets_of m layout row) (bytes_of m.files row) loaded.bytes loaded.patched) among;
     }
 
 -- ---- its goals
 
-value_met : (m : Making) (layout : Layout) (image : List ℕ) (row : Row) (target : Target) → AreRising m → IsImage m layout image → (address : ℕ) → goal_address image (addresses_of layout.placed) (goal_of m row target) ≡ Some address → target_address (scene_of m layout) (goals_at m.goals row.file) target ≡ address
+value_met : (m : Making) (layout : Layout) (image : List ℕ) (row : PlacedWork) (target : Target) → AreRising m → IsImage m layout image → (address : ℕ) → goal_address image (addresses_of layout.placed) (goal_of m row target) ≡ Some address → target_address (scene_of m layout) (goals_at m.goals row.file) target ≡ address
 unfolding target_address
 value_met m layout image row target rising is address e = goal_there m layout image (goal_of m row target) address rising is e
 
-pub references_lead : (m : Making) (layout : Layout) (image : List ℕ) (offsets : AtomMap) (section : ℕ) (row : Row) (reference : Ref) → AreRising m → IsImage m layout image → Contains (rows_of m layout) row → IsReferenceOf m row reference → IsDirect m layout image row reference → TellsGoal m layout image offsets section row reference
+pub references_lead : (m : Making) (layout : Layout) (image : List ℕ) (offsets : AtomMap) (section : ℕ) (row : PlacedWork) (reference : Ref) → AreRising m → IsImage m layout image → Contains (rows_of m layout) row → IsReferenceOf m row reference → IsDirect m layout image row reference → TellsGoal m layout image offsets section row reference
 unfolding met_of
 references_lead m layout image offsets section row reference rising is among of_row direct =
     let h = in_from_Contains (rows_of m layout) row among in
     let met : Met = met_of (scene_of m layout) (goals_at m.goals row.file) reference in
-    let told = met_told m layout image row met rising is h (met_in m layout row reference (row_in m layout row rising is.laid h) of_row) in
+    let told = met_told m layout image row met rising is h (met_in m layout row reference of_row) in
     denotes_by reference.kind image (places_of layout offsets) row.address reference.place section (goal_of m row reference.target) (minus_of m row reference) met told
     (value_met m layout image row reference.target rising is) (by reference.minus) direct
   where

@@ -24,12 +24,11 @@ use Rattle.sect_place.specs.declared.layout.PlacedSection.{PlacedSection}
 use Rattle.sect_place.specs.declared.layout.Segment.{Segment}
 use Rattle.sect_place.proofs.Meaning.{sections_apart}
 use Rattle.load_cmds.specs.Segments.{slot_count, stub_count}
-use Rattle.atom_work.specs.Rows.{Row, item_at}
-use Rattle.image_make.specs.Made.{Making, front_of, plan_for, rows_of, work_of}
+use Rattle.image_make.specs.Made.{Making, front_of, plan_for, rows_of}
 use Rattle.image_read.specs.Commands.{commands_of, fits}
 use Rattle.image_read.specs.Mapped.{byte_in, holder, holder_at, holds, mapped}
 use Rattle.image_means.specs.Means.{AreRising, IsImage}
-use Rattle.image_means.proofs.Begun.{all_places, blank_rest, commands_list, counts, end_there, from_items, held_in_layout, is_fronted, is_plan, parts_for, row_at_place}
+use Rattle.image_means.proofs.Begun.{all_places, blank_rest, commands_list, counts, end_there, held_in_layout, is_fronted, is_plan, parts_for, row_at_place}
 use Rattle.image_means.proofs.First.{IsFirst, first_there, found_at, own}
 use Rattle.image_means.proofs.Fronted.{are_there, places_there}
 use Rattle.image_means.proofs.Listed.{other_list}
@@ -129,21 +128,19 @@ unfolding bytes_of
 few_bytes files item = few_in item.atom (slice_get files item.file)
 
 -- a place of the file that no row has
-clear_place : (m : Making) (layout : Layout) (image : List ℕ) (section : PlacedSection) (segment : Segment) (address place : ℕ) → AreRising m → IsImage m layout image → In section layout.sections → is_zerofill section.section.kind ≡ true → In segment layout.segments → IsAt segment address place → section.address ≤ address → address < section.address + section.size → All (IsBeside m.files 0 place) (work_of m layout)
+clear_place : (m : Making) (layout : Layout) (image : List ℕ) (section : PlacedSection) (segment : Segment) (address place : ℕ) → AreRising m → IsImage m layout image → In section layout.sections → is_zerofill section.section.kind ≡ true → In segment layout.segments → IsAt segment address place → section.address ≤ address → address < section.address + section.size → All (IsBeside m.files 0 place) (rows_of m layout)
 clear_place m layout image section segment address place rising is among zeros there at low high =
-    all_places (IsBeside m.files 0 place) (work_of m layout) (λ item h. each item h)
+    all_places (IsBeside m.files 0 place) (rows_of m layout) each
   where
     clash : {X : Type 0} (b : Bool) → b ≡ true → b ≡ false → X
     clash b p q = absurd (let e : true ≡ false = sym p ∙ q in cc)
 
-    in_both : (row : Row) (item : PlacedWork) (n : ℕ) → In row (rows_of m layout) → item_at n row ≡ item → item.at ≤ place → place < item.at + length (bytes_of m.files item) → IsBeside m.files 0 place item
-    in_both row item n h e begun short =
+    in_both : (row : PlacedWork) → In row (rows_of m layout) → row.at ≤ place → place < row.at + length (bytes_of m.files row) → IsBeside m.files 0 place row
+    in_both row h begun short =
         let of_section = row_in m layout row rising is.laid h in
         let within = of_section.within in
         let stands = row_at_place m layout row rising is.laid h in
-        let few = few_bytes m.files item in
-        let size : row.atom.size ≡ item.atom.size = ap (λ (i : PlacedWork). i.atom.size) e in
-        let begins : row.at ≡ item.at = ap (λ (i : PlacedWork). i.at) e in
+        let few = few_bytes m.files row in
         let stored = stands.bytes (omega arith) in
         let where_at = stands.place in
         let above = stands.low in
@@ -156,16 +153,14 @@ clear_place m layout image section segment address place rising is among zeros t
         let same : section ≡ of_section.section = one_section layout.sections section of_section.section address apart (Contains_from_in layout.sections section among) (Contains_from_in layout.sections of_section.section of_section.among) low high (omega arith) (omega arith) in
         clash (is_zerofill section.section.kind) zeros (ap (λ (s : PlacedSection). is_zerofill s.section.kind) same ∙ of_section.solid)
 
-    each : (item : PlacedWork) → In item (work_of m layout) → IsBeside m.files 0 place item
-    each item h =
-        let of_row = from_items 0 (rows_of m layout) item h in
-        elim (cases_lt place item.at) [
-          | inl before ↦ inl (omega arith)
-          | inr begun ↦ elim (cases_lt place (item.at + length (bytes_of m.files item))) [
-            | inl short ↦ in_both of_row.0 item of_row.1 of_row.2 of_row.3 begun short
-            | inr past ↦ inr (omega arith)
-          ]
-        ]
+    each : (row : PlacedWork) → In row (rows_of m layout) → IsBeside m.files 0 place row
+    each row h = elim (cases_lt place row.at) [
+      | inl before ↦ inl (omega arith)
+      | inr begun ↦ elim (cases_lt place (row.at + length (bytes_of m.files row))) [
+        | inl short ↦ in_both row h begun short
+        | inr past ↦ inr (omega arith)
+      ]
+    ]
 
 pub section_zeros : (m : Making) (layout : Layout) (image : List ℕ) (section : PlacedSection) (k : ℕ) → AreRising m → IsImage m layout image → In section layout.sections → is_zerofill section.section.kind ≡ true → k < section.size → mapped image (section.address + k) ≡ Some 0
 section_zeros m layout image section k rising is among zeros low =

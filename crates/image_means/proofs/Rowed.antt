@@ -7,15 +7,13 @@ use Rattle.std.specs.Ordering.{is_eq, on}
 use Rattle.std.specs.declared.cmp.Ordering.TheVariants.{Less, Equal}
 use Rattle.std.proofs.lemmas.Cmp.{tied_itself}
 use Rattle.std.proofs.lemmas.List.Sorted.{Contains-permutation}
-use Rattle.list_lemmas.proofs.Members.{Contains_from_in, In, all_in, all_map, from_filter, from_filter_map, from_flat}
+use Rattle.list_lemmas.proofs.Members.{Contains_from_in, In, all_in, from_filter, from_filter_map, from_flat}
 use Rattle.list_lemmas.proofs.Rising.{rising_at}
 use Rattle.mo_types.proofs.KeyOrder.{compare_keys_total}
 use Rattle.mo_types.specs.Keys.{compare_keys}
 use Rattle.mo_types.specs.Whole.{is_zerofill}
 use Rattle.mo_types.specs.declared.atom.Atom.{Atom}
 use Rattle.mo_types.specs.declared.key.AtomKey.{AtomKey}
-use Rattle.mo_types.specs.declared.goal.Goal.{Goal}
-use Rattle.mo_types.specs.declared.loaded.LoadedFile.{LoadedFile}
 use Rattle.key_hints.proofs.Keys.{find_found}
 use Rattle.sect_place.specs.Layout.{image_places, image_sections, plan_of}
 use Rattle.sect_place.specs.OutSections.{out_sections}
@@ -26,12 +24,14 @@ use Rattle.sect_place.specs.declared.layout.PlacedSection.{PlacedSection}
 use Rattle.sect_place.proofs.Once.{listed_once}
 use Rattle.sect_place.proofs.Positions.{finds}
 use Rattle.sect_place.proofs.Single.{layout_rises}
-use Rattle.atom_work.specs.Addresses.{AreOnce, Scene, address_in}
+use Rattle.atom_work.specs.Addresses.{AreOnce, address_in}
 use Rattle.atom_work.specs.Atoms.{atom_of, kept_at}
-use Rattle.atom_work.specs.Rows.{Row, has_bytes, row_at, row_of, rows, section_rows}
+use Rattle.atom_work.specs.Rows.{has_bytes, row_at, row_of, rows, section_rows}
+use Rattle.patch.specs.declared.range.PlacedWork.{PlacedWork}
 use Rattle.atom_work.specs.declared.kept.KeptAtom.{KeptAtom}
 use Rattle.atom_work.proofs.AddressLemmas.{address_is}
-use Rattle.image_make.specs.Made.{IsLaid, Making, kept_of, plan_for, plan_with, rows_of, scene_of, sizes_of}
+use Rattle.atom_work.proofs.KeptListLemmas.{rising_atoms}
+use Rattle.image_make.specs.Made.{IsLaid, Making, kept_of, plan_for, plan_with, rows_of, sizes_of}
 use Rattle.image_means.specs.Means.{AreRising}
 use Rattle.image_means.proofs.Spots.{all_have, spaced_in, spot, stands}
 
@@ -44,11 +44,6 @@ once : (placed : List Placed) → IsStrictlySortedBy (on (λ (p : Placed). p.ato
 once placed rising = λ i j d low high same.
     less_not_equal (sym (rising_at (on (λ (p : Placed). p.atom) compare_keys) placed i j d rising low high) ∙ ap (λ a. compare_keys a (get_or placed j d).atom) same ∙ tied_itself compare_keys_total (get_or placed j d).atom)
 
-rising_atoms : (kept : List KeptAtom) → IsStrictlySortedBy (on (λ (one : KeptAtom). one.atom.key) compare_keys) kept → IsStrictlySortedBy (on (λ (atom : Atom). atom.key) compare_keys) (map atom_of kept)
-unfolding IsStrictlySortedBy
-rising_atoms [] rising = tt
-rising_atoms (one ∷ kept) rising = (all_map atom_of (λ (atom : Atom). compare_keys one.atom.key atom.key ≡ Less) kept rising.0, rising_atoms kept rising.1)
-
 pub placed_once : (m : Making) (layout : Layout) → AreRising m → IsLaid m layout → AreOnce layout.placed
 unfolding plan_with
 placed_once m layout rising laid =
@@ -58,24 +53,24 @@ placed_once m layout rising laid =
 -- ---- a row
 
 -- the atom with a key, its address, and the row of both
-record IsRow (scene : Scene) (files : List LoadedFile) (goals : List (List Goal)) (atoms : List KeptAtom) (section : PlacedSection) (key : AtomKey) (row : Row) : Type 0 where
+record IsRow (placed : List Placed) (atoms : List KeptAtom) (section : PlacedSection) (key : AtomKey) (row : PlacedWork) : Type 0 where
   pub kept : KeptAtom
   pub address : ℕ
   pub known : kept_at atoms key ≡ Some kept
-  pub stood : address_in scene.placed key ≡ Some address
-  pub is : row_at scene files goals section kept address ≡ row
+  pub stood : address_in placed key ≡ Some address
+  pub is : row_at section kept address ≡ row
 
 some_is : {X : Type 0} (x y : X) → Some x ≡ Some y → x ≡ y
 some_is x y e = cc
 
-is_row : (scene : Scene) (files : List LoadedFile) (goals : List (List Goal)) (atoms : List KeptAtom) (section : PlacedSection) (key : AtomKey) (row : Row) → row_of scene files goals atoms section key ≡ Some row → IsRow scene files goals atoms section key row
+is_row : (placed : List Placed) (atoms : List KeptAtom) (section : PlacedSection) (key : AtomKey) (row : PlacedWork) → row_of placed atoms section key ≡ Some row → IsRow placed atoms section key row
 unfolding row_of
-is_row scene files goals atoms section key row e = by (kept_at atoms key) (address_in scene.placed key) refl refl e
+is_row placed atoms section key row e = by (kept_at atoms key) (address_in placed key) refl refl e
   where
-    by : (kept : Option KeptAtom) (address : Option ℕ) → kept_at atoms key ≡ kept → address_in scene.placed key ≡ address → option_and_then (λ (one : KeptAtom). option_map (row_at scene files goals section one) address) kept ≡ Some row → IsRow scene files goals atoms section key row
+    by : (kept : Option KeptAtom) (address : Option ℕ) → kept_at atoms key ≡ kept → address_in placed key ≡ address → option_and_then (λ (one : KeptAtom). option_map (row_at section one) address) kept ≡ Some row → IsRow placed atoms section key row
     by None address k a is = absurd cc
     by (Some kept) None k a is = absurd cc
-    by (Some kept) (Some address) k a is = record { kept = kept; address = address; known = k; stood = a; is = some_is (row_at scene files goals section kept address) row is }
+    by (Some kept) (Some address) k a is = record { kept = kept; address = address; known = k; stood = a; is = some_is (row_at section kept address) row is }
 
 find_mapped : (kept : List KeptAtom) (key : AtomKey) (one : KeptAtom) → kept_at kept key ≡ Some one → finds (map atom_of kept) key ≡ Some one.atom
 find_mapped [] key one e = absurd cc
@@ -120,11 +115,11 @@ atom_within m layout section key kept address rising laid among listed known sto
     record { low = omega (arith, here.1); high = omega (arith, here.2) }
 
 -- what a row says of its atom
-row_says : (scene : Scene) (files : List LoadedFile) (goals : List (List Goal)) (section : PlacedSection) (kept : KeptAtom) (address : ℕ) (row : Row) → row_at scene files goals section kept address ≡ row → (address ≡ row.address) × (kept.atom ≡ row.atom)
-row_says scene files goals section kept address row e = (ap (λ (r : Row). r.address) e, ap (λ (r : Row). r.atom) e)
+row_says : (section : PlacedSection) (kept : KeptAtom) (address : ℕ) (row : PlacedWork) → row_at section kept address ≡ row → (address ≡ row.address) × (kept.atom ≡ row.atom)
+row_says section kept address row e = (ap (λ (r : PlacedWork). r.address) e, ap (λ (r : PlacedWork). r.atom) e)
 
 -- a row is of an atom that stands in a section with bytes, at the same distance from its start in memory and in the file
-pub record IsRowIn (m : Making) (layout : Layout) (row : Row) : Type 0 where
+pub record IsRowIn (m : Making) (layout : Layout) (row : PlacedWork) : Type 0 where
   pub section : PlacedSection
   pub among : In section layout.sections
   pub solid : is_zerofill section.section.kind ≡ false
@@ -132,19 +127,18 @@ pub record IsRowIn (m : Making) (layout : Layout) (row : Row) : Type 0 where
   pub key : AtomKey
   pub known : kept_at (kept_of m) key ≡ Some kept
   pub stood : address_in layout.placed row.atom.key ≡ Some row.address
-  pub is : row_at (scene_of m layout) m.files m.goals section kept row.address ≡ row
+  pub is : row_at section kept row.address ≡ row
   pub within : IsWithin section key row.atom.size row.address
 
-pub row_in : (m : Making) (layout : Layout) (row : Row) → AreRising m → IsLaid m layout → In row (rows_of m layout) → IsRowIn m layout row
+pub row_in : (m : Making) (layout : Layout) (row : PlacedWork) → AreRising m → IsLaid m layout → In row (rows_of m layout) → IsRowIn m layout row
 unfolding rows section_rows
 row_in m layout row rising laid h =
-    let scene = scene_of m layout in
-    let of_section = from_flat (section_rows scene m.files m.goals (kept_of m)) (filter has_bytes layout.sections) row h in
+    let of_section = from_flat (section_rows layout.placed (kept_of m)) (filter has_bytes layout.sections) row h in
     let section : PlacedSection = of_section.0 in
     let passed = from_filter has_bytes layout.sections section of_section.1 in
-    let of_key = from_filter_map (row_of scene m.files m.goals (kept_of m) section) section.section.atoms row of_section.2 in
-    let one = is_row scene m.files m.goals (kept_of m) section of_key.0 row of_key.2 in
-    let says = row_says scene m.files m.goals section one.kept one.address row one.is in
+    let of_key = from_filter_map (row_of layout.placed (kept_of m) section) section.section.atoms row of_section.2 in
+    let one = is_row layout.placed (kept_of m) section of_key.0 row of_key.2 in
+    let says = row_says section one.kept one.address row one.is in
     let address : one.address ≡ row.address = says.0 in
     let atom : one.kept.atom ≡ row.atom = says.1 in
     let named : one.kept.atom.key ≡ of_key.0 = (Rattle.sect_place.proofs.Positions.found_atom (map atom_of (kept_of m)) of_key.0 one.kept.atom (find_mapped (kept_of m) of_key.0 one.kept one.known)).0 in
@@ -158,6 +152,6 @@ row_in m layout row rising laid h =
       key = of_key.0;
       known = one.known;
       stood = subst (λ (k : AtomKey). address_in layout.placed k ≡ Some row.address) own (one.stood ∙ ap Some address);
-      is = subst (λ (n : ℕ). row_at scene m.files m.goals section one.kept n ≡ row) address one.is;
+      is = subst (λ (n : ℕ). row_at section one.kept n ≡ row) address one.is;
       within = subst (λ (a : Atom). IsWithin section of_key.0 a.size row.address) atom (subst (λ (n : ℕ). IsWithin section of_key.0 one.kept.atom.size n) address within);
     }

@@ -10,7 +10,7 @@ use Rattle.sect_place.specs.Layout as layouts
 use Rattle.sect_place.specs.declared.layout.Layout.{Layout}
 use Rattle.sect_place.specs.declared.layout.PlacedSection.{PlacedSection}
 use Rattle.atom_work.specs.Addresses.{address_in}
-use Rattle.atom_work.specs.Rows.{Row}
+use Rattle.patch.specs.declared.range.PlacedWork.{PlacedWork}
 use Rattle.atom_work.specs.declared.kept.KeptAtom.{KeptAtom}
 use Rattle.image_make.specs.Made.{IsMade, Making, entry_offset, rows_of}
 use Rattle.image_read.specs.Mapped.{mapped}
@@ -58,9 +58,9 @@ has_goals image layout key address stood name offset =
     let here = ap (option_map (λ (start : ℕ). start + offset)) (address_found layout.placed key ∙ stood) in
     (here, here)
 
-pub rows_have_goals : (m : Making) (layout : Layout) (image : List ℕ) → AreRising m → IsImage m layout image → All (λ (row : Row). HasGoals image layout row.atom.key row.address) (rows_of m layout)
+pub rows_have_goals : (m : Making) (layout : Layout) (image : List ℕ) → AreRising m → IsImage m layout image → All (λ (row : PlacedWork). HasGoals image layout row.atom.key row.address) (rows_of m layout)
 rows_have_goals m layout image rising is =
-    all_places (λ (row : Row). HasGoals image layout row.atom.key row.address) (rows_of m layout) (λ row h. has_goals image layout row.atom.key row.address (row_in m layout row rising is.laid h).stood)
+    all_places (λ (row : PlacedWork). HasGoals image layout row.atom.key row.address) (rows_of m layout) (λ row h. has_goals image layout row.atom.key row.address (row_in m layout row rising is.laid h).stood)
 
 pub zerofill_has_goals : (m : Making) (layout : Layout) (image : List ℕ) (kept : KeptAtom) (address : ℕ) → IsZerofill m layout kept address → HasGoals image layout kept.atom.key address
 zerofill_has_goals m layout image kept address zero = has_goals image layout kept.atom.key address zero.stands

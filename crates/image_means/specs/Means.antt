@@ -1,10 +1,8 @@
 -- What an image that was made holds in memory (`loader.h`: segment_command_64).
-use Rattle.std.specs.Prelude.{ℕ, ◌+◌, ◌≡◌, ◌<◌, true, List, [], map, length, slice_get, All, Contains, Some, if◌then◌else◌}
+use Rattle.std.specs.Prelude.{ℕ, ◌+◌, ◌≡◌, ◌<◌, true, List, map, length, slice_get, All, Contains, Some, if◌then◌else◌}
 use Rattle.std.specs.FinMap.{from_entries}
 use Rattle.std.specs.List.Sorted.{IsStrictlySortedBy}
-use Rattle.std.specs.Option.{option_map_or}
 use Rattle.std.specs.Ordering.{on}
-use Rattle.mo_types.specs.AtomBytes.{atom_bytes}
 use Rattle.mo_types.specs.Keys.{compare_keys}
 use Rattle.mo_types.specs.Whole.{is_zerofill}
 use Rattle.mo_types.specs.declared.goal.Goal.{Goal}
@@ -12,20 +10,22 @@ use Rattle.mo_types.specs.declared.goal.Goal.TheVariants.{Def, WeakSelf}
 use Rattle.mo_types.specs.declared.key.AtomKey.{AtomKey}
 use Rattle.mo_types.specs.declared.loaded.LoadedFile.{LoadedFile}
 use Rattle.patch.specs.Patched.{ArePatched, IsOutside}
+use Rattle.patch.specs.Range.{bytes_of}
+use Rattle.patch.specs.declared.met.Met.{Met}
 use Rattle.sect_place.specs.declared.layout.Layout.{Layout}
 use Rattle.sect_place.specs.declared.layout.Placed.{Placed}
 use Rattle.sect_place.specs.declared.layout.PlacedSection.{PlacedSection}
 use Rattle.atom_work.specs.Addresses.{address_in}
-use Rattle.atom_work.specs.Rows.{Row}
+use Rattle.patch.specs.declared.range.PlacedWork.{PlacedWork}
 use Rattle.atom_work.specs.declared.kept.KeptAtom.{KeptAtom}
-use Rattle.image_make.specs.Made.{IsFilledImage, IsLaid, Making, blank, kept_of, mets_of, rows_of, work_of}
+use Rattle.image_make.specs.Made.{IsFilledImage, IsLaid, Making, blank, kept_of, mets_of, rows_of}
 use Rattle.image_read.specs.Held.{AtomMap, goal_address}
 use Rattle.image_read.specs.Mapped.{mapped}
 
 -- an image of what is made, with this layout
 pub record IsImage (m : Making) (layout : Layout) (image : List ℕ) : Type 0 where
   pub laid : IsLaid m layout
-  pub filled : IsFilledImage m.files (mets_of m layout) (work_of m layout) (blank m layout) image
+  pub filled : IsFilledImage m.files (mets_of m layout) (rows_of m layout) (blank m layout) image
 
 -- the atoms that are kept rise by their keys
 abbrev pub AreRising : Making → Type 0
@@ -41,20 +41,16 @@ IsSectionInMemory image section =
 abbrev pub AreInMemory : List ℕ → ℕ → List ℕ → Type 0
 AreInMemory image address bytes = (k : ℕ) → k < length bytes → mapped image (address + k) ≡ slice_get bytes k
 
--- the bytes of a row's atom, as its object has them
-abbrev pub row_bytes : List LoadedFile → Row → List ℕ
-row_bytes files row = option_map_or (λ file. atom_bytes file.object row.atom) (slice_get files row.file) []
-
 -- the bytes of an atom stand at its address, each field with its value and every other byte as its object has it
-pub record IsInMemory (image : List ℕ) (files : List LoadedFile) (row : Row) : Type 0 where
+pub record IsInMemory (image : List ℕ) (files : List LoadedFile) (mets : PlacedWork → List Met) (row : PlacedWork) : Type 0 where
   pub bytes : List ℕ
-  pub patched : ArePatched row.address row.mets (row_bytes files row) bytes
+  pub patched : ArePatched row.address (mets row) (bytes_of files row) bytes
   pub there : AreInMemory image row.address bytes
 
 -- each byte of an atom that is part of no field is the one of its object
-abbrev pub KeepsOtherBytes : List ℕ → List LoadedFile → Row → Type 0
-KeepsOtherBytes image files row =
-    (k : ℕ) → k < length (row_bytes files row) → All (IsOutside k) row.mets → mapped image (row.address + k) ≡ slice_get (row_bytes files row) k
+abbrev pub KeepsOtherBytes : List ℕ → List LoadedFile → (PlacedWork → List Met) → PlacedWork → Type 0
+KeepsOtherBytes image files mets row =
+    (k : ℕ) → k < length (bytes_of files row) → All (IsOutside k) (mets row) → mapped image (row.address + k) ≡ slice_get (bytes_of files row) k
 
 -- so many zeros stand at an address
 abbrev pub AreZeros : List ℕ → ℕ → ℕ → Type 0
@@ -71,7 +67,7 @@ pub record IsZerofill (m : Making) (layout : Layout) (kept : KeptAtom) (address 
 
 -- a kept atom that stands at an address, in a section that has bytes in the file
 pub record IsWritten (m : Making) (layout : Layout) (kept : KeptAtom) (address : ℕ) : Type 0 where
-  pub row : Row
+  pub row : PlacedWork
   pub of_rows : Contains (rows_of m layout) row
   pub atom : row.atom ≡ kept.atom
   pub file : row.file ≡ kept.file

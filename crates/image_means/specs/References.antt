@@ -10,7 +10,8 @@ use Rattle.mo_types.specs.declared.reference.Target.{Target}
 use Rattle.sect_place.specs.declared.layout.Layout.{Layout}
 use Rattle.atom_work.specs.Addresses.{target_goal}
 use Rattle.atom_work.specs.Mets.{is_ref_of}
-use Rattle.atom_work.specs.Rows.{Row, goals_at}
+use Rattle.atom_work.specs.Rows.{goals_at}
+use Rattle.patch.specs.declared.range.PlacedWork.{PlacedWork}
 use Rattle.image_make.specs.Made.{Making}
 use Rattle.image_read.specs.Denotes.{Denotes, Places}
 use Rattle.image_read.specs.Held.{AtomMap, goal_address}
@@ -18,18 +19,18 @@ use Rattle.image_read.specs.Reaches.{is_looked_up, is_zero}
 use Rattle.image_means.specs.Means.{addresses_of}
 
 -- a reference of a row's atom, as its file lists it
-pub record IsReferenceOf (m : Making) (row : Row) (reference : Ref) : Type 0 where
+pub record IsReferenceOf (m : Making) (row : PlacedWork) (reference : Ref) : Type 0 where
   pub file : LoadedFile
   pub of_file : slice_get m.files row.file ≡ Some file
   pub among : Contains file.refs reference
   pub of_atom : is_ref_of row.atom.key.section row.atom.key.offset reference ≡ true
 
 -- where a target of a row's reference leads
-abbrev pub goal_of : Making → Row → Target → Goal
+abbrev pub goal_of : Making → PlacedWork → Target → Goal
 goal_of m row target = target_goal m.literals (goals_at m.goals row.file) target
 
 -- where that leads which a row's reference subtracts
-abbrev pub minus_of : Making → Row → Ref → Option Goal
+abbrev pub minus_of : Making → PlacedWork → Ref → Option Goal
 minus_of m row reference = option_map (goal_of m row) reference.minus
 
 -- the places of a layout's atoms, with offsets in the template of thread-local variables
@@ -56,11 +57,11 @@ IsDirectBy Diff64 image addresses goal addend minus = Stands image addresses goa
 IsDirectBy _ image addresses goal addend minus = ⊥
 
 -- a row's reference is of this sort
-abbrev pub IsDirect : Making → Layout → List ℕ → Row → Ref → Type 0
+abbrev pub IsDirect : Making → Layout → List ℕ → PlacedWork → Ref → Type 0
 IsDirect m layout image row reference =
     IsDirectBy reference.kind image (addresses_of layout.placed) (goal_of m row reference.target) reference.addend (minus_of m row reference)
 
 -- the field of a row's reference tells its goal
-abbrev pub TellsGoal : Making → Layout → List ℕ → AtomMap → ℕ → Row → Ref → Type 0
+abbrev pub TellsGoal : Making → Layout → List ℕ → AtomMap → ℕ → PlacedWork → Ref → Type 0
 TellsGoal m layout image offsets section row reference =
     Denotes image (places_of layout offsets) (row.address + reference.place) section reference (goal_of m row reference.target) (minus_of m row reference)

@@ -5,9 +5,9 @@ ghost use Rattle.mo_types.specs.declared.reference.Ref.{Ref};
 ghost use Rattle.sect_place.specs.Layout.{base_of};
 ghost use Rattle.sect_place.specs.OutSections.{Home, home_of};
 ghost use Rattle.sect_place.specs.declared.layout.Layout.{Layout};
-ghost use Rattle.atom_work.specs.Rows.{Row};
+ghost use Rattle.patch.specs.declared.range.PlacedWork.{PlacedWork};
 ghost use Rattle.atom_work.specs.declared.kept.KeptAtom.{KeptAtom};
-ghost use Rattle.image_make.specs.Made.{IsLaid, IsMade, Making, kept_of, rows_of};
+ghost use Rattle.image_make.specs.Made.{IsLaid, IsMade, Making, kept_of, mets_of, rows_of};
 ghost use Rattle.image_read.specs.Held.{AtomMap};
 ghost use Rattle.image_means.specs.Entry.{BeginsAt};
 ghost use Rattle.image_means.specs.Means.{AreRising, AreZeros, HasGoals, IsGoalAt, IsImage, IsInMemory, IsSectionInMemory, IsWritten, IsZerofill, KeepsOtherBytes};
@@ -27,8 +27,8 @@ pub fn sections_are_in_memory()
 /// Once an image is loaded, each kept atom stands at its address: each field of its references holds its value, and every
 /// other byte is the one of its object, or 0 where the atom's section has no bytes.
 pub fn atoms_are_in_memory()
-    ensures written { (m : Making) (layout : Layout) (image : List ℕ) → AreRising m → IsImage m layout image → All (IsInMemory image m.files) (rows_of m layout) }
-    ensures others { (m : Making) (layout : Layout) (image : List ℕ) → AreRising m → IsImage m layout image → All (KeepsOtherBytes image m.files) (rows_of m layout) }
+    ensures written { (m : Making) (layout : Layout) (image : List ℕ) → AreRising m → IsImage m layout image → All (IsInMemory image m.files (mets_of m layout)) (rows_of m layout) }
+    ensures others { (m : Making) (layout : Layout) (image : List ℕ) → AreRising m → IsImage m layout image → All (KeepsOtherBytes image m.files (mets_of m layout)) (rows_of m layout) }
     ensures zeros { (m : Making) (layout : Layout) (image : List ℕ) (kept : KeptAtom) (address : ℕ) → AreRising m → IsImage m layout image → IsZerofill m layout kept address → AreZeros image address kept.atom.size }
 {}
 
@@ -40,7 +40,7 @@ pub fn no_kept_atom_is_left_out()
 
 /// The places in each kept atom are goals of the image, counted from the atom's address, and the header is one.
 pub fn kept_atoms_have_goals()
-    ensures written { (m : Making) (layout : Layout) (image : List ℕ) → AreRising m → IsImage m layout image → All (λ (row : Row). HasGoals image layout row.atom.key row.address) (rows_of m layout) }
+    ensures written { (m : Making) (layout : Layout) (image : List ℕ) → AreRising m → IsImage m layout image → All (λ (row : PlacedWork). HasGoals image layout row.atom.key row.address) (rows_of m layout) }
     ensures zerofill { (m : Making) (layout : Layout) (image : List ℕ) (kept : KeptAtom) (address : ℕ) → IsZerofill m layout kept address → HasGoals image layout kept.atom.key address }
     ensures header { (m : Making) (layout : Layout) (image : List ℕ) → AreRising m → IsImage m layout image → IsGoalAt image layout Header (base_of m.command) }
 {}
@@ -53,5 +53,5 @@ pub fn programs_begin_at_their_entry()
 /// The field of each reference that needs no slot, no stub and no fixup tells its goal: a branch reaches it, an instruction
 /// tells its page or its offset in the page, and a difference is the distance between two of them.
 pub fn references_tell_their_goals()
-    ensures { (m : Making) (layout : Layout) (image : List ℕ) (offsets : AtomMap) (section : ℕ) (row : Row) (reference : Ref) → AreRising m → IsImage m layout image → Contains (rows_of m layout) row → IsReferenceOf m row reference → IsDirect m layout image row reference → TellsGoal m layout image offsets section row reference }
+    ensures { (m : Making) (layout : Layout) (image : List ℕ) (offsets : AtomMap) (section : ℕ) (row : PlacedWork) (reference : Ref) → AreRising m → IsImage m layout image → Contains (rows_of m layout) row → IsReferenceOf m row reference → IsDirect m layout image row reference → TellsGoal m layout image offsets section row reference }
 {}

@@ -1,5 +1,5 @@
 -- No two atoms that are written into an image have one key.
-use Rattle.std.proofs.Common.{◌≡◌, ◌≢◌, ℕ, ◌+◌, ◌⊎◌, Bool, true, false, List, [], ◌∷◌, ◌++◌, length, map, Option, Some, None, inl, inr, refl, sym, ap, ap₂, subst, ◌∙◌, arith}
+use Rattle.std.proofs.Common.{◌≡◌, ◌≢◌, ℕ, ◌+◌, ◌⊎◌, Bool, true, false, List, [], ◌∷◌, ◌++◌, map, Option, Some, None, inl, inr, refl, sym, ap, ap₂, subst, ◌∙◌, arith}
 use Rattle.std.specs.List.{AllPairs, filter, filter_map, flat_map}
 use Rattle.std.specs.List.Sorted.{IsStrictlySortedBy}
 use Rattle.std.specs.Ordering.{is_eq, on}
@@ -8,22 +8,21 @@ use Rattle.std.specs.declared.cmp.Ordering.TheVariants.{Equal, Greater, Less}
 use Rattle.std.proofs.lemmas.List.Kept.{AllPairs-cons}
 use Rattle.std.proofs.lemmas.List.Elements.{All-from_recursion}
 use Rattle.list_lemmas.proofs.Members.{In, all_from_in, find_some, in_map}
-use Rattle.atom_work.specs.Addresses.{Scene, address_in}
+use Rattle.atom_work.specs.Addresses.{address_in}
 use Rattle.atom_work.specs.Atoms.{atom_of, kept_at}
-use Rattle.atom_work.specs.Rows.{Row, has_bytes, items_from, row_at, row_of, rows, section_rows}
+use Rattle.atom_work.specs.Rows.{has_bytes, row_at, row_of, rows, section_rows}
 use Rattle.atom_work.specs.declared.kept.KeptAtom.{KeptAtom}
-use Rattle.image_make.specs.Made.{IsLaid, Making, kept_of, plan_for, plan_with, rows_of, work_of}
+use Rattle.image_make.specs.Made.{IsLaid, Making, kept_of, plan_for, plan_with, rows_of}
 use Rattle.mo_types.specs.Keys.{compare_keys}
 use Rattle.mo_types.specs.declared.atom.Atom.{Atom}
-use Rattle.mo_types.specs.declared.goal.Goal.{Goal}
 use Rattle.mo_types.specs.declared.key.AtomKey.{AtomKey}
-use Rattle.mo_types.specs.declared.loaded.LoadedFile.{LoadedFile}
 use Rattle.mo_types.specs.declared.out_section.OutSection.{OutSection}
 use Rattle.patch.specs.declared.range.PlacedWork.{PlacedWork}
 use Rattle.sect_place.specs.Layout.{IsLayoutOf, image_sections, plan_of}
 use Rattle.sect_place.specs.OutSections.{out_sections}
 use Rattle.sect_place.specs.Places.{file_bytes, group_end, groups_sections, page_up, part_end, parts_sections, placed_section}
 use Rattle.sect_place.specs.declared.layout.Layout.{Layout}
+use Rattle.sect_place.specs.declared.layout.Placed.{Placed}
 use Rattle.sect_place.specs.declared.layout.PlacedSection.{PlacedSection}
 use Rattle.sect_place.specs.declared.part.Group.{Group}
 use Rattle.sect_place.specs.declared.part.Part.{Part}
@@ -94,12 +93,12 @@ part_join {X = X} xs (y ∷ ys) zs ws (inr p) second = inr (p.0 ++ zs, ap (λ (v
 
 -- ---- the keys of rows
 
-abbrev row_key : Row → AtomKey
+abbrev row_key : PlacedWork → AtomKey
 row_key row = row.atom.key
 
-row_has : (scene : Scene) (files : List LoadedFile) (goals : List (List Goal)) (atoms : List KeptAtom) (section : PlacedSection) (key : AtomKey) (row : Row) → row_of scene files goals atoms section key ≡ Some row → row_key row ≡ key
+row_has : (placed : List Placed) (atoms : List KeptAtom) (section : PlacedSection) (key : AtomKey) (row : PlacedWork) → row_of placed atoms section key ≡ Some row → row_key row ≡ key
 unfolding row_of
-row_has scene files goals atoms section key row e = by (kept_at atoms key) refl
+row_has placed atoms section key row e = by (kept_at atoms key) refl
   where
     same : (one : KeptAtom) → is_eq (compare_keys one.atom.key key) ≡ true → one.atom.key ≡ key
     same one h = same_key one.atom.key key (equal (compare_keys one.atom.key key) h)
@@ -111,26 +110,26 @@ row_has scene files goals atoms section key row e = by (kept_at atoms key) refl
 
     by : (o : Option KeptAtom) → kept_at atoms key ≡ o → row_key row ≡ key
     by None f = absurd (let g : None ≡ Some row = rw f at e in cc)
-    by (Some one) f = found (address_in scene.placed key) refl
+    by (Some one) f = found (address_in placed key) refl
       where
-        found : (a : Option ℕ) → address_in scene.placed key ≡ a → row_key row ≡ key
+        found : (a : Option ℕ) → address_in placed key ≡ a → row_key row ≡ key
         found None g = absurd (let k : None ≡ Some row = rw (f, g) at e in cc)
         found (Some address) g =
-            let k : Some (row_at scene files goals section one address) ≡ Some row = rw (f, g) at e in
-            let is : row_at scene files goals section one address ≡ row = cc in
+            let k : Some (row_at section one address) ≡ Some row = rw (f, g) at e in
+            let is : row_at section one address ≡ row = cc in
             ap row_key (sym is) ∙ same one (find_some (λ (k : KeptAtom). is_eq (compare_keys k.atom.key key)) atoms one f).1
 
-section_part : (scene : Scene) (files : List LoadedFile) (goals : List (List Goal)) (atoms : List KeptAtom) (section : PlacedSection) (keys : List AtomKey) → IsPart (map row_key (filter_map (row_of scene files goals atoms section) keys)) keys
+section_part : (placed : List Placed) (atoms : List KeptAtom) (section : PlacedSection) (keys : List AtomKey) → IsPart (map row_key (filter_map (row_of placed atoms section) keys)) keys
 unfolding IsPart
-section_part scene files goals atoms section [] = refl
-section_part scene files goals atoms section (key ∷ keys) = by (section_part scene files goals atoms section keys) (row_of scene files goals atoms section key) refl
+section_part placed atoms section [] = refl
+section_part placed atoms section (key ∷ keys) = by (section_part placed atoms section keys) (row_of placed atoms section key) refl
   where
-    by : IsPart (map row_key (filter_map (row_of scene files goals atoms section) keys)) keys → (o : Option Row) → row_of scene files goals atoms section key ≡ o → IsPart (map row_key (filter_map (row_of scene files goals atoms section) (key ∷ keys))) (key ∷ keys)
+    by : IsPart (map row_key (filter_map (row_of placed atoms section) keys)) keys → (o : Option PlacedWork) → row_of placed atoms section key ≡ o → IsPart (map row_key (filter_map (row_of placed atoms section) (key ∷ keys))) (key ∷ keys)
     by rest None e = rw e (inl rest)
     by rest (Some row) e =
         rw e (inr (
-          map row_key (filter_map (row_of scene files goals atoms section) keys),
-          ap (λ (k : AtomKey). k ∷ map row_key (filter_map (row_of scene files goals atoms section) keys)) (row_has scene files goals atoms section key row e),
+          map row_key (filter_map (row_of placed atoms section) keys),
+          ap (λ (k : AtomKey). k ∷ map row_key (filter_map (row_of placed atoms section) keys)) (row_has placed atoms section key row e),
           rest,
         ))
 
@@ -138,38 +137,30 @@ map_join : {X Y : Type 0} (f : X → Y) (xs ys : List X) → map f (xs ++ ys) �
 map_join f [] ys = refl
 map_join {Y = Y} f (x ∷ xs) ys = ap (λ (zs : List Y). f x ∷ zs) (map_join f xs ys)
 
-sections_part : (scene : Scene) (files : List LoadedFile) (goals : List (List Goal)) (atoms : List KeptAtom) (sections : List PlacedSection) → IsPart (map row_key (flat_map (section_rows scene files goals atoms) (filter has_bytes sections))) (section_keys sections)
+sections_part : (placed : List Placed) (atoms : List KeptAtom) (sections : List PlacedSection) → IsPart (map row_key (flat_map (section_rows placed atoms) (filter has_bytes sections))) (section_keys sections)
 unfolding IsPart section_rows
-sections_part scene files goals atoms [] = refl
-sections_part scene files goals atoms (section ∷ sections) = by (sections_part scene files goals atoms sections) (has_bytes section) refl
+sections_part placed atoms [] = refl
+sections_part placed atoms (section ∷ sections) = by (sections_part placed atoms sections) (has_bytes section) refl
   where
-    by : IsPart (map row_key (flat_map (section_rows scene files goals atoms) (filter has_bytes sections))) (section_keys sections) → (b : Bool) → has_bytes section ≡ b → IsPart (map row_key (flat_map (section_rows scene files goals atoms) (filter has_bytes (section ∷ sections)))) (section_keys (section ∷ sections))
+    by : IsPart (map row_key (flat_map (section_rows placed atoms) (filter has_bytes sections))) (section_keys sections) → (b : Bool) → has_bytes section ≡ b → IsPart (map row_key (flat_map (section_rows placed atoms) (filter has_bytes (section ∷ sections)))) (section_keys (section ∷ sections))
     by rest true e =
         rw e (subst (λ (keys : List AtomKey). IsPart keys (section_keys (section ∷ sections)))
-        (sym (map_join row_key (section_rows scene files goals atoms section) (flat_map (section_rows scene files goals atoms) (filter has_bytes sections))))
-        (part_join (map row_key (section_rows scene files goals atoms section)) section.section.atoms (map row_key (flat_map (section_rows scene files goals atoms) (filter has_bytes sections))) (section_keys sections)
-        (section_part scene files goals atoms section section.section.atoms) rest))
-    by rest false e = rw e (part_join [] section.section.atoms (map row_key (flat_map (section_rows scene files goals atoms) (filter has_bytes sections))) (section_keys sections) (part_none section.section.atoms) rest)
+        (sym (map_join row_key (section_rows placed atoms section) (flat_map (section_rows placed atoms) (filter has_bytes sections))))
+        (part_join (map row_key (section_rows placed atoms section)) section.section.atoms (map row_key (flat_map (section_rows placed atoms) (filter has_bytes sections))) (section_keys sections)
+        (section_part placed atoms section section.section.atoms) rest))
+    by rest false e = rw e (part_join [] section.section.atoms (map row_key (flat_map (section_rows placed atoms) (filter has_bytes sections))) (section_keys sections) (part_none section.section.atoms) rest)
 
 -- ---- the keys of what is written
 
-abbrev item_key : PlacedWork → AtomKey
-item_key item = item.atom.key
+row_pairs : (rows : List PlacedWork) → Apart (map row_key rows) → AllPairs (λ a b. row_key a ≢ row_key b) rows
+row_pairs [] apart = λ i j d low high. absurd (omega arith)
+row_pairs (row ∷ rows) apart =
+    AllPairs-cons (λ (a : PlacedWork) (b : PlacedWork). row_key a ≢ row_key b) row rows
+    (All-from_recursion (λ (b : PlacedWork). row_key row ≢ row_key b) rows (all_from_in (λ (b : PlacedWork). row_key row ≢ row_key b) rows (λ b h e. apart.0 (subst (λ (k : AtomKey). In k (map row_key rows)) (sym e) (in_map row_key rows b h)))))
+    (row_pairs rows apart.1)
 
-items_keys : (first : ℕ) (all : List Row) → map item_key (items_from first all) ≡ map row_key all
-items_keys first [] = refl
-items_keys first (row ∷ all) = ap (λ (keys : List AtomKey). row_key row ∷ keys) (items_keys (first + length row.mets) all)
-
-item_pairs : (items : List PlacedWork) → Apart (map item_key items) → AllPairs (λ a b. item_key a ≢ item_key b) items
-item_pairs [] apart = λ i j d low high. absurd (omega arith)
-item_pairs (item ∷ items) apart =
-    AllPairs-cons (λ (a : PlacedWork) (b : PlacedWork). item_key a ≢ item_key b) item items
-    (All-from_recursion (λ (b : PlacedWork). item_key item ≢ item_key b) items (all_from_in (λ (b : PlacedWork). item_key item ≢ item_key b) items (λ b h e. apart.0 (subst (λ (k : AtomKey). In k (map item_key items)) (sym e) (in_map item_key items b h)))))
-    (item_pairs items apart.1)
-
-pub work_apart : (m : Making) (layout : Layout) → IsStrictlySortedBy (on (λ (atom : Atom). atom.key) compare_keys) (map atom_of (kept_of m)) → IsLaid m layout → AllPairs (λ a b. a.atom.key ≢ b.atom.key) (work_of m layout)
+pub work_apart : (m : Making) (layout : Layout) → IsStrictlySortedBy (on (λ (atom : Atom). atom.key) compare_keys) (map atom_of (kept_of m)) → IsLaid m layout → AllPairs (λ a b. a.atom.key ≢ b.atom.key) (rows_of m layout)
 unfolding rows
 work_apart m layout rising laid =
-    item_pairs (work_of m layout)
-    (subst (λ (keys : List AtomKey). Apart keys) (sym (items_keys 0 (rows_of m layout)))
-    (part_apart (map row_key (rows_of m layout)) (section_keys layout.sections) (sections_part _ m.files m.goals (kept_of m) layout.sections) (layout_apart m layout rising laid.layout_of)))
+    row_pairs (rows_of m layout)
+    (part_apart (map row_key (rows_of m layout)) (section_keys layout.sections) (sections_part layout.placed (kept_of m) layout.sections) (layout_apart m layout rising laid.layout_of))

@@ -4,13 +4,11 @@ use Rattle.std.specs.Prelude.{All}
 use Rattle.std.specs.List.{AllPairs, flat_map}
 use Rattle.std.specs.List.Sorted.{IsStrictlySortedBy}
 use Rattle.std.specs.Ordering.{on}
-use Rattle.std.specs.declared.cmp.Ordering.TheVariants.{Less}
 use Rattle.std.proofs.lemmas.Bool.{ltb-true}
-use Rattle.list_lemmas.proofs.Members.{all_map}
 use Rattle.atom_work.specs.Atoms.{atom_of, kept_atoms}
-use Rattle.atom_work.specs.declared.kept.KeptAtom.{KeptAtom}
 use Rattle.image_join.proofs.OneLemmas.{not_filled, one_fault, one_image}
-use Rattle.image_make.specs.Made.{IsFilledImage, IsLaid, IsMade, Making, blank, kept_of, mets_of, plan_for, plan_with, sizes_of, work_of}
+use Rattle.atom_work.proofs.KeptListLemmas.{rising_atoms}
+use Rattle.image_make.specs.Made.{IsFilledImage, IsLaid, IsMade, Making, blank, kept_of, mets_of, plan_for, plan_with, rows_of, sizes_of}
 use Rattle.image_make.specs.declared.fault.MakeFault.{MakeFault}
 use Rattle.image_make.specs.declared.fault.MakeFault.TheVariants as make
 use Rattle.lib_bind.specs.declared.library.LibraryGraph.{LibraryGraph}
@@ -125,11 +123,6 @@ flags_one command libs files known other a b p q same =
 
 -- ---- the image
 
-rising_alone : (kept : List KeptAtom) → IsStrictlySortedBy (on (λ (one : KeptAtom). one.atom.key) compare_keys) kept → IsStrictlySortedBy (on (λ (atom : Atom). atom.key) compare_keys) (map atom_of kept)
-unfolding IsStrictlySortedBy
-rising_alone [] rising = tt
-rising_alone (one ∷ kept) rising = (all_map atom_of (λ (atom : Atom). compare_keys one.atom.key atom.key ≡ Less) kept rising.0, rising_alone kept rising.1)
-
 layout_one : (m : Making) (a b : Layout) → IsStrictlySortedBy (on (λ (atom : Atom). atom.key) compare_keys) (map atom_of (kept_of m)) → IsLaid m a → IsLaid m b → a ≡ b
 unfolding plan_with
 layout_one m a b rising p q =
@@ -139,20 +132,20 @@ layout_one m a b rising p q =
 image_one : (m : Making) (a b : List ℕ) → IsStrictlySortedBy (on (λ (atom : Atom). atom.key) compare_keys) (map atom_of (kept_of m)) → IsMade m (Ok a) → IsMade m (Ok b) → a ≡ b
 image_one m a b rising (lay, laid, filled) (other, also, again) =
     let same : other ≡ lay = layout_one m other lay rising also laid in
-    let here : IsFilledImage m.files (mets_of m lay) (work_of m lay) (blank m lay) b = subst (λ (l : Layout). IsFilledImage m.files (mets_of m l) (work_of m l) (blank m l) b) same again in
-    one_image m.files (mets_of m lay) 0 (work_of m lay) (blank m lay) a b filled.work filled.bytes here.bytes filled.beside filled.placed here.beside here.placed
+    let here : IsFilledImage m.files (mets_of m lay) (rows_of m lay) (blank m lay) b = subst (λ (l : Layout). IsFilledImage m.files (mets_of m l) (rows_of m l) (blank m l) b) same again in
+    one_image m.files (mets_of m lay) 0 (rows_of m lay) (blank m lay) a b filled.work.stand filled.bytes here.bytes filled.beside filled.placed here.beside here.placed
 
 image_or_fault : (m : Making) (image : List ℕ) (key : AtomKey) (fault : RangeFault) → IsStrictlySortedBy (on (λ (atom : Atom). atom.key) compare_keys) (map atom_of (kept_of m)) → IsMade m (Ok image) → IsMade m (Err (make.Range key fault)) → ⊥
 image_or_fault m image key fault rising (lay, laid, filled) (other, also, work, least) =
     let same : other ≡ lay = layout_one m other lay rising also laid in
-    not_filled m.files (mets_of m lay) 0 (work_of m lay) key fault image (subst (λ (l : Layout). IsLeastFault m.files (mets_of m l) (work_of m l) key fault) same least) filled.placed
+    not_filled m.files (mets_of m lay) 0 (rows_of m lay) key fault image (subst (λ (l : Layout). IsLeastFault m.files (mets_of m l) (rows_of m l) key fault) same least) filled.placed
 
 fault_one : (m : Making) (key other_key : AtomKey) (fault other_fault : RangeFault) → IsStrictlySortedBy (on (λ (atom : Atom). atom.key) compare_keys) (map atom_of (kept_of m))
     → IsMade m (Err (make.Range key fault)) → IsMade m (Err (make.Range other_key other_fault)) → ◌≡◌ {A = AtomKey × RangeFault} (key, fault) (other_key, other_fault)
 fault_one m key other_key fault other_fault rising (lay, laid, work, least) (other, also, again, more) =
     let same : other ≡ lay = layout_one m other lay rising also laid in
-    one_fault m.files (mets_of m lay) 0 (length (blank m lay)) (work_of m lay) (key, fault) (other_key, other_fault) work (work_apart m lay rising laid) least
-    (subst (λ (l : Layout). IsLeastFault m.files (mets_of m l) (work_of m l) other_key other_fault) same more)
+    one_fault m.files (mets_of m lay) (rows_of m lay) (key, fault) (other_key, other_fault) work.fields (work_apart m lay rising laid) least
+    (subst (λ (l : Layout). IsLeastFault m.files (mets_of m l) (rows_of m l) other_key other_fault) same more)
 
 made_one : (m : Making) (a b : Result (List ℕ) MakeFault) → IsStrictlySortedBy (on (λ (atom : Atom). atom.key) compare_keys) (map atom_of (kept_of m)) → IsAnswer a → IsAnswer b → IsMade m a → IsMade m b → a ≡ b
 made_one m (Ok a) (Ok b) rising p q x y = ap Ok (image_one m a b rising x y)
@@ -199,7 +192,7 @@ numbers_one command files names is = by (gathered files (wanted command)) refl
 rising_of : (command : Command) (libs : LibraryGraph) (files : List LoadedFile) (flags : ℕ) (keys : List AtomKey) → AllPairs (λ a b. IsBefore a.id b.id) files → All IsCut files → IsStrictlySortedBy (on (λ (atom : Atom). atom.key) compare_keys) (map atom_of (kept_of (making command libs files flags keys)))
 unfolding making
 rising_of command libs files flags keys pairs cut =
-    rising_alone (kept_atoms (representatives_of files) keys files) (kept_rise (representatives_of files) keys files pairs cut)
+    rising_atoms (kept_atoms (representatives_of files) keys files) (kept_rise (representatives_of files) keys files pairs cut)
 
 made_same : (command : Command) (libs : LibraryGraph) (files : List LoadedFile) (flags : ℕ) (keys : List AtomKey) (a b : Result (List ℕ) Refusal) → AllPairs (λ a b. IsBefore a.id b.id) files → All IsCut files → AsMade command libs files flags keys a → AsMade command libs files flags keys b → a ≡ b
 made_same command libs files flags keys a b pairs cut p q =

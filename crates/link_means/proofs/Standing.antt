@@ -45,7 +45,8 @@ use Rattle.sect_place.specs.OutSections.{Home, common_home, home_in, home_of}
 use Rattle.sect_place.specs.declared.layout.Layout.{Layout}
 use Rattle.atom_work.specs.Addresses.{target_goal}
 use Rattle.atom_work.specs.Atoms.{kept_as, kept_atoms, kept_in, raised}
-use Rattle.atom_work.specs.Rows.{Row, goals_at}
+use Rattle.atom_work.specs.Rows.{goals_at}
+use Rattle.patch.specs.declared.range.PlacedWork.{PlacedWork}
 use Rattle.atom_work.specs.declared.kept.KeptAtom.{KeptAtom}
 use Rattle.image_make.specs.Made.{Making, kept_of, rows_of}
 use Rattle.image_means.specs.Means.{AreRising, HasGoals, IsGoalAt, IsImage, IsWritten, IsZerofill, addresses_of}
@@ -174,7 +175,7 @@ stands_at command libs files flags keys layout image key linked is kept =
   where
     with_place : (m : Making) (one : KeptAtom) (address : ℕ) → one.atom.key ≡ key → AreRising m → IsImage m layout image → IsWritten m layout one address ⊎ IsZerofill m layout one address → (address : ℕ) × HasGoals image layout key address
     with_place m one address same rising image_is (inl written) =
-        let goals = from_all (λ (row : Row). HasGoals image layout row.atom.key row.address) (rows_of m layout) written.row (rows_have_goals m layout image rising image_is) (in_from_Contains (rows_of m layout) written.row written.of_rows) in
+        let goals = from_all (λ (row : PlacedWork). HasGoals image layout row.atom.key row.address) (rows_of m layout) written.row (rows_have_goals m layout image rising image_is) (in_from_Contains (rows_of m layout) written.row written.of_rows) in
         (written.row.address, subst (λ (k : AtomKey). HasGoals image layout k written.row.address) (ap (λ (a : Atom). a.key) written.atom ∙ same) goals)
     with_place m one address same rising image_is (inr empty) =
         (address, subst (λ (k : AtomKey). HasGoals image layout k address) same (zerofill_has_goals m layout image one address empty))

@@ -30,7 +30,8 @@ use Rattle.sect_place.specs.declared.layout.Layout.{Layout}
 use Rattle.atom_work.specs.Addresses.{target_goal}
 use Rattle.atom_work.specs.Atoms.{kept_as, kept_atoms, kept_in, raised}
 use Rattle.atom_work.specs.Mets.{is_ref_of}
-use Rattle.atom_work.specs.Rows.{Row, goals_at}
+use Rattle.atom_work.specs.Rows.{goals_at}
+use Rattle.patch.specs.declared.range.PlacedWork.{PlacedWork}
 use Rattle.atom_work.specs.declared.kept.KeptAtom.{KeptAtom}
 use Rattle.image_make.specs.Made.{Making, kept_of, rows_of}
 use Rattle.image_read.specs.Held.{AtomMap}
@@ -73,7 +74,7 @@ are_solid files whole form = record {
 -- ---- the atom of a row
 
 -- a row's atom is one that its file has and that is kept
-record IsKeptIn (files : List LoadedFile) (keys : List AtomKey) (row : Row) : Type 0 where
+record IsKeptIn (files : List LoadedFile) (keys : List AtomKey) (row : PlacedWork) : Type 0 where
   pub file : LoadedFile
   pub there : slice_get files row.file ≡ Some file
   pub atom : Atom
@@ -81,7 +82,7 @@ record IsKeptIn (files : List LoadedFile) (keys : List AtomKey) (row : Row) : Ty
   pub named : atom.key ≡ row.atom.key
   pub keeps : has keys row.atom.key ≡ true
 
-kept_from : (command : Command) (libs : LibraryGraph) (files : List LoadedFile) (flags : ℕ) (keys : List AtomKey) (row : Row) (one : KeptAtom) → In one (kept_of (making command libs files flags keys)) → one.file ≡ row.file → one.atom ≡ row.atom → IsKeptIn files keys row
+kept_from : (command : Command) (libs : LibraryGraph) (files : List LoadedFile) (flags : ℕ) (keys : List AtomKey) (row : PlacedWork) (one : KeptAtom) → In one (kept_of (making command libs files flags keys)) → one.file ≡ row.file → one.atom ≡ row.atom → IsKeptIn files keys row
 unfolding making kept_atoms kept_in raised
 kept_from command libs files flags keys row one h same_file same_atom =
     let literals = representatives_of files in
@@ -101,18 +102,18 @@ kept_from command libs files flags keys row one h same_file same_atom =
       keeps = ap (has keys) (sym named) ∙ chosen.1;
     }
 
-row_kept : (command : Command) (libs : LibraryGraph) (files : List LoadedFile) (flags : ℕ) (keys : List AtomKey) (layout : Layout) (row : Row) → IsRowIn (making command libs files flags keys) layout row → IsKeptIn files keys row
+row_kept : (command : Command) (libs : LibraryGraph) (files : List LoadedFile) (flags : ℕ) (keys : List AtomKey) (layout : Layout) (row : PlacedWork) → IsRowIn (making command libs files flags keys) layout row → IsKeptIn files keys row
 row_kept command libs files flags keys layout row is =
     let m : Making = making command libs files flags keys in
     kept_from command libs files flags keys row is.kept (find_some (λ (k : KeptAtom). is_eq (compare_keys k.atom.key is.key)) (kept_of m) is.kept is.known).0
-    (ap (λ (r : Row). r.file) is.is) (ap (λ (r : Row). r.atom) is.is)
+    (ap (λ (r : PlacedWork). r.file) is.is) (ap (λ (r : PlacedWork). r.atom) is.is)
 
 -- ---- the atom of a reference
 
 same_place : (a b c d : ℕ) → b < 2 ^ 64 → d < 2 ^ 64 → a * 2 ^ 64 + b ≡ c * 2 ^ 64 + d → (a ≡ c) × (b ≡ d)
 same_place a b c d low high e = (omega (arith, low, high, e), omega (arith, low, high, e))
 
-ref_key : (files : List LoadedFile) (keys : List AtomKey) (row : Row) (file : LoadedFile) (r : Ref) → IsKeptIn files keys row → IsWholeFile file → slice_get files row.file ≡ Some file → In r file.refs → is_ref_of row.atom.key.section row.atom.key.offset r ≡ true → r.atom ≡ row.atom.key
+ref_key : (files : List LoadedFile) (keys : List AtomKey) (row : PlacedWork) (file : LoadedFile) (r : Ref) → IsKeptIn files keys row → IsWholeFile file → slice_get files row.file ≡ Some file → In r file.refs → is_ref_of row.atom.key.section row.atom.key.offset r ≡ true → r.atom ≡ row.atom.key
 ref_key files keys row file r kept whole is h own =
     let same : kept.file ≡ file = some_is kept.file file (sym kept.there ∙ is) in
     let atom : Atom = kept.atom in
@@ -158,7 +159,7 @@ direct_by GotPointer image layout goal addend minus form inside from = absurd cc
 direct_by TlvPage image layout goal addend minus form inside from = absurd cc
 direct_by TlvPageOff image layout goal addend minus form inside from = absurd cc
 
-goal_made : (command : Command) (libs : LibraryGraph) (files : List LoadedFile) (flags : ℕ) (keys : List AtomKey) (row : Row) (target : Target) → goal_of (making command libs files flags keys) row target ≡ target_goal (representatives_of files) (goals_at (goal_table files libs command) row.file) target
+goal_made : (command : Command) (libs : LibraryGraph) (files : List LoadedFile) (flags : ℕ) (keys : List AtomKey) (row : PlacedWork) (target : Target) → goal_of (making command libs files flags keys) row target ≡ target_goal (representatives_of files) (goals_at (goal_table files libs command) row.file) target
 unfolding making
 goal_made command libs files flags keys row target = refl
 
@@ -166,7 +167,7 @@ files_made : (command : Command) (libs : LibraryGraph) (files : List LoadedFile)
 unfolding making
 files_made command libs files flags keys = refl
 
-ref_direct : (command : Command) (libs : LibraryGraph) (files : List LoadedFile) (flags : ℕ) (keys : List AtomKey) (layout : Layout) (image : List ℕ) (row : Row) (file : LoadedFile) (r : Ref) → AreLinked command libs files flags keys layout image → IsWholeFile file → is_later file ≡ false → slice_get files row.file ≡ Some file → In r file.refs → has keys r.atom ≡ true → IsDirect (making command libs files flags keys) layout image row r
+ref_direct : (command : Command) (libs : LibraryGraph) (files : List LoadedFile) (flags : ℕ) (keys : List AtomKey) (layout : Layout) (image : List ℕ) (row : PlacedWork) (file : LoadedFile) (r : Ref) → AreLinked command libs files flags keys layout image → IsWholeFile file → is_later file ≡ false → slice_get files row.file ≡ Some file → In r file.refs → has keys r.atom ≡ true → IsDirect (making command libs files flags keys) layout image row r
 ref_direct command libs files flags keys layout image row file r linked whole form is h kept =
     direct_by r.kind image layout (goal_of m row r.target) r.addend (minus_of m row r) (not_later file r form h) (inside r.target (first r.minus) read.target) (from r.kind r.minus refl read.minus)
   where
@@ -195,7 +196,7 @@ ref_direct command libs files flags keys layout image row file r linked whole fo
     from Diff64 minus e has = subtracted minus e has
     from _ minus e has = tt
 
-pub references_told : (command : Command) (libs : LibraryGraph) (files : List LoadedFile) (image : List ℕ) (is : IsImageOf command libs files image) (offsets : AtomMap) (section : ℕ) (row : Row) (reference : Ref) → AreOrdered files → AreWhole files → AreInForm files → Contains (rows_of (made_of is) is.layout) row → IsReferenceOf (made_of is) row reference → TellsGoal (made_of is) is.layout image offsets section row reference
+pub references_told : (command : Command) (libs : LibraryGraph) (files : List LoadedFile) (image : List ℕ) (is : IsImageOf command libs files image) (offsets : AtomMap) (section : ℕ) (row : PlacedWork) (reference : Ref) → AreOrdered files → AreWhole files → AreInForm files → Contains (rows_of (made_of is) is.layout) row → IsReferenceOf (made_of is) row reference → TellsGoal (made_of is) is.layout image offsets section row reference
 references_told command libs files image is offsets section row reference ordered whole form among of_row =
     references_lead m layout image offsets section row reference is.rising is.is_image among of_row direct
   where

@@ -1,6 +1,6 @@
 //! What holds of links. Each function is a law, which its contract states, and does nothing.
 ghost use Rattle.std.specs.Prelude.{ℕ, ◌≡◌, false, All, Contains, List, Ok};
-ghost use Rattle.atom_work.specs.Rows.{Row};
+ghost use Rattle.patch.specs.declared.range.PlacedWork.{PlacedWork};
 ghost use Rattle.image_make.specs.Made.{rows_of};
 ghost use Rattle.image_means.specs.References.{IsReferenceOf, TellsGoal};
 ghost use Rattle.image_read.specs.Held.{AtomMap};
@@ -31,7 +31,7 @@ pub fn a_plan_is_a_linked_image()
 /// The field of each reference of an atom with bytes tells the goal of the reference, which the image has: where the files'
 /// objects are whole and have the form, no such reference leads to another image, nowhere, or to an atom that isn't kept.
 pub fn kept_references_tell_their_goals()
-    ensures { (command : Commanded) (libs : LibraryGraph) (files : List LoadedFile) (image : List ℕ) (is : IsImageOf command libs files image) (offsets : AtomMap) (section : ℕ) (row : Row) (reference : Ref) → AreOrdered files → AreWhole files → AreInForm files → Contains (rows_of (made_of is) is.layout) row → IsReferenceOf (made_of is) row reference → TellsGoal (made_of is) is.layout image offsets section row reference }
+    ensures { (command : Commanded) (libs : LibraryGraph) (files : List LoadedFile) (image : List ℕ) (is : IsImageOf command libs files image) (offsets : AtomMap) (section : ℕ) (row : PlacedWork) (reference : Ref) → AreOrdered files → AreWhole files → AreInForm files → Contains (rows_of (made_of is) is.layout) row → IsReferenceOf (made_of is) row reference → TellsGoal (made_of is) is.layout image offsets section row reference }
 {}
 
 /// A linked program has its entry: the name leads to a place of the image, of its own atoms or its header, which is kept

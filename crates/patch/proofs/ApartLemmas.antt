@@ -1,17 +1,13 @@
 -- Fields that lie apart in one order lie apart in any.
-use Rattle.std.proofs.Common.{◌≡◌, ◌⊎◌, ℕ, ◌+◌, ◌<◌, ◌≤◌, ◌^◌, List, length, get_or, inl, inr, refl, sym, subst, ◌∙◌, arith, Bool, Result, Ok, Err}
-use Rattle.std.specs.Prelude.{All, IfOk, IsPermutation, IsTrue}
+use Rattle.std.proofs.Common.{◌≡◌, ◌⊎◌, ℕ, ◌+◌, ◌<◌, ◌≤◌, List, length, get_or, inl, inr, refl, sym, subst, arith}
+use Rattle.std.specs.Prelude.{IsPermutation}
 use Rattle.std.specs.List.{AllPairs, swap}
 use Rattle.std.proofs.lemmas.Bool.{cases_eq, cases_lt}
 use Rattle.std.proofs.lemmas.List.Edits.{Swapped, length-swap, swapped_from_swap}
 use Rattle.std.proofs.lemmas.List.Sorted.{All-permutation, IsPermutation-keeps, IsPermutation-sym}
-use Rattle.mo_types.specs.declared.loaded.LoadedFile.{LoadedFile}
-use Rattle.mo_types.specs.declared.memory.OutOfMemory.{OutOfMemory}
 use Rattle.patch.specs.declared.met.Met.{Met}
-use Rattle.patch.specs.declared.range.PlacedWork.{PlacedWork}
-use Rattle.patch.specs.Order.{AreFieldsInOrder, StandsBefore}
+use Rattle.patch.specs.Order.{AreFieldsInOrder}
 use Rattle.patch.specs.Patched.{AreApart, AreFields, size_of}
-use Rattle.patch.specs.Range.{AreWork, IsWork}
 
 flipped : (a b : Met) → AreApart a b → AreApart b a
 flipped a b (inl before) = inr before
@@ -77,27 +73,3 @@ sorted_fields address size mets sorted moved are = record {
   within = All-permutation (λ met. met.place + size_of met ≤ size) sorted mets (IsPermutation-sym mets sorted moved) are.fields.within;
   apart = apart_permuted sorted mets (IsPermutation-sym mets sorted moved) are.fields.apart;
 }
-
--- the atoms before a place are apart
-pub record AreGood (files : List LoadedFile) (mets : List Met) (from size : ℕ) (work : List PlacedWork) (at : ℕ) : Type 0 where
-  pub each : (k : ℕ) (d : PlacedWork) → k < at → IsWork files mets from size (get_or work k d)
-
-pub good_start : (files : List LoadedFile) (mets : List Met) (from size : ℕ) (work : List PlacedWork) → AreGood files mets from size work 0
-good_start files mets from size work = record { each = λ k d low. absurd (omega arith) }
-
-pub good_end : (files : List LoadedFile) (mets : List Met) (from size : ℕ) (work : List PlacedWork) (at : ℕ) → AreGood files mets from size work at → length work ≤ at → All (IsWork files mets from size) work
-good_end files mets from size work at good past = λ k d low. good.each k d (omega arith)
-
-pub good_more : (files : List LoadedFile) (mets : List Met) (from size : ℕ) (work : List PlacedWork) (at : ℕ) (item : PlacedWork) → AreGood files mets from size work at → at < length work → ((d : PlacedWork) → item ≡ get_or work at d) → IsWork files mets from size item → AreGood files mets from size work (at + 1)
-good_more files mets from size work at item good low is one = record {
-  each = λ k e less. elim (cases_eq k at) [
-    | inl same ↦ subst (λ (j : ℕ). IsWork files mets from size (get_or work j e)) (sym same) (subst (λ (x : PlacedWork). IsWork files mets from size x) (is e) one)
-    | inr other ↦ good.each k e (omega arith)
-  ];
-}
-
-pub ruleset items = (good_start, good_end)
-
-pub apart_work : (files : List LoadedFile) (mets : List Met) (from size : ℕ) (work : List PlacedWork) (result : Result Bool OutOfMemory) → AllPairs (StandsBefore files) work → IfOk result (λ apart. IsTrue apart → All (IsWork files mets from size) work) → IfOk result (λ apart. IsTrue apart → AreWork files mets from size work)
-apart_work files mets from size work (Ok apart) in_order each = λ t. record { items = each t; in_order = in_order }
-apart_work files mets from size work (Err fault) in_order each = tt

@@ -6,7 +6,8 @@ use Rattle.std.proofs.lemmas.Bool.{cases_eq}
 use Rattle.mo_types.specs.declared.loaded.LoadedFile.{LoadedFile}
 use Rattle.patch.specs.declared.met.Met.{Met}
 use Rattle.patch.specs.declared.range.PlacedWork.{PlacedWork}
-use Rattle.patch.specs.Order.{AreFieldsInOrder, AreWorkInOrder, IsAfter, IsBefore, IsWorkInOrder, StandsBefore}
+use Rattle.patch.specs.Order.{AreFieldsInOrder, IsAfter, IsBefore, StandsBefore}
+use Rattle.patch.specs.Range.{AreStanding, IsStanding}
 use Rattle.patch.specs.Patched.{size_of}
 
 -- neighbours before a place keep an order
@@ -63,8 +64,5 @@ falling_fields address size mets addresses within falling = record {
   order = inr falling;
 }
 
-pub work_of : (files : List LoadedFile) (mets : List Met) (from size : ℕ) (work : List PlacedWork) → All (IsWorkInOrder files mets from size) work → AllPairs (StandsBefore files) work → AreWorkInOrder files mets from size work
-work_of files mets from size work items in_order = record {
-  items = record { items = λ k d low. (items k d low).work; in_order = in_order };
-  refs = items;
-}
+pub work_of : (files : List LoadedFile) (from size : ℕ) (work : List PlacedWork) → All (IsStanding files from size) work → AllPairs (StandsBefore files) work → AreStanding files from size work
+work_of files from size work items in_order = record { items = items; in_order = in_order }

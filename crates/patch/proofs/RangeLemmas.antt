@@ -13,10 +13,12 @@ use Rattle.mo_types.specs.declared.loaded.LoadedFile.{LoadedFile}
 use Rattle.patch.specs.declared.met.Met.{Met}
 use Rattle.patch.specs.declared.met.RangeFault.{RangeFault}
 use Rattle.patch.specs.declared.range.Fault.{Fault}
+use Rattle.patch.specs.declared.range.Trouble.{Trouble}
+use Rattle.patch.specs.declared.range.Trouble.TheVariants as trouble
 use Rattle.patch.specs.declared.range.PlacedWork.{PlacedWork}
-use Rattle.patch.specs.Patched.{ArePatched, IsFirstFault}
-use Rattle.patch.specs.Range.{AllFit, AreWork, IsBeside, IsLeastFault, IsPlaced, IsSameBeside, IsUpTo, IsWork, bytes_of, part_of, refs_of}
-use Rattle.patch.specs.inner.Found.{IsBesideOne, IsLeastSo, lesser}
+use Rattle.patch.specs.Patched.{AreFields, ArePatched, IsFirstFault}
+use Rattle.patch.specs.Range.{AllFit, AreStanding, HasFields, IsBeside, IsLeastFault, IsPlaced, IsSameBeside, IsStanding, IsUpTo, bytes_of, part_of}
+use Rattle.patch.specs.inner.Found.{IsBesideOne, IsLeastSo, IsOnePatched, lesser}
 use Rattle.patch.proofs.KeyLemmas.{itself, through, turned_round}
 
 -- what is put into a part of a list
@@ -27,19 +29,47 @@ put_there at k xs ys room same =
     ap (λ (m : ℕ). drop m (take at xs ++ (ys ++ post_of at k xs))) (sym front) ∙ drop-append_seam (take at xs) (ys ++ post_of at k xs) in
     ap (λ (zs : List ℕ). take k zs) behind ∙ ap (λ (m : ℕ). take m (ys ++ post_of at k xs)) (sym same) ∙ take-append_seam ys (post_of at k xs)
 
-pub placed : (files : List LoadedFile) (mets : List Met) (from : ℕ) (item : PlacedWork) (piece contents patched : List ℕ) (refs : List Met) (at k : ℕ) (r : Result (Unit {0}) RangeFault)
-    → IsWork files mets from (length piece) item → at ≡ item.at - from → contents ≡ bytes_of files item → refs ≡ refs_of mets item → k ≡ length contents
-    → OnOk r (ArePatched item.address refs contents patched) → OnOk r (IsPlaced files mets from (put_mid at k piece patched) item)
+pub placed : (files : List LoadedFile) (mets : List Met) (from : ℕ) (item : PlacedWork) (piece contents patched : List ℕ) (at k : ℕ) (r : Result (Unit {0}) RangeFault)
+    → IsStanding files from (length piece) item → at ≡ item.at - from → contents ≡ bytes_of files item → k ≡ length contents
+    → OnOk r (ArePatched item.address mets contents patched) → OnOk r (IsPlaced files (λ _. mets) from (put_mid at k piece patched) item)
 unfolding part_of
-placed files mets from item piece contents patched refs at k (Ok x) work place is same size patches =
+placed files mets from item piece contents patched at k (Ok x) work place is size patches =
     let long : length contents ≡ length (bytes_of files item) = ap length is in
     let there : take (length (bytes_of files item)) (drop (item.at - from) (put_mid at k piece patched)) ≡ patched =
     ap (λ (m : ℕ). take m (drop (item.at - from) (put_mid at k piece patched))) (sym long ∙ sym size)
     ∙ ap (λ (m : ℕ). take k (drop m (put_mid at k piece patched))) (sym place)
     ∙ put_there at k piece patched (omega (arith, work.begins, work.ends)) (patches.size ∙ sym size) in
-    subst (λ (z : List ℕ). ArePatched item.address (refs_of mets item) (bytes_of files item) z) (sym there)
-    (subst (λ (z : List ℕ). ArePatched item.address (refs_of mets item) z patched) is (subst (λ (z : List Met). ArePatched item.address z contents patched) same patches))
-placed files mets from item piece contents patched refs at k (Err e) work place is same size patches = tt
+    subst (λ (z : List ℕ). ArePatched item.address mets (bytes_of files item) z) (sym there)
+    (subst (λ (z : List ℕ). ArePatched item.address mets z patched) is patches)
+placed files mets from item piece contents patched at k (Err e) work place is size patches = tt
+
+on_ok : {A E : Type 0} (r : Result A E) (x : A) (P : Type 0) → OnOk r P → r ≡ Ok x → P
+on_ok (Ok y) x P h e = h
+on_ok (Err y) x P h e = absurd cc
+
+if_err : {A E : Type 0} (r : Result A E) (x : E) (P : E → Type 0) → IfErr r P → r ≡ Err x → P x
+if_err (Ok y) x P h e = absurd cc
+if_err (Err y) x P h e = let same : y ≡ x = cc in subst P same h
+
+-- ---- one atom, whose references were met
+
+met_placed : (files : List LoadedFile) (mets : PlacedWork → List Met) (from : ℕ) (item : PlacedWork) (new : List ℕ) (met : List Met) → met ≡ mets item → AreFields item.address (length (bytes_of files item)) met → IsPlaced files (λ _. met) from new item → HasFields files mets item × IsPlaced files mets from new item
+met_placed files mets from item new met is fields here = (
+  subst (λ (z : List Met). AreFields item.address (length (bytes_of files item)) z) is fields,
+  subst (λ (z : List Met). ArePatched item.address z (bytes_of files item) (part_of files from item new)) is here,
+)
+
+met_fails : (files : List LoadedFile) (mets : PlacedWork → List Met) (item : PlacedWork) (met : List Met) (fault : RangeFault) → met ≡ mets item → AreFields item.address (length (bytes_of files item)) met → IsFirstFault item.address (bytes_of files item) met fault → HasFields files mets item × IsFirstFault item.address (bytes_of files item) (mets item) fault
+met_fails files mets item met fault is fields fails = (
+  subst (λ (z : List Met). AreFields item.address (length (bytes_of files item)) z) is fields,
+  subst (λ (z : List Met). IsFirstFault item.address (bytes_of files item) z fault) is fails,
+)
+
+pub one_patched : (files : List LoadedFile) (mets : PlacedWork → List Met) (from : ℕ) (item : PlacedWork) (new : List ℕ) (met : List Met) (r : Result (Unit {0}) RangeFault) → met ≡ mets item → AreFields item.address (length (bytes_of files item)) met → OnOk r (IsPlaced files (λ _. met) from new item) → r ≡ Ok tt → IsOnePatched files mets from new item (Ok tt)
+one_patched files mets from item new met r is fields ok e = met_placed files mets from item new met is fields (on_ok r tt (IsPlaced files (λ _. met) from new item) ok e)
+
+pub one_at_fault : (files : List LoadedFile) (mets : PlacedWork → List Met) (from : ℕ) (item : PlacedWork) (new : List ℕ) (met : List Met) (r : Result (Unit {0}) RangeFault) (fault : RangeFault) → met ≡ mets item → AreFields item.address (length (bytes_of files item)) met → IfErr r (IsFirstFault item.address (bytes_of files item) met) → r ≡ Err fault → IsOnePatched files mets from new item (Err (trouble.Range fault))
+one_at_fault files mets from item new met r fault is fields err e = met_fails files mets item met fault is fields (if_err r fault (IsFirstFault item.address (bytes_of files item) met) err e)
 
 -- ---- the fault of the least key
 
@@ -57,7 +87,7 @@ contains_last work at item within is =
 all_more : (P : PlacedWork → Type 0) (work : List PlacedWork) (at : ℕ) (item : PlacedWork) → at < length work → item ≡ get_or work at item → All P (take at work) → P item → All P (take (at + 1) work)
 all_more P work at item within is all holds = All-more P work at item within all (at_read work P at item within is holds item)
 
-keeps : (files : List LoadedFile) (mets : List Met) (work : List PlacedWork) (at : ℕ) (item : PlacedWork) → at < length work → item ≡ get_or work at item → AllFit files mets item → (least : Option Fault) → IsLeastSo files mets (take at work) least → IsLeastSo files mets (take (at + 1) work) least
+keeps : (files : List LoadedFile) (mets : PlacedWork → List Met) (work : List PlacedWork) (at : ℕ) (item : PlacedWork) → at < length work → item ≡ get_or work at item → AllFit files mets item → (least : Option Fault) → IsLeastSo files mets (take at work) least → IsLeastSo files mets (take (at + 1) work) least
 keeps files mets work at item within is fit None all = all_more (AllFit files mets) work at item within is all fit
 keeps files mets work at item within is fit (Some fault) (first, it) = (
   first,
@@ -69,7 +99,7 @@ keeps files mets work at item within is fit (Some fault) (first, it) = (
   },
 )
 
-newest : (files : List LoadedFile) (mets : List Met) (work : List PlacedWork) (at : ℕ) (item : PlacedWork) (fault : Fault) → at < length work → item ≡ get_or work at item → fault.key ≡ item.atom.key → IsFirstFault item.address (bytes_of files item) (refs_of mets item) fault.fault → All (λ other. AllFit files mets other ⊎ IsUpTo fault.key other.atom.key) (take at work) → IsLeastFault files mets (take (at + 1) work) fault.key fault.fault
+newest : (files : List LoadedFile) (mets : PlacedWork → List Met) (work : List PlacedWork) (at : ℕ) (item : PlacedWork) (fault : Fault) → at < length work → item ≡ get_or work at item → fault.key ≡ item.atom.key → IsFirstFault item.address (bytes_of files item) (mets item) fault.fault → All (λ other. AllFit files mets other ⊎ IsUpTo fault.key other.atom.key) (take at work) → IsLeastFault files mets (take (at + 1) work) fault.key fault.fault
 newest files mets work at item fault within is key fails all = (
   item,
   record {
@@ -81,11 +111,11 @@ newest files mets work at item fault within is key fails all = (
   },
 )
 
-lower : (files : List LoadedFile) (mets : List Met) (low high : AtomKey) (other : PlacedWork) → IsUpTo low high → AllFit files mets other ⊎ IsUpTo high other.atom.key → AllFit files mets other ⊎ IsUpTo low other.atom.key
+lower : (files : List LoadedFile) (mets : PlacedWork → List Met) (low high : AtomKey) (other : PlacedWork) → IsUpTo low high → AllFit files mets other ⊎ IsUpTo high other.atom.key → AllFit files mets other ⊎ IsUpTo low other.atom.key
 lower files mets low high other h (inl fit) = inl fit
 lower files mets low high other h (inr above) = inr (through low high other.atom.key h above)
 
-takes : (files : List LoadedFile) (mets : List Met) (work : List PlacedWork) (at : ℕ) (item : PlacedWork) (fault : Fault) → at < length work → item ≡ get_or work at item → fault.key ≡ item.atom.key → IsFirstFault item.address (bytes_of files item) (refs_of mets item) fault.fault
+takes : (files : List LoadedFile) (mets : PlacedWork → List Met) (work : List PlacedWork) (at : ℕ) (item : PlacedWork) (fault : Fault) → at < length work → item ≡ get_or work at item → fault.key ≡ item.atom.key → IsFirstFault item.address (bytes_of files item) (mets item) fault.fault
     → (least : Option Fault) → IsLeastSo files mets (take at work) least → IsLeastSo files mets (take (at + 1) work) (lesser least fault)
 takes files mets work at item fault within is key fails None all =
     newest files mets work at item fault within is key fails
@@ -118,28 +148,30 @@ never_none (Some other) fault e = chosen (is_gt (compare_keys other.key fault.ke
 -- ---- atoms placed one after the other
 
 -- the atoms before a place stand in the piece with their fields, or a value of theirs doesn't fit
-pub record IsPlacing (files : List LoadedFile) (mets : List Met) (from : ℕ) (old : List ℕ) (work : List PlacedWork) (at : ℕ) (now : List ℕ) (least : Option Fault) : Type 0 where
+pub record IsPlacing (files : List LoadedFile) (mets : PlacedWork → List Met) (from : ℕ) (old : List ℕ) (work : List PlacedWork) (at : ℕ) (now : List ℕ) (least : Option Fault) : Type 0 where
   pub size : length now ≡ length old
   pub within : at ≤ length work
   pub others : (k : ℕ) → ((j : ℕ) (d : PlacedWork) → j < at → IsBeside files from k (get_or work j d)) → slice_index now k ≡ slice_index old k
   pub placed : least ≡ None → (j : ℕ) (d : PlacedWork) → j < at → IsPlaced files mets from now (get_or work j d)
   pub faults : IsLeastSo files mets (take at work) least
+  pub fields : (j : ℕ) (d : PlacedWork) → j < at → HasFields files mets (get_or work j d)
 
-pub placing_starts : (files : List LoadedFile) (mets : List Met) (from : ℕ) (old : List ℕ) (work : List PlacedWork) → IsPlacing files mets from old work 0 old None
+pub placing_starts : (files : List LoadedFile) (mets : PlacedWork → List Met) (from : ℕ) (old : List ℕ) (work : List PlacedWork) → IsPlacing files mets from old work 0 old None
 placing_starts files mets from old work = record {
   size = refl;
   within = omega arith;
   others = λ k beside. refl;
   placed = λ e j d low. absurd (omega arith);
   faults = All-nil (AllFit files mets);
+  fields = λ j d low. absurd (omega arith);
 }
 
-pub work_there : (files : List LoadedFile) (mets : List Met) (from size n : ℕ) (work : List PlacedWork) (at : ℕ) (item : PlacedWork) → AreWork files mets from size work → at < length work → item ≡ get_or work at item → n ≡ size → IsWork files mets from n item
+pub work_there : (files : List LoadedFile) (mets : PlacedWork → List Met) (from size n : ℕ) (work : List PlacedWork) (at : ℕ) (item : PlacedWork) → AreStanding files from size work → at < length work → item ≡ get_or work at item → n ≡ size → IsStanding files from n item
 work_there files mets from size n work at item are within is e =
-    subst (λ (m : ℕ). IsWork files mets from m item) (sym e) (subst (λ (it : PlacedWork). IsWork files mets from size it) (sym is) (are.items at item within))
+    subst (λ (m : ℕ). IsStanding files from m item) (sym e) (subst (λ (it : PlacedWork). IsStanding files from size it) (sym is) (are.items at item within))
 
 -- the part of an atom that stands before another one stays
-part_stays : (files : List LoadedFile) (mets : List Met) (from size : ℕ) (a item : PlacedWork) (now new : List ℕ) → IsWork files mets from size a → a.at + length (bytes_of files a) ≤ item.at → IsBesideOne files from item now new → part_of files from a new ≡ part_of files from a now
+part_stays : (files : List LoadedFile) (mets : PlacedWork → List Met) (from size : ℕ) (a item : PlacedWork) (now new : List ℕ) → IsStanding files from size a → a.at + length (bytes_of files a) ≤ item.at → IsBesideOne files from item now new → part_of files from a new ≡ part_of files from a now
 unfolding part_of
 part_stays files mets from size a item now new work before beside =
     let k : ℕ = length (bytes_of files a) in
@@ -151,76 +183,85 @@ part_stays files mets from size a item now new work before beside =
     ∙ beside.others (p + i) (inl (omega (arith, work.begins)))
     ∙ sym (get_or-take k (drop p now) i 0 (omega arith) ∙ get_or-drop p now i 0))
 
-before_it : (files : List LoadedFile) (mets : List Met) (from size : ℕ) (work : List PlacedWork) (j at : ℕ) (d item : PlacedWork) → AreWork files mets from size work → j < at → at < length work → item ≡ get_or work at item → (get_or work j d).at + length (bytes_of files (get_or work j d)) ≤ item.at
+before_it : (files : List LoadedFile) (mets : PlacedWork → List Met) (from size : ℕ) (work : List PlacedWork) (j at : ℕ) (d item : PlacedWork) → AreStanding files from size work → j < at → at < length work → item ≡ get_or work at item → (get_or work j d).at + length (bytes_of files (get_or work j d)) ≤ item.at
 before_it files mets from size work j at d item are low within is =
     let there : get_or work at d ≡ item = at_read work (λ it. it ≡ item) at item within is refl d in
     subst (λ (it : PlacedWork). (get_or work j d).at + length (bytes_of files (get_or work j d)) ≤ it.at) there (are.in_order j at d low within)
 
-still_placed : (files : List LoadedFile) (mets : List Met) (from : ℕ) (old : List ℕ) (work : List PlacedWork) (at : ℕ) (now new : List ℕ) (item : PlacedWork) → AreWork files mets from (length old) work → at < length work → item ≡ get_or work at item → IsBesideOne files from item now new → (j : ℕ) (d : PlacedWork) → j < at → IsPlaced files mets from now (get_or work j d) → IsPlaced files mets from new (get_or work j d)
+still_placed : (files : List LoadedFile) (mets : PlacedWork → List Met) (from : ℕ) (old : List ℕ) (work : List PlacedWork) (at : ℕ) (now new : List ℕ) (item : PlacedWork) → AreStanding files from (length old) work → at < length work → item ≡ get_or work at item → IsBesideOne files from item now new → (j : ℕ) (d : PlacedWork) → j < at → IsPlaced files mets from now (get_or work j d) → IsPlaced files mets from new (get_or work j d)
 still_placed files mets from old work at now new item are within is beside j d low placed =
-    subst (λ (z : List ℕ). ArePatched (get_or work j d).address (refs_of mets (get_or work j d)) (bytes_of files (get_or work j d)) z)
+    subst (λ (z : List ℕ). ArePatched (get_or work j d).address (mets (get_or work j d)) (bytes_of files (get_or work j d)) z)
     (sym (part_stays files mets from (length old) (get_or work j d) item now new (are.items j d (omega arith)) (before_it files mets from (length old) work j at d item are low within is) beside))
     placed
 
-others_stay : (files : List LoadedFile) (mets : List Met) (from : ℕ) (old : List ℕ) (work : List PlacedWork) (at : ℕ) (now new : List ℕ) (least : Option Fault) (item : PlacedWork) → IsPlacing files mets from old work at now least → item ≡ get_or work at item → IsBesideOne files from item now new → (k : ℕ) → ((j : ℕ) (d : PlacedWork) → j < at + 1 → IsBeside files from k (get_or work j d)) → slice_index new k ≡ slice_index old k
+others_stay : (files : List LoadedFile) (mets : PlacedWork → List Met) (from : ℕ) (old : List ℕ) (work : List PlacedWork) (at : ℕ) (now new : List ℕ) (least : Option Fault) (item : PlacedWork) → IsPlacing files mets from old work at now least → item ≡ get_or work at item → IsBesideOne files from item now new → (k : ℕ) → ((j : ℕ) (d : PlacedWork) → j < at + 1 → IsBeside files from k (get_or work j d)) → slice_index new k ≡ slice_index old k
 others_stay files mets from old work at now new least item placing is beside k out =
     beside.others k (subst (λ (it : PlacedWork). IsBeside files from k it) (sym is) (out at item (omega arith)))
     ∙ placing.others k (λ j d low. out j d (omega arith))
 
-fits_where_placed : (files : List LoadedFile) (mets : List Met) (from : ℕ) (new : List ℕ) (item : PlacedWork) → IsPlaced files mets from new item → AllFit files mets item
+fits_where_placed : (files : List LoadedFile) (mets : PlacedWork → List Met) (from : ℕ) (new : List ℕ) (item : PlacedWork) → IsPlaced files mets from new item → AllFit files mets item
 fits_where_placed files mets from new item placed = λ k d low. (_, placed.fields k d low)
 
-on_ok : {A E : Type 0} (r : Result A E) (x : A) (P : Type 0) → OnOk r P → r ≡ Ok x → P
-on_ok (Ok y) x P h e = h
-on_ok (Err y) x P h e = absurd cc
+below_at : (P : PlacedWork → Type 0) (work : List PlacedWork) (at : ℕ) (item : PlacedWork) → at < length work → item ≡ get_or work at item → ((j : ℕ) (d : PlacedWork) → j < at → P (get_or work j d)) → P item → (j : ℕ) (d : PlacedWork) → j < at + 1 → P (get_or work j d)
+below_at P work at item within is below here j d low = below_more (λ k. (e : PlacedWork) → P (get_or work k e)) at (λ k less e. below k e less) (λ e. at_read work P at item within is here e) j low d
 
-if_err : {A E : Type 0} (r : Result A E) (x : E) (P : E → Type 0) → IfErr r P → r ≡ Err x → P x
-if_err (Ok y) x P h e = absurd cc
-if_err (Err y) x P h e = let same : y ≡ x = cc in subst P same h
-
-pub placing_goes_on : (files : List LoadedFile) (mets : List Met) (from : ℕ) (old : List ℕ) (work : List PlacedWork) (at : ℕ) (now new : List ℕ) (least : Option Fault) (item : PlacedWork) (r : Result (Unit {0}) RangeFault) → IsPlacing files mets from old work at now least → AreWork files mets from (length old) work → at < length work → item ≡ get_or work at item → IsBesideOne files from item now new → OnOk r (IsPlaced files mets from new item) → r ≡ Ok tt → IsPlacing files mets from old work (at + 1) new least
-placing_goes_on files mets from old work at now new least item r placing are within is beside ok e =
-    let here : IsPlaced files mets from new item = on_ok r tt (IsPlaced files mets from new item) ok e in
-    record {
+pub placing_goes_on : (files : List LoadedFile) (mets : PlacedWork → List Met) (from : ℕ) (old : List ℕ) (work : List PlacedWork) (at : ℕ) (now new : List ℕ) (least : Option Fault) (item : PlacedWork) (r : Result (Unit {0}) Trouble) → IsPlacing files mets from old work at now least → AreStanding files from (length old) work → at < length work → item ≡ get_or work at item → IsBesideOne files from item now new → IsOnePatched files mets from new item r → r ≡ Ok tt → IsPlacing files mets from old work (at + 1) new least
+placing_goes_on files mets from old work at now new least item r placing are within is beside patched e = go (subst (IsOnePatched files mets from new item) e patched)
+  where
+    go : IsOnePatched files mets from new item (Ok tt) → IsPlacing files mets from old work (at + 1) new least
+    go (has, here) = record {
       size = beside.size ∙ placing.size;
       within = omega arith;
       others = others_stay files mets from old work at now new least item placing is beside;
-      placed = λ none. below_more_at (λ j d. IsPlaced files mets from new (get_or work j d)) at
-          (λ j d low. still_placed files mets from old work at now new item are within is beside j d low (placing.placed none j d low))
-          (λ d. at_read work (IsPlaced files mets from new) at item within is here d);
+      placed = λ none. below_at (IsPlaced files mets from new) work at item within is
+          (λ j d low. still_placed files mets from old work at now new item are within is beside j d low (placing.placed none j d low)) here;
       faults = keeps files mets work at item within is (fits_where_placed files mets from new item here) least placing.faults;
+      fields = below_at (HasFields files mets) work at item within is placing.fields has;
     }
-  where
-    below_more_at : (P : ℕ → PlacedWork → Type 0) (n : ℕ) → ((k : ℕ) (d : PlacedWork) → k < n → P k d) → ((d : PlacedWork) → P n d) → (k : ℕ) (d : PlacedWork) → k < n + 1 → P k d
-    below_more_at P n below here k d low = below_more (λ k. (d : PlacedWork) → P k d) n (λ k low d. below k d low) here k low d
 
-pub placing_fails : (files : List LoadedFile) (mets : List Met) (from : ℕ) (old : List ℕ) (work : List PlacedWork) (at : ℕ) (now new : List ℕ) (least : Option Fault) (item : PlacedWork) (r : Result (Unit {0}) RangeFault) (fault : RangeFault) (made : Fault) (chosen : Option Fault) → IsPlacing files mets from old work at now least → at < length work → item ≡ get_or work at item → IsBesideOne files from item now new → IfErr r (IsFirstFault item.address (bytes_of files item) (refs_of mets item)) → r ≡ Err fault → made ≡ record { key = item.atom.key; fault = fault } → chosen ≡ lesser least made → IsPlacing files mets from old work (at + 1) new chosen
-placing_fails files mets from old work at now new least item r fault made chosen placing within is beside err e is_made is_chosen = record {
+pub placing_fails : (files : List LoadedFile) (mets : PlacedWork → List Met) (from : ℕ) (old : List ℕ) (work : List PlacedWork) (at : ℕ) (now new : List ℕ) (least : Option Fault) (item : PlacedWork) (r : Result (Unit {0}) Trouble) (why : Trouble) (fault : RangeFault) (made : Fault) (chosen : Option Fault) → IsPlacing files mets from old work at now least → at < length work → item ≡ get_or work at item → IsBesideOne files from item now new → IsOnePatched files mets from new item r → r ≡ Err why → why ≡ trouble.Range fault → made ≡ record { key = item.atom.key; fault = fault } → chosen ≡ lesser least made → IsPlacing files mets from old work (at + 1) new chosen
+placing_fails files mets from old work at now new least item r why fault made chosen placing within is beside patched e is_why is_made is_chosen = go (subst (IsOnePatched files mets from new item) (e ∙ ap Err is_why) patched)
+  where
+    go : IsOnePatched files mets from new item (Err (trouble.Range fault)) → IsPlacing files mets from old work (at + 1) new chosen
+    go (has, fails) = record {
+      size = beside.size ∙ placing.size;
+      within = omega arith;
+      others = others_stay files mets from old work at now new least item placing is beside;
+      placed = λ none. absurd (never_none least made (sym is_chosen ∙ none));
+      faults = subst (IsLeastSo files mets (take (at + 1) work)) (sym is_chosen)
+          (takes files mets work at item made within is (ap (λ (f : Fault). f.key) is_made)
+          (subst (λ (f : RangeFault). IsFirstFault item.address (bytes_of files item) (mets item) f) (ap (λ (f : Fault). f.fault) (sym is_made)) fails)
+          least placing.faults);
+      fields = below_at (HasFields files mets) work at item within is placing.fields has;
+    }
+
+-- the piece is as it was beside all atoms, where placing stops at one
+pub placing_stops : (files : List LoadedFile) (mets : PlacedWork → List Met) (from : ℕ) (old : List ℕ) (work : List PlacedWork) (at : ℕ) (now new : List ℕ) (least : Option Fault) (item : PlacedWork) → IsPlacing files mets from old work at now least → at < length work → item ≡ get_or work at item → IsBesideOne files from item now new → IsSameBeside files from work old new
+placing_stops files mets from old work at now new least item placing within is beside = record {
   size = beside.size ∙ placing.size;
-  within = omega arith;
-  others = others_stay files mets from old work at now new least item placing is beside;
-  placed = λ none. absurd (never_none least made (sym is_chosen ∙ none));
-  faults = subst (IsLeastSo files mets (take (at + 1) work)) (sym is_chosen)
-      (takes files mets work at item made within is (ap (λ (f : Fault). f.key) is_made)
-      (subst (λ (f : RangeFault). IsFirstFault item.address (bytes_of files item) (refs_of mets item) f) (ap (λ (f : Fault). f.fault) (sym is_made)) (if_err r fault (IsFirstFault item.address (bytes_of files item) (refs_of mets item)) err e))
-      least placing.faults);
+  others = λ k out. others_stay files mets from old work at now new least item placing is beside k (λ j d low. out j d (omega (arith, within)));
 }
 
-pub placing_is_beside : (files : List LoadedFile) (mets : List Met) (from : ℕ) (old : List ℕ) (work : List PlacedWork) (at : ℕ) (now : List ℕ) (least : Option Fault) → IsPlacing files mets from old work at now least → length work ≤ at → IsSameBeside files from work old now
+pub placing_is_beside : (files : List LoadedFile) (mets : PlacedWork → List Met) (from : ℕ) (old : List ℕ) (work : List PlacedWork) (at : ℕ) (now : List ℕ) (least : Option Fault) → IsPlacing files mets from old work at now least → length work ≤ at → IsSameBeside files from work old now
 placing_is_beside files mets from old work at now least placing past = record {
   size = placing.size;
   others = λ k out. placing.others k (λ j d low. out j d (omega (arith, placing.within)));
 }
 
-pub all_placed : (files : List LoadedFile) (mets : List Met) (from : ℕ) (old : List ℕ) (work : List PlacedWork) (at : ℕ) (now : List ℕ) (least : Option Fault) → IsPlacing files mets from old work at now least → length work ≤ at → least ≡ None → All (IsPlaced files mets from now) work
+pub all_placed : (files : List LoadedFile) (mets : PlacedWork → List Met) (from : ℕ) (old : List ℕ) (work : List PlacedWork) (at : ℕ) (now : List ℕ) (least : Option Fault) → IsPlacing files mets from old work at now least → length work ≤ at → least ≡ None → All (IsPlaced files mets from now) work
 all_placed files mets from old work at now least placing past none = λ j d low. placing.placed none j d (omega arith)
 
-pub one_fails : (files : List LoadedFile) (mets : List Met) (from : ℕ) (old : List ℕ) (work : List PlacedWork) (at : ℕ) (now : List ℕ) (least : Option Fault) → IsPlacing files mets from old work at now least → length work ≤ at → IsLeastSo files mets work least
+pub one_fails : (files : List LoadedFile) (mets : PlacedWork → List Met) (from : ℕ) (old : List ℕ) (work : List PlacedWork) (at : ℕ) (now : List ℕ) (least : Option Fault) → IsPlacing files mets from old work at now least → length work ≤ at → IsLeastSo files mets work least
 one_fails files mets from old work at now least placing past = subst (λ (z : List PlacedWork). IsLeastSo files mets z least) (take_all at work past) placing.faults
 
-pub ruleset ranges = (placing_starts, work_there, placing_is_beside, all_placed)
+pub all_have_fields : (files : List LoadedFile) (mets : PlacedWork → List Met) (from : ℕ) (old : List ℕ) (work : List PlacedWork) (at : ℕ) (now : List ℕ) (least : Option Fault) → IsPlacing files mets from old work at now least → length work ≤ at → All (HasFields files mets) work
+all_have_fields files mets from old work at now least placing past = λ j d low. placing.fields j d (omega arith)
 
-pub least_fault : (files : List LoadedFile) (mets : List Met) (work : List PlacedWork) (least : Option Fault) (fault : Fault) → IsLeastSo files mets work least → least ≡ Some fault → IsLeastFault files mets work fault.key fault.fault
+pub ruleset ranges = (placing_starts, work_there, placing_is_beside, all_placed, all_have_fields)
+
+pub least_fault : (files : List LoadedFile) (mets : PlacedWork → List Met) (work : List PlacedWork) (least : Option Fault) (fault : Fault) → IsLeastSo files mets work least → least ≡ Some fault → IsLeastFault files mets work fault.key fault.fault
 least_fault files mets work least fault so some = subst (IsLeastSo files mets work) some so
 
 pub ruleset answers = (least_fault)
+
+pub ruleset ones = (one_patched, one_at_fault)

@@ -25,7 +25,7 @@ use Rattle.patch.specs.declared.met.RangeFault.{RangeFault}
 use Rattle.patch.specs.declared.range.PlacedWork.{PlacedWork}
 use Rattle.patch.specs.Field.{address_of, branch_field, difference_of, field_by, field_of, is_signed_32, low12_field, or_range, page_field, pages_between, signed_32, signed_field, target_of, wrapped_target}
 use Rattle.patch.specs.Patched.{AreApart, AreFields, ArePatched, IsOutside, size_of}
-use Rattle.patch.specs.Range.{AreWork, IsBeside, bytes_of}
+use Rattle.patch.specs.Range.{AreStanding, IsBeside, bytes_of}
 use Rattle.patch.specs.Reading.{GivesPage, KeepsBits, LeadsTo, Tells}
 
 found : {A : Type 0} (met : Met) (kind : RangeKind) (value : ℤ) (o : Option A) (x : A) → or_range met kind value o ≡ Ok x → o ≡ Some x
@@ -194,5 +194,5 @@ in_one_atom files from k a b before = elim (cases_lt (from + k) b.at) [
   | inr high ↦ inl (inr (omega arith))
 ]
 
-pub atoms_apart : (files : List LoadedFile) (mets : List Met) (from size : ℕ) (work : List PlacedWork) → AreWork files mets from size work → AllPairs (λ a b. (k : ℕ) → IsBeside files from k a ⊎ IsBeside files from k b) work
-atoms_apart files mets from size work are i j d low high k = in_one_atom files from k (get_or work i d) (get_or work j d) (are.in_order i j d low high)
+pub atoms_apart : (files : List LoadedFile) (from size : ℕ) (work : List PlacedWork) → AreStanding files from size work → AllPairs (λ a b. (k : ℕ) → IsBeside files from k a ⊎ IsBeside files from k b) work
+atoms_apart files from size work are i j d low high k = in_one_atom files from k (get_or work i d) (get_or work j d) (are.in_order i j d low high)

@@ -1,11 +1,11 @@
 -- References and atoms that are listed in the order of their places.
-use Rattle.std.specs.Prelude.{ℕ, ◌+◌, ◌≤◌, ◌⊎◌, List, length, All}
+use Rattle.std.specs.Prelude.{ℕ, ◌+◌, ◌≤◌, ◌⊎◌, List, length}
 use Rattle.std.specs.List.{AllPairs}
 use Rattle.mo_types.specs.declared.loaded.LoadedFile.{LoadedFile}
 use Rattle.patch.specs.declared.met.Met.{Met}
 use Rattle.patch.specs.declared.range.PlacedWork.{PlacedWork}
 use Rattle.patch.specs.Patched.{AreFields, size_of}
-use Rattle.patch.specs.Range.{AreWork, IsWork, bytes_of, refs_of}
+use Rattle.patch.specs.Range.{bytes_of}
 
 -- a field ends where another one begins, or before
 abbrev pub IsBefore : Met → Met → Type 0
@@ -22,13 +22,3 @@ pub record AreFieldsInOrder (address size : ℕ) (mets : List Met) : Type 0 wher
 -- the bytes of an atom end where those of another one begin, or before
 abbrev pub StandsBefore : List LoadedFile → PlacedWork → PlacedWork → Type 0
 StandsBefore files a b = a.at + length (bytes_of files a) ≤ b.at
-
--- an atom that stands in a piece, with references in order
-pub record IsWorkInOrder (files : List LoadedFile) (mets : List Met) (from size : ℕ) (item : PlacedWork) : Type 0 where
-  pub work : IsWork files mets from size item
-  pub refs : AreFieldsInOrder item.address (length (bytes_of files item)) (refs_of mets item)
-
--- atoms that stand one behind the other, each with its references in order
-pub record AreWorkInOrder (files : List LoadedFile) (mets : List Met) (from size : ℕ) (work : List PlacedWork) : Type 0 where
-  pub items : AreWork files mets from size work
-  pub refs : All (IsWorkInOrder files mets from size) work

@@ -7,7 +7,7 @@ ghost use Rattle.mo_types.specs.declared.loaded.LoadedFile.{LoadedFile};
 ghost use Rattle.patch.specs.declared.met.Met.{Met};
 ghost use Rattle.patch.specs.declared.range.PlacedWork.{PlacedWork};
 ghost use Rattle.patch.specs.Patched.{AreFields, ArePatched, IsOutside, size_of};
-ghost use Rattle.patch.specs.Range.{AreWork, IsBeside};
+ghost use Rattle.patch.specs.Range.{AreStanding, IsBeside};
 ghost use Rattle.patch.specs.Reading.{KeepsBits, Tells};
 
 /// What was written reads back as what was wanted: a branch leads to the target, a page is the target's, the low 12
@@ -29,7 +29,7 @@ pub fn no_byte_is_in_two_fields()
 
 /// No byte of an image is part of two atoms.
 pub fn no_byte_is_in_two_atoms()
-    ensures { (files : List LoadedFile) (mets : List Met) (from size : ℕ) (work : List PlacedWork) → AreWork files mets from size work → AllPairs (λ a b. (k : ℕ) → IsBeside files from k a ⊎ IsBeside files from k b) work }
+    ensures { (files : List LoadedFile) (from size : ℕ) (work : List PlacedWork) → AreStanding files from size work → AllPairs (λ a b. (k : ℕ) → IsBeside files from k a ⊎ IsBeside files from k b) work }
 {}
 
 /// The fields and the other bytes of an atom are all of it: two lists of bytes in which each field holds its value and

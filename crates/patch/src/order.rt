@@ -3,12 +3,12 @@
 ghost use Rattle.std.specs.Prelude.{◌≡◌, ◌+◌, ◌≤◌, ◌↔◌, All, IfOk, IsPermutation, IsTrue, length};
 ghost use Rattle.std.specs.List.{AllPairs};
 ghost use Rattle.mo_types.specs.Rows.{field_size};
-ghost use Rattle.patch.specs.Order.{AreFieldsInOrder, AreWorkInOrder, IsAfter, IsBefore, IsWorkInOrder, StandsBefore};
+ghost use Rattle.patch.specs.Order.{AreFieldsInOrder, IsAfter, IsBefore, StandsBefore};
 ghost use Rattle.patch.specs.Patched.{AreFields, size_of};
-ghost use Rattle.patch.specs.Range.{AreWork, IsWork, bytes_of};
+ghost use Rattle.patch.specs.Range.{AreStanding, IsStanding, bytes_of};
 
 use crate::met::Met;
-use crate::range::{PlacedWork, contents_of, references_of};
+use crate::range::{PlacedWork, contents_of};
 use mo_types::{LoadedFile, OutOfMemory, RefKind};
 use std::alloc::Global;
 
@@ -58,7 +58,7 @@ fn fall(mets: &[Met]) -> bool
     true
 }
 
-/// Whether the fields of references lie apart in so many bytes, which begin at an address and end below 2^64, and stand
+//// Whether the fields of references lie apart in so many bytes, which begin at an address and end below 2^64, and stand
 /// there by rising or by falling place: then `patch_atom` may be called. It takes one pass.
 pub fn fields_are_in_order(address: u64, size: usize, mets: &[Met]) -> bool
     ensures { IsTrue result ↔ AreFieldsInOrder address size mets.now }
@@ -69,28 +69,21 @@ pub fn fields_are_in_order(address: u64, size: usize, mets: &[Met]) -> bool
     rise(mets) || fall(mets)
 }
 
-// Whether an atom's bytes stand within a piece, and its references are there and in order.
-fn is_work(item: &PlacedWork, files: &[LoadedFile], mets: &[Met], from: u64, size: usize) -> bool
-    ensures { IsTrue result ↔ IsWorkInOrder files.now mets.now from size item.now }
+// Whether an atom's bytes stand within a piece.
+fn is_standing(item: &PlacedWork, files: &[LoadedFile], from: u64, size: usize) -> bool
+    ensures { IsTrue result ↔ IsStanding files.now from size item.now }
 {
     let length = contents_of(files, item).len();
     if item.file >= files.len() || item.at < from || length > size {
         return false;
     }
-    if item.at - from > (size - length) as u64 {
-        return false;
-    }
-    if item.first > mets.len() || item.count > mets.len() - item.first {
-        return false;
-    }
-    fields_are_in_order(item.address, length, references_of(mets, item))
+    item.at - from <= (size - length) as u64
 }
 
-fn are_work(work: &[PlacedWork], files: &[LoadedFile], mets: &[Met], from: u64, size: usize) -> bool
-    ensures { IsTrue result ↔ All (IsWorkInOrder files.now mets.now from size) work.now }
+fn are_standing(work: &[PlacedWork], files: &[LoadedFile], from: u64, size: usize) -> bool
+    ensures { IsTrue result ↔ All (IsStanding files.now from size) work.now }
 {
-    work.iter()
-        .all(|item| is_work(item, files, mets, from, size))
+    work.iter().all(|item| is_standing(item, files, from, size))
 }
 
 // Whether the bytes of an atom end where those of another one begin, or before.
@@ -113,20 +106,14 @@ fn stand_in_order(work: &[PlacedWork], files: &[LoadedFile]) -> bool
 }
 
 /// Whether atoms stand one behind the other in a piece of an image of so many bytes that begins at the offset `from` of
-/// its file, with their references in order: then `patch_range` may be called. It takes one pass.
-pub fn work_is_in_order(
-    work: &[PlacedWork],
-    files: &[LoadedFile],
-    mets: &[Met],
-    from: u64,
-    size: usize,
-) -> bool
-    ensures { IsTrue result ↔ AreWorkInOrder files.now mets.now from size work.now }
+/// its file: then `patch_range` may be called. It takes one pass.
+pub fn work_stands(work: &[PlacedWork], files: &[LoadedFile], from: u64, size: usize) -> bool
+    ensures { IsTrue result ↔ AreStanding files.now from size work.now }
 {
     if !stand_in_order(work, files) {
         return false;
     }
-    are_work(work, files, mets, from, size)
+    are_standing(work, files, from, size)
 }
 
 // References by rising place.
@@ -139,10 +126,9 @@ fn by_place(alloc: Global, mets: &[Met]) -> Result<Vec<Met>, OutOfMemory>
     Ok(sorted)
 }
 
-// Whether the fields of references lie apart in so many bytes, which begin at an address and end below 2^64. References
-// that neither rise nor fall are put in order first.
-
-fn fields_are_apart(
+/// Whether the fields of references lie apart in so many bytes, which begin at an address and end below 2^64. References
+/// that neither rise nor fall are put in order first, which takes memory.
+pub(crate) fn fields_are_apart(
     alloc: Global,
     address: u64,
     size: usize,
@@ -155,67 +141,4 @@ fn fields_are_apart(
     }
     let sorted = by_place(alloc, mets)?;
     Ok(fields_are_in_order(address, size, sorted.as_slice()))
-}
-
-// Whether an atom's bytes stand within a piece, and its references are there and apart.
-fn is_apart(
-    alloc: Global,
-    item: &PlacedWork,
-    files: &[LoadedFile],
-    mets: &[Met],
-    from: u64,
-    size: usize,
-) -> Result<bool, OutOfMemory>
-    ensures { IfOk result (λ apart. IsTrue apart → IsWork files.now mets.now from size item.now) }
-{
-    let length = contents_of(files, item).len();
-    if item.file >= files.len() || item.at < from || length > size {
-        return Ok(false);
-    }
-    if item.at - from > (size - length) as u64 {
-        return Ok(false);
-    }
-    if item.first > mets.len() || item.count > mets.len() - item.first {
-        return Ok(false);
-    }
-    fields_are_apart(alloc, item.address, length, references_of(mets, item))
-}
-
-// Whether each atom's bytes stand within a piece, and its references are there and apart.
-#[tactic(auto, using(crate::proofs::ApartLemmas::items))]
-fn are_apart(
-    alloc: Global,
-    work: &[PlacedWork],
-    files: &[LoadedFile],
-    mets: &[Met],
-    from: u64,
-    size: usize,
-) -> Result<bool, OutOfMemory>
-    ensures { IfOk result (λ apart. IsTrue apart → All (IsWork files.now mets.now from size) work.now) }
-{
-    for item in work {
-        if !is_apart(alloc, item, files, mets, from, size)? {
-            return Ok(false);
-        }
-    }
-    Ok(true)
-}
-
-/// Whether atoms stand one behind the other in a piece of an image of so many bytes that begins at the offset `from` of
-/// its file, with their references in whatever order: then `patch_range` may be called. It takes one pass, and memory
-/// where references of an atom neither rise nor fall.
-pub fn work_is_apart(
-    alloc: Global,
-    work: &[PlacedWork],
-    files: &[LoadedFile],
-    mets: &[Met],
-    from: u64,
-    size: usize,
-) -> Result<bool, OutOfMemory>
-    ensures { IfOk result (λ apart. IsTrue apart → AreWork files.now mets.now from size work.now) }
-{
-    if !stand_in_order(work, files) {
-        return Ok(false);
-    }
-    are_apart(alloc, work, files, mets, from, size)
 }

@@ -1,17 +1,20 @@
 //! The atoms of a piece of an image, with their fields.
 
-ghost use Rattle.std.specs.Prelude.{◌≡◌, ◌+◌, ◌≤◌, All, IfErr, OnOk, None, length};
+ghost use Rattle.std.specs.Prelude.{◌≡◌, ◌+◌, ◌≤◌, All, IfErr, IfOk, IsTrue, OnOk, None, length};
 ghost use Rattle.std.specs.Ordering.{is_gt};
 ghost use Rattle.mo_types.specs.Keys.{compare_keys};
-ghost use Rattle.patch.specs.Patched.{IsFirstFault};
-ghost use Rattle.patch.specs.Range.{AreWork, IsLeastFault, IsPlaced, IsSameBeside, IsWork, bytes_of, refs_of};
-ghost use Rattle.patch.specs.inner.Found.{IsBesideOne, IsLeastSo, lesser};
+ghost use Rattle.patch.specs.Patched.{AreFields, IsFirstFault};
+ghost use Rattle.patch.specs.Range.{AreStanding, HasFields, IsLeastFault, IsPatched, IsPlaced, IsSameBeside, IsStanding, bytes_of};
+ghost use Rattle.patch.specs.inner.Found.{IsBesideOne, IsLeastSo, IsOnePatched, lesser};
 
 use crate::atom::{patch_atom, write_fields};
+use crate::meeting::Meeting;
 use crate::met::{Met, RangeFault};
-use mo_types::{Atom, AtomKey, Loaded, LoadedFile};
+use crate::order::fields_are_apart;
+use mo_types::{Atom, AtomKey, Loaded, LoadedFile, OutOfMemory};
+use std::alloc::Global;
 
-/// An atom with its place in the image and its references.
+/// An atom with its place in the image.
 #[derive(Clone, Copy, Debug, PartialEq, Eq)]
 pub struct PlacedWork {
     pub atom: Atom,
@@ -21,10 +24,44 @@ pub struct PlacedWork {
     pub at: u64,
     /// Where they begin in memory.
     pub address: u64,
-    /// The place of its first reference among all that are met, counted from 0.
-    pub first: usize,
-    /// How many references it has.
-    pub count: usize,
+}
+
+/// Why atoms aren't placed.
+#[derive(Clone, Copy, Debug, PartialEq, Eq)]
+pub enum PatchFault {
+    /// A value doesn't fit its field: the first one of the atom with the least key.
+    Range { atom: AtomKey, fault: RangeFault },
+    /// Memory was asked for and refused, or the fields of an atom don't lie apart in its bytes.
+    OutOfMemory,
+}
+
+impl From<OutOfMemory> for PatchFault {
+    ghost use Rattle.std.specs.Prelude.{◌≡◌};
+    ghost use Rattle.patch.specs.declared.range.PatchFault.TheVariants as fault;
+
+    ghost from_gives = { λ _ e. e ≡ fault.OutOfMemory };
+
+    fn from(_e: OutOfMemory) -> PatchFault {
+        PatchFault::OutOfMemory
+    }
+}
+
+// Why one atom isn't placed.
+#[derive(Clone, Copy)]
+enum Trouble {
+    Range(RangeFault),
+    OutOfMemory,
+}
+
+impl From<OutOfMemory> for Trouble {
+    ghost use Rattle.std.specs.Prelude.{◌≡◌};
+    ghost use Rattle.patch.specs.declared.range.Trouble.TheVariants as trouble;
+
+    ghost from_gives = { λ _ e. e ≡ trouble.OutOfMemory };
+
+    fn from(_e: OutOfMemory) -> Trouble {
+        Trouble::OutOfMemory
+    }
 }
 
 // A fault with the atom that has it.
@@ -61,13 +98,18 @@ pub(crate) fn contents_of<'a>(files: &'a [LoadedFile], item: &PlacedWork) -> &'a
     }
 }
 
-// The references of an atom.
-#[tactic(auto, unfolding(crate::specs::Range::refs_of))]
-pub(crate) fn references_of<'a>(mets: &'a [Met], item: &PlacedWork) -> &'a [Met]
-    requires { item.now.first + item.now.count ≤ length mets.now }
-    ensures { result.now ≡ refs_of mets.now item.now }
+// The references of an atom, in place of those of another one.
+fn met_for<M: Meeting>(
+    meeting: &M,
+    item: &PlacedWork,
+    next: &mut usize,
+    mets: &mut Vec<Met>,
+) -> Result<(), OutOfMemory>
+    requires ready { M.ready meeting.now }
+    ensures { OnOk result (mets.new.items ≡ M.mets_of meeting.now item.now) }
 {
-    &mets[item.first..item.first + item.count]
+    mets.clear();
+    meeting.meet(item, next, mets)
 }
 
 // Writes the bytes of an atom with its fields. Only where a value doesn't fit, all are asked for the first fault.
@@ -79,67 +121,119 @@ fn place(
     files: &[LoadedFile],
     mets: &[Met],
 ) -> Result<(), RangeFault>
-    requires work { IsWork files.now mets.now from (length piece.old) item.now }
+    requires standing { IsStanding files.now from (length piece.old) item.now }
+    requires fields { AreFields item.now.address (length (bytes_of files.now item.now)) mets.now }
     ensures beside { IsBesideOne files.now from item.now piece.old piece.new }
-    ensures placed { OnOk result (IsPlaced files.now mets.now from piece.new item.now) }
-    ensures fault { IfErr result (IsFirstFault item.now.address (bytes_of files.now item.now) (refs_of mets.now item.now)) }
+    ensures placed { OnOk result (IsPlaced files.now (λ _. mets.now) from piece.new item.now) }
+    ensures fault { IfErr result (IsFirstFault item.now.address (bytes_of files.now item.now) mets.now) }
 {
     let contents = contents_of(files, item);
     let at = (item.at - from) as usize;
     let bytes = &mut piece[at..at + contents.len()];
-    let refs = references_of(mets, item);
     bytes.copy_from_slice(contents);
-    if write_fields(bytes, item.address, refs) {
+    if write_fields(bytes, item.address, mets) {
         return Ok(());
     }
     bytes.copy_from_slice(contents);
-    patch_atom(bytes, item.address, refs)
+    patch_atom(bytes, item.address, mets)
+}
+
+// Whether the fields of an atom's references lie apart in its bytes.
+fn has_fields(
+    alloc: Global,
+    item: &PlacedWork,
+    files: &[LoadedFile],
+    mets: &[Met],
+) -> Result<bool, OutOfMemory>
+    ensures { IfOk result (λ apart. IsTrue apart → AreFields item.now.address (length (bytes_of files.now item.now)) mets.now) }
+{
+    fields_are_apart(alloc, item.address, contents_of(files, item).len(), mets)
+}
+
+// Writes the bytes of an atom whose references are met first, in a list that held those of the one before it.
+#[tactic(auto, using(crate::proofs::RangeLemmas::ones))]
+fn place_next<M: Meeting>(
+    alloc: Global,
+    piece: &mut [u8],
+    from: u64,
+    item: &PlacedWork,
+    files: &[LoadedFile],
+    meeting: &M,
+    next: &mut usize,
+    mets: &mut Vec<Met>,
+) -> Result<(), Trouble>
+    requires ready { M.ready meeting.now }
+    requires standing { IsStanding files.now from (length piece.old) item.now }
+    ensures beside { IsBesideOne files.now from item.now piece.old piece.new }
+    ensures patched { IsOnePatched files.now (M.mets_of meeting.now) from piece.new item.now result }
+{
+    met_for(meeting, item, next, mets)?;
+    if !has_fields(alloc, item, files, mets.as_slice())? {
+        return Err(Trouble::OutOfMemory);
+    }
+    match place(piece, from, item, files, mets.as_slice()) {
+        Ok(()) => Ok(()),
+        Err(fault) => Err(Trouble::Range(fault)),
+    }
 }
 
 // Writes the bytes of atoms with their fields, and answers the first fault of the least key.
 #[tactic(auto, using(crate::proofs::RangeLemmas::ranges))]
-fn place_all(
+fn place_all<M: Meeting>(
+    alloc: Global,
     piece: &mut [u8],
     from: u64,
     work: &[PlacedWork],
     files: &[LoadedFile],
-    mets: &[Met],
-) -> Option<Fault>
-    requires work { AreWork files.now mets.now from (length piece.old) work.now }
+    meeting: &M,
+) -> Result<Option<Fault>, OutOfMemory>
+    requires ready { M.ready meeting.now }
+    requires work { AreStanding files.now from (length piece.old) work.now }
     ensures beside { IsSameBeside files.now from work.now piece.old piece.new }
-    ensures placed { result ≡ None → All (IsPlaced files.now mets.now from piece.new) work.now }
-    ensures fault { IsLeastSo files.now mets.now work.now result }
+    ensures fields { IfOk result (λ least. All (HasFields files.now (M.mets_of meeting.now)) work.now) }
+    ensures placed { IfOk result (λ least. least ≡ None → All (IsPlaced files.now (M.mets_of meeting.now) from piece.new) work.now) }
+    ensures fault { IfOk result (λ least. IsLeastSo files.now (M.mets_of meeting.now) work.now least) }
 {
     let mut least = None;
+    let mut next = 0;
+    let mut mets = Vec::new(alloc);
     for item in work {
-        if let Err(fault) = place(piece, from, item, files, mets) {
-            let key = item.atom.key;
-            least = lesser(least, Fault { key, fault });
+        match place_next(
+            alloc, piece, from, item, files, meeting, &mut next, &mut mets,
+        ) {
+            Ok(()) => {}
+            Err(Trouble::Range(fault)) => {
+                let key = item.atom.key;
+                least = lesser(least, Fault { key, fault });
+            }
+            Err(Trouble::OutOfMemory) => return Err(OutOfMemory),
         }
     }
-    least
+    Ok(least)
 }
 
 /// Writes the bytes of atoms, as their objects have them, with the fields of their references, each at its place in
 /// a piece of an image that begins at the offset `from` of its file, and leaves all other bytes.
 ///
 /// Where values don't fit their fields, it answers the first one of the atom with the least key; the bytes of the
-/// atoms' places are unstated then. It takes no memory.
+/// atoms' places are unstated then. It takes memory for the references of one atom at a time. Fields that don't lie
+/// apart in their atom's bytes are answered as want of memory.
 #[tactic(auto, using(crate::proofs::RangeLemmas::answers))]
-pub fn patch_range(
+pub fn patch_range<M: Meeting>(
+    alloc: Global,
     piece: &mut [u8],
     from: u64,
     work: &[PlacedWork],
     loaded: &Loaded,
-    mets: &[Met],
-) -> Result<(), (AtomKey, RangeFault)>
-    requires work { AreWork loaded.now.files mets.now from (length piece.old) work.now }
+    meeting: &M,
+) -> Result<(), PatchFault>
+    requires ready { M.ready meeting.now }
+    requires work { AreStanding loaded.now.files from (length piece.old) work.now }
     ensures beside { IsSameBeside loaded.now.files from work.now piece.old piece.new }
-    ensures placed { OnOk result (All (IsPlaced loaded.now.files mets.now from piece.new) work.now) }
-    ensures fault { IfErr result (λ fault. IsLeastFault loaded.now.files mets.now work.now fault.0 fault.1) }
+    ensures patched { IsPatched loaded.now.files (M.mets_of meeting.now) from work.now piece.new result }
 {
-    match place_all(piece, from, work, loaded.files.as_slice(), mets) {
-        Some(Fault { key, fault }) => Err((key, fault)),
+    match place_all(alloc, piece, from, work, loaded.files.as_slice(), meeting)? {
+        Some(Fault { key, fault }) => Err(PatchFault::Range { atom: key, fault }),
         None => Ok(()),
     }
 }

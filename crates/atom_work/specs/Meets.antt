@@ -1,0 +1,23 @@
+-- What the references of an image's atoms mean.
+use Rattle.std.specs.Prelude.{◌≡◌, List, map}
+use Rattle.goal_table.specs.Table.{goals_of}
+use Rattle.patch.specs.declared.met.Met.{Met}
+use Rattle.patch.specs.declared.range.PlacedWork.{PlacedWork}
+use Rattle.atom_work.specs.Addresses.{AreOnce, Scene}
+use Rattle.atom_work.specs.Rows.{kept_mets}
+use Rattle.atom_work.specs.declared.meeting.Meets.{Meets}
+use Rattle.atom_work.specs.inner.Orders.{AreOrders}
+use Rattle.atom_work.specs.inner.Told.{goal_told}
+
+-- no atom stands in two places, and what was looked up beforehand is of the files and goals
+pub record IsReady (meets : Meets) : Type 0 where
+  pub once : AreOnce meets.layout.now.placed
+  pub told : meets.addresses.items ≡ map (goal_told meets.base meets.layout.now.placed) meets.goals.now.pool
+  pub orders : AreOrders meets.files.now meets.orders
+
+abbrev pub scene_in : Meets → Scene
+scene_in meets = record { literals = meets.winners.now.literals; base = meets.base; placed = meets.layout.now.placed }
+
+-- the references of a placed atom
+abbrev pub met_by : Meets → PlacedWork → List Met
+met_by meets = kept_mets (scene_in meets) meets.files.now (goals_of meets.goals.now)
