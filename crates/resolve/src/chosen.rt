@@ -20,28 +20,18 @@ pub(crate) struct Chosen<'a> {
     pub align: u8,
 }
 
-fn chosen_of<'a>(best: &Best<'a>) -> Option<Chosen<'a>>
-    ensures { result ≡ bests.chosen_of best.now }
-{
-    match best.winner {
-        Some(found) => Some(Chosen {
-            found,
-            size: best.size,
-            align: best.align,
-        }),
-        None => None,
-    }
-}
-
 // Those of a table, with their keys.
 #[tactic(auto, using(crate::proofs::ChosenLemmas::choosing))]
-fn chosen_in<'a>(alloc: Global, table: &[Best<'a>]) -> Result<Vec<Keyed<'a>>, OutOfMemory>
+fn chosen_in<'t, 'a>(
+    alloc: Global,
+    table: &'t [Best<'a>],
+) -> Result<Vec<Keyed<'t, 'a>>, OutOfMemory>
     ensures { IfOk result (λ list. list.items ≡ filter_map bests.chosen_of table.now) }
 {
     let mut list = Vec::new(alloc);
     for best in table {
-        if let Some(chosen) = chosen_of(best) {
-            list.push(Keyed::new(chosen))?;
+        if let Some(keyed) = Keyed::of(best) {
+            list.push(keyed)?;
         }
     }
     Ok(list)
@@ -56,7 +46,7 @@ fn put_in_order(list: &mut Vec<Keyed>)
 
 // The candidates alone, in the order in which they stand.
 #[tactic(auto, using(crate::proofs::ChosenLemmas::taking_out))]
-fn without_keys<'a>(alloc: Global, list: &[Keyed<'a>]) -> Result<Vec<Chosen<'a>>, OutOfMemory>
+fn without_keys<'a>(alloc: Global, list: &[Keyed<'_, 'a>]) -> Result<Vec<Chosen<'a>>, OutOfMemory>
     ensures { IfOk result (λ chosen. chosen.items ≡ list.now) }
 {
     let mut chosen = Vec::with_capacity(alloc, list.len())?;

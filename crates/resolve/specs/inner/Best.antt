@@ -1,5 +1,5 @@
 -- How the code finds the winners.
-use Rattle.std.specs.Prelude.{◌≡◌, ℕ, ◌<◌, ◌==◌, Bool, true, max, List, map, fold, get_or, length, Option, Some, None, if◌then◌else◌}
+use Rattle.std.specs.Prelude.{◌≡◌, ◌≢◌, refl, ℕ, ◌<◌, ◌==◌, Bool, true, max, List, map, fold, get_or, length, Option, Some, None, if◌then◌else◌}
 use Rattle.std.specs.List.{AllByRecursion, find}
 use Rattle.std.specs.Option.{option_map}
 use Rattle.mo_cmd.specs.declared.command.Command.{Command}
@@ -59,6 +59,11 @@ AreCandidates fs = AllByRecursion (λ f. IsCandidateOf (found_of f)) fs
 -- a winner with what is known of the common symbols of its name
 abbrev pub chosen_of : Best → Option Chosen
 chosen_of best = option_map (λ f. record { found = f; size = best.size; align = best.align }) best.winner
+
+-- that of what has one
+unfoldable pub the_chosen : (chosen : Option Chosen) → chosen ≢ None → Chosen
+the_chosen None has = absurd (has refl)
+the_chosen (Some chosen) has = chosen
 
 abbrev pub chosen_name : Chosen → List ℕ
 chosen_name c = c.found.symbol.now.name
