@@ -5,6 +5,7 @@ use Rattle.std.specs.Ordering.{nat_cmp, ordering_then, ordering_reverse}
 use Rattle.std.specs.Cmp.Lexicographic.{slice_cmp, nat_list_cmp_total}
 use Rattle.std.proofs.lemmas.Nat.{pow-add, row_fits}
 use Rattle.std.proofs.Math.Nat.{pow-le-pow_right}
+use Rattle.std.specs.Int.{from_be_bytes, w64}
 use Rattle.resolve.specs.declared.front.Front.{Front}
 use Rattle.resolve.specs.inner.Front.{AreBytes, IsFrontOf, front_number}
 
@@ -88,6 +89,12 @@ front_start xs = refl
 
 pub front_next : (n number byte : ℕ) (xs : List ℕ) → number ≡ front_number n xs → byte ≡ get_or xs n 0 → number * 256 + byte ≡ front_number (n + 1) xs
 front_next n number byte xs is read = rw (is, read, add-one n) (sym (front_more n xs))
+
+-- the bytes themselves, at their places
+pub eight_bytes : (xs : List ℕ) → from_be_bytes w64 (get_or xs 0 0 ∷ get_or xs 1 0 ∷ get_or xs 2 0 ∷ get_or xs 3 0 ∷ get_or xs 4 0 ∷ get_or xs 5 0 ∷ get_or xs 6 0 ∷ get_or xs 7 0 ∷ []) ≡ front_number 8 xs
+eight_bytes xs =
+    let none : front_number 0 xs ≡ 0 = sym (front_start xs) in
+    omega (arith, none, front_more 0 xs, front_more 1 xs, front_more 2 xs, front_more 3 xs, front_more 4 xs, front_more 5 xs, front_more 6 xs, front_more 7 xs)
 
 pub ruleset numbering = (front_start, front_next, product_fits, front_fits)
 

@@ -28,7 +28,7 @@ fn chosen_in<'t, 'a>(
 ) -> Result<Vec<Keyed<'t, 'a>>, OutOfMemory>
     ensures { IfOk result (λ list. list.items ≡ filter_map bests.chosen_of table.now) }
 {
-    let mut list = Vec::new(alloc);
+    let mut list = Vec::with_capacity(alloc, table.len())?;
     for best in table {
         if let Some(keyed) = Keyed::of(best) {
             list.push(keyed)?;
@@ -56,15 +56,15 @@ fn without_keys<'a>(alloc: Global, list: &[Keyed<'_, 'a>]) -> Result<Vec<Chosen<
     Ok(chosen)
 }
 
-/// Those of a table, in the byte order of their names.
+/// Those of a table, which is let go, in the byte order of their names.
 pub(crate) fn chosen_by_name<'a>(
     alloc: Global,
-    table: &[Best<'a>],
+    table: Vec<Best<'a>>,
 ) -> Result<Vec<Chosen<'a>>, OutOfMemory>
-    ensures permutation { IfOk result (λ list. IsPermutation (filter_map bests.chosen_of table.now) list.items) }
+    ensures permutation { IfOk result (λ list. IsPermutation (filter_map bests.chosen_of table.entry.items) list.items) }
     ensures sorted { IfOk result (λ list. IsSortedBy (λ a b. is_lt (slice_cmp nat_cmp (bests.chosen_name a) (bests.chosen_name b))) list.items) }
 {
-    let mut list = chosen_in(alloc, table)?;
+    let mut list = chosen_in(alloc, table.as_slice())?;
     put_in_order(&mut list);
     without_keys(alloc, list.as_slice())
 }

@@ -26,9 +26,9 @@ fn byte_at(name: &[u8], at: usize) -> u8
     if at < name.len() { name[at] } else { 0 }
 }
 
-// The first eight bytes as one number.
+// The first eight bytes of a shorter name, with zeros behind it, as one number.
 #[tactic(auto, using(crate::proofs::FrontLemmas::numbering))]
-fn number_of(name: &[u8]) -> u64
+fn number_of_few(name: &[u8]) -> u64
     ensures { result ≡ front_number 8 name.now }
 {
     let mut number = 0;
@@ -36,6 +36,18 @@ fn number_of(name: &[u8]) -> u64
         number = number * 256 + u64::from(byte_at(name, i));
     }
     number
+}
+
+// The first eight bytes as one number.
+fn number_of(name: &[u8]) -> u64
+    ensures { result ≡ front_number 8 name.now }
+{
+    if name.len() < WIDTH {
+        return number_of_few(name);
+    }
+    u64::from_be_bytes([
+        name[0], name[1], name[2], name[3], name[4], name[5], name[6], name[7],
+    ])
 }
 
 // The bytes from a place on.

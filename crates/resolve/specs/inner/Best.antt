@@ -14,7 +14,8 @@ use Rattle.resolve.specs.declared.best.Best.{Best}
 use Rattle.resolve.specs.declared.chosen.Chosen.{Chosen}
 use Rattle.resolve.specs.declared.found.FoundIn.{FoundIn}
 use Rattle.resolve.specs.declared.winner.Winner.{Winner}
-use Rattle.resolve.specs.inner.Tables.{found_of, table_of}
+use Rattle.resolve.specs.inner.Numbers.{AreNumbered}
+use Rattle.resolve.specs.inner.Tables.{found_of, held, table_of}
 
 -- a candidate has the least word of its name
 abbrev pub candidate_wins : List LoadedFile → FoundIn → Bool
@@ -44,6 +45,13 @@ held_name f = f.symbol.now.name
 -- for each name what is held of its candidates among some
 pub record AreBests (files : List LoadedFile) (names : List (List ℕ)) (fs : List FoundIn) (table : List Best) : Type 0 where
   pub are : table ≡ table_of (best_of files) held_name names fs
+
+-- for each name what is held of its candidates, of some that have the numbers of their names
+pub record HasBests (files : List LoadedFile) (names : List (List ℕ)) (all : List Found) (table : List Best) : Type 0 where
+  pub fs : List FoundIn
+  pub held_is : held fs ≡ all
+  pub numbered : AreNumbered names fs
+  pub bests : AreBests files names fs table
 
 -- a candidate stands at its index in a whole file
 pub record IsCandidateOf (f : Found) : Type 0 where
