@@ -1,11 +1,11 @@
 -- The winning candidates of a table, one by one.
-use Rattle.std.proofs.Common.{◌≡◌, ℕ, ◌+◌, ◌<◌, ◌≤◌, List, [], ◌∷◌, ◌++◌, length, take, get_or, refl, sym, ap, ◌∙◌, Some, None}
+use Rattle.std.proofs.Common.{◌≡◌, ℕ, ◌+◌, ◌<◌, ◌≤◌, List, [], ◌∷◌, ◌++◌, length, take, get_or, refl, sym, ap, ◌∙◌, Some, None, ◌≢◌}
 use Rattle.std.specs.Prelude.{Option}
 use Rattle.std.specs.List.{filter_map}
 use Rattle.std.proofs.lemmas.List.{take_all, take_more}
 use Rattle.resolve.specs.declared.best.Best.{Best}
 use Rattle.resolve.specs.declared.chosen.Chosen.{Chosen}
-use Rattle.resolve.specs.inner.Best.{chosen_of}
+use Rattle.resolve.specs.inner.Best.{chosen_of, the_chosen}
 
 pub filter_map_more : {X Y : Type 0} (f : X → Option Y) (xs : List X) (x : X) (y : Y) → f x ≡ Some y → filter_map f (xs ++ x ∷ []) ≡ filter_map f xs ++ y ∷ []
 filter_map_more f [] x y is = rw is refl
@@ -39,6 +39,20 @@ pub chosen_end : (list : List Chosen) (table : List Best) (i : ℕ) → length t
 chosen_end list table i past before = before ∙ ap (filter_map chosen_of) (take_all i table past)
 
 pub ruleset choosing = (chosen_start, chosen_add, chosen_pass, chosen_end)
+
+-- ---- what has a winner
+
+pub chosen_there : (chosen : Option Chosen) (has : chosen ≢ None) → Some (the_chosen chosen has) ≡ chosen
+unfolding the_chosen
+chosen_there None has = absurd (has refl)
+chosen_there (Some chosen) has = refl
+
+pub the_chosen_is : (chosen : Option Chosen) (has : chosen ≢ None) (one : Chosen) → Some one ≡ chosen → one ≡ the_chosen chosen has
+unfolding the_chosen
+the_chosen_is None has one is = cc
+the_chosen_is (Some chosen) has one is = cc
+
+pub ruleset sures = (chosen_there, the_chosen_is)
 
 -- a list taken out one by one
 pub out_start : {X : Type 0} (out list : List X) → out ≡ [] → out ≡ take 0 list

@@ -15,7 +15,7 @@ use Rattle.resolve.specs.declared.best.Best.{Best}
 use Rattle.resolve.specs.declared.chosen.Chosen.{Chosen}
 use Rattle.resolve.specs.declared.found.FoundIn.{FoundIn}
 use Rattle.resolve.specs.declared.winner.Winner.{Winner}
-use Rattle.resolve.specs.inner.Best.{AreBests, chosen_name, chosen_of, winner_chosen}
+use Rattle.resolve.specs.inner.Best.{AreBests, HasBests, chosen_name, chosen_of, winner_chosen}
 use Rattle.resolve.specs.inner.Tables.{held}
 use Rattle.resolve.proofs.WinnerLemmas.{AreThose, each_winner, rising, table_chosen}
 
@@ -35,6 +35,5 @@ winners_are command files names fs chosen list are apart sorted is = record {
   each = each_winner command files names fs chosen list are is;
 }
 
-pub all_those : (files read : List LoadedFile) (names : List (List ℕ)) (found_ones fs : List FoundIn) (table tables : List Best) (chosen : List Chosen) → AreNamed names files → read ≡ files → fs ≡ found_ones → held found_ones ≡ found read → AreBests files names fs table → tables ≡ table → IsPermutation (filter_map chosen_of tables) chosen → AreThose files names fs chosen
-all_those files read names found_ones fs table tables chosen named e f is bests g order =
-    those files names fs table chosen named (ap held f ∙ is ∙ ap found e) bests (rw g at order)
+pub all_those : (files read : List LoadedFile) (names : List (List ℕ)) (table : List Best) (chosen : List Chosen) (has : HasBests files names (found read) table) → AreNamed names files → read ≡ files → IsPermutation (filter_map chosen_of table) chosen → AreThose files names has.fs chosen
+all_those files read names table chosen has named e order = those files names has.fs table chosen named (has.held_is ∙ ap found e) has.bests order

@@ -13,6 +13,7 @@ pub mod SetLemmas
 pub mod BestLemmas
 pub mod ChosenLemmas
 pub mod TableSteps
+pub mod UntilLemmas
 pub mod ListSteps
 pub mod IndexSteps
 pub mod CandidateLemmas

@@ -1,16 +1,15 @@
 -- What is held of the candidates of each name, candidate by candidate.
-use Rattle.std.proofs.Common.{◌≡◌, ℕ, zero, suc, ◌+◌, ◌<◌, ◌≤◌, Bool, true, false, List, [], ◌∷◌, ◌++◌, length, map, take, replicate, get_or, position, refl, sym, ap, ◌∙◌, arith, Some}
+use Rattle.std.proofs.Common.{◌≡◌, ℕ, suc, ◌<◌, Bool, true, false, List, [], ◌∷◌, length, map, take, replicate, get_or, position, refl, sym, ap, ◌∙◌, arith, Some}
 use Rattle.std.specs.List.{position_or_len}
 use Rattle.std.specs.Str.{bytes_eq}
-use Rattle.std.proofs.lemmas.List.{take_all, take_more}
 use Rattle.std.proofs.lemmas.Slice.Eq.{bytes_eq-Decides}
 use Rattle.mo_types.specs.Candidates.{least}
 use Rattle.mo_types.specs.declared.loaded.LoadedFile.{LoadedFile}
 use Rattle.resolve.specs.Winners.{AreLeast}
 use Rattle.resolve.specs.declared.best.Best.{Best}
 use Rattle.resolve.specs.declared.found.FoundIn.{FoundIn}
-use Rattle.resolve.specs.inner.Best.{AreBests, AreCandidates, IsCandidateOf, best_of, held_name, nothing}
-use Rattle.resolve.specs.inner.Tables.{found_of, table_of}
+use Rattle.resolve.specs.inner.Best.{AreBests, best_of, held_name, nothing}
+use Rattle.resolve.specs.inner.Tables.{table_of}
 use Rattle.resolve.proofs.BestLemmas.{none_best}
 use Rattle.resolve.proofs.TableLemmas.{some_position}
 
@@ -38,17 +37,3 @@ none_yet files (name ∷ names) = rw (sym (none_best files)) (ap (λ (bs : List 
 
 pub bests_start : (files : List LoadedFile) (names : List (List ℕ)) (table : List Best) (fs : List FoundIn) (n : ℕ) (none : Best) → none ≡ nothing → n ≡ length names → table ≡ replicate n none → AreBests files names (take 0 fs) table
 bests_start files names table fs n none is count made = record { are = made ∙ ap (λ k. replicate k none) count ∙ ap (replicate (length names)) is ∙ none_yet files names }
-
-pub bests_step : (files : List LoadedFile) (names : List (List ℕ)) (table : List Best) (fs : List FoundIn) (i : ℕ) (f d : FoundIn) → i < length fs → f ≡ get_or fs i d → AreBests files names (take i fs ++ f ∷ []) table → AreBests files names (take (i + 1) fs) table
-bests_step files names table fs i f d low is are = rw (take_more fs i d low ∙ ap (λ x. take i fs ++ x ∷ []) (sym is)) are
-
-pub bests_end : (files : List LoadedFile) (names : List (List ℕ)) (table : List Best) (fs : List FoundIn) (i : ℕ) → length fs ≤ i → AreBests files names (take i fs) table → AreBests files names fs table
-bests_end files names table fs i past are = rw (take_all i fs past) at are
-
-pub candidate_at : (fs : List FoundIn) (i : ℕ) (f d : FoundIn) → AreCandidates fs → i < length fs → f ≡ get_or fs i d → IsCandidateOf (found_of f)
-candidate_at fs i f d all low is = rw is (at fs i all low)
-  where
-    at : (fs : List FoundIn) (i : ℕ) → AreCandidates fs → i < length fs → IsCandidateOf (found_of (get_or fs i d))
-    at [] i all low = absurd (omega arith)
-    at (g ∷ gs) zero all low = all.0
-    at (g ∷ gs) (suc i) all low = at gs i all.1 (omega (arith, low))

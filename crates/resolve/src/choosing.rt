@@ -1,28 +1,30 @@
 //! The winners of all names.
-ghost use Rattle.std.specs.Prelude.{◌≡◌, ◌≤◌, ◌<◌, ◌++◌, ◌∷◌, ℕ, [], List, Some, IfOk, length, map, position};
+ghost use Rattle.std.specs.Prelude.{◌≡◌, ◌≤◌, ◌<◌, ◌++◌, ◌∷◌, ℕ, [], List, Some, All, IfOk, length, map, position};
 ghost use Rattle.std.specs.List.{AllByRecursion};
 ghost use Rattle.std.specs.Str.{bytes_eq};
 ghost use Rattle.mo_cmd.specs.declared.command.Command.{Command as Commanded};
-ghost use Rattle.mo_types.specs.declared.loaded.LoadedFile.{LoadedFile};
-ghost use Rattle.name_ids.specs.Names.{IsNumbering};
+ghost use Rattle.mo_types.specs.Loaded.{IsWholeFile};
+ghost use Rattle.mo_types.specs.declared.loaded.LoadedFile.{LoadedFile as Loads};
+ghost use Rattle.name_ids.specs.Names.{IsNumbering, numbers_in, numbers_of};
+ghost use Rattle.resolve.specs.Found.{Found, found, found_in};
 ghost use Rattle.resolve.specs.Places as places;
 ghost use Rattle.resolve.specs.Winners as winners;
 ghost use Rattle.resolve.specs.Winners.{AreLeast};
 ghost use Rattle.resolve.specs.declared.found.FoundIn.{FoundIn as Held};
-ghost use Rattle.resolve.specs.inner.Best.{AreBests, AreCandidates, AreChosen, IsCandidateOf, candidate_wins, winner_chosen};
+ghost use Rattle.resolve.specs.inner.Best.{AreBests, AreChosen, HasBests, IsCandidateOf, candidate_wins, winner_chosen};
 ghost use Rattle.resolve.specs.inner.Index.{AreRules, IsIndexOf};
-ghost use Rattle.resolve.specs.inner.Numbers.{AreNumbered, IsListed, IsNumbered};
+ghost use Rattle.resolve.specs.inner.Numbers.{IsListed, IsNumbered};
 ghost use Rattle.resolve.specs.inner.Tables.{found_of};
 
 use crate::best::Best;
 use crate::chosen::Chosen;
 use crate::exports::{ExportRules, is_exported};
-use crate::found::FoundIn;
+use crate::found::{FoundIn, number_at, numbers_at};
 use crate::name_index::NameIndex;
 use crate::places::{Place, place_of};
 use crate::winner::Winner;
-use mo_types::{AtomKey, OutOfMemory, SymbolKind};
-use name_ids::NameTable;
+use mo_types::{AtomKey, Items, LoadedFile, OutOfMemory, SymbolKind};
+use name_ids::{NameTable, NumberList};
 use std::alloc::Global;
 
 // Whether a candidate has the least word of its name, by the name's number.
@@ -30,7 +32,7 @@ use std::alloc::Global;
 fn wins(words: &[u64], id: u32, candidate: FoundIn) -> bool
     requires words { id < length words.now }
     requires candidate { IsCandidateOf (found_of candidate) }
-    ensures { (files : List LoadedFile) (names : List (List ℕ)) → AreLeast files names words.now → position (bytes_eq candidate.entry.symbol.now.name) names ≡ Some id → result ≡ candidate_wins files candidate.entry }
+    ensures { (files : List Loads) (names : List (List ℕ)) → AreLeast files names words.now → position (bytes_eq candidate.entry.symbol.now.name) names ≡ Some id → result ≡ candidate_wins files candidate.entry }
 {
     candidate.file.id.word_of(candidate.index, candidate.symbol) == words[id as usize]
 }
@@ -43,7 +45,7 @@ fn note<'a>(table: &mut Vec<Best<'a>>, names: &NameTable, words: &[u64], candida
     requires candidate { IsCandidateOf (found_of candidate) }
     requires numbered { IsNumbered names.now candidate }
     ensures size { length table.new.items ≡ length table.old.items }
-    ensures bests { (files : List LoadedFile) (fs : List Held) → AreLeast files names.now words.now → AreBests files names.now fs table.old.items → AreBests files names.now (fs ++ candidate.entry ∷ []) table.new.items }
+    ensures bests { (files : List Loads) (fs : List Held) → AreLeast files names.now words.now → AreBests files names.now fs table.old.items → AreBests files names.now (fs ++ candidate.entry ∷ []) table.new.items }
 {
     if let Some(id) = names.id_of_number(candidate.number) {
         let wins = wins(words, id, candidate);
@@ -52,22 +54,55 @@ fn note<'a>(table: &mut Vec<Best<'a>>, names: &NameTable, words: &[u64], candida
     }
 }
 
+// Notes the candidates of a file, whose names have these numbers.
+#[tactic(auto, using(crate::proofs::UntilLemmas::bests_noted))]
+fn note_file<'a>(
+    table: &mut Vec<Best<'a>>,
+    names: &NameTable,
+    words: &[u64],
+    file: &'a LoadedFile,
+    numbers: &[u32],
+)
+    requires whole { IsWholeFile file.now }
+    requires numbering { IsNumbering names.now }
+    requires table { length table.old.items ≡ length names.now }
+    requires words { length words.now ≡ length names.now }
+    requires numbers { numbers.now ≡ numbers_in names.now file.now }
+    ensures size { length table.new.items ≡ length table.old.items }
+    ensures bests { (files : List Loads) (all : List Found) → AreLeast files names.now words.now → HasBests files names.now all table.old.items → HasBests files names.now (all ++ found_in file.now) table.new.items }
+{
+    for (i, symbol) in file.object.symbols.as_slice().iter().enumerate() {
+        if file.object.is_candidate(symbol) {
+            let candidate = FoundIn {
+                file,
+                index: i as u32,
+                number: number_at(numbers, i),
+                symbol,
+            };
+            note(table, names, words, candidate);
+        }
+    }
+}
+
 /// What is held of the candidates of each name, by its number.
+#[tactic(auto, using(crate::proofs::UntilLemmas::bests_noted))]
 pub(crate) fn bests_of<'a>(
     alloc: Global,
     names: &NameTable,
     words: &[u64],
-    found: &[FoundIn<'a>],
+    files: &'a [LoadedFile],
+    numbers: &Items<NumberList>,
 ) -> Result<Vec<Best<'a>>, OutOfMemory>
+    requires whole { All IsWholeFile files.now }
     requires words { length words.now ≡ length names.now }
-    requires candidates { AreCandidates found.now }
-    requires numbered { AreNumbered names.now found.now }
-    ensures bests { IfOk result (λ table. (files : List LoadedFile) → AreLeast files names.now words.now → AreBests files names.now found.now table.items) }
+    requires numbers { numbers.now ≡ numbers_of names.now files.now }
+    ensures bests { IfOk result (λ table. (loaded : List Loads) → AreLeast loaded names.now words.now → HasBests loaded names.now (found files.now) table.items) }
     ensures numbering { IsNumbering names.now }
 {
+    let lists = numbers.as_slice();
     let mut table = vec![in alloc; Best::none(); names.len() as usize]?;
-    for candidate in found {
-        note(&mut table, names, words, *candidate);
+    for (i, file) in files.iter().enumerate() {
+        note_file(&mut table, names, words, file, numbers_at(lists, i));
     }
     Ok(table)
 }

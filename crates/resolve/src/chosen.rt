@@ -20,28 +20,18 @@ pub(crate) struct Chosen<'a> {
     pub align: u8,
 }
 
-fn chosen_of<'a>(best: &Best<'a>) -> Option<Chosen<'a>>
-    ensures { result ≡ bests.chosen_of best.now }
-{
-    match best.winner {
-        Some(found) => Some(Chosen {
-            found,
-            size: best.size,
-            align: best.align,
-        }),
-        None => None,
-    }
-}
-
 // Those of a table, with their keys.
 #[tactic(auto, using(crate::proofs::ChosenLemmas::choosing))]
-fn chosen_in<'a>(alloc: Global, table: &[Best<'a>]) -> Result<Vec<Keyed<'a>>, OutOfMemory>
+fn chosen_in<'t, 'a>(
+    alloc: Global,
+    table: &'t [Best<'a>],
+) -> Result<Vec<Keyed<'t, 'a>>, OutOfMemory>
     ensures { IfOk result (λ list. list.items ≡ filter_map bests.chosen_of table.now) }
 {
-    let mut list = Vec::new(alloc);
+    let mut list = Vec::with_capacity(alloc, table.len())?;
     for best in table {
-        if let Some(chosen) = chosen_of(best) {
-            list.push(Keyed::new(chosen))?;
+        if let Some(keyed) = Keyed::of(best) {
+            list.push(keyed)?;
         }
     }
     Ok(list)
@@ -56,7 +46,7 @@ fn put_in_order(list: &mut Vec<Keyed>)
 
 // The candidates alone, in the order in which they stand.
 #[tactic(auto, using(crate::proofs::ChosenLemmas::taking_out))]
-fn without_keys<'a>(alloc: Global, list: &[Keyed<'a>]) -> Result<Vec<Chosen<'a>>, OutOfMemory>
+fn without_keys<'a>(alloc: Global, list: &[Keyed<'_, 'a>]) -> Result<Vec<Chosen<'a>>, OutOfMemory>
     ensures { IfOk result (λ chosen. chosen.items ≡ list.now) }
 {
     let mut chosen = Vec::with_capacity(alloc, list.len())?;
@@ -66,15 +56,15 @@ fn without_keys<'a>(alloc: Global, list: &[Keyed<'a>]) -> Result<Vec<Chosen<'a>>
     Ok(chosen)
 }
 
-/// Those of a table, in the byte order of their names.
+/// Those of a table, which is let go, in the byte order of their names.
 pub(crate) fn chosen_by_name<'a>(
     alloc: Global,
-    table: &[Best<'a>],
+    table: Vec<Best<'a>>,
 ) -> Result<Vec<Chosen<'a>>, OutOfMemory>
-    ensures permutation { IfOk result (λ list. IsPermutation (filter_map bests.chosen_of table.now) list.items) }
+    ensures permutation { IfOk result (λ list. IsPermutation (filter_map bests.chosen_of table.entry.items) list.items) }
     ensures sorted { IfOk result (λ list. IsSortedBy (λ a b. is_lt (slice_cmp nat_cmp (bests.chosen_name a) (bests.chosen_name b))) list.items) }
 {
-    let mut list = chosen_in(alloc, table)?;
+    let mut list = chosen_in(alloc, table.as_slice())?;
     put_in_order(&mut list);
     without_keys(alloc, list.as_slice())
 }

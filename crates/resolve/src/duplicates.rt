@@ -1,19 +1,18 @@
 //! Names that two strong definitions have.
-ghost use Rattle.std.specs.Prelude.{◌≡◌, ◌<◌, ◌∷◌, ◌++◌, true, [], List, length, IfOk, IfSome};
-ghost use Rattle.mo_types.specs.Candidates.{Candidate};
+ghost use Rattle.std.specs.Prelude.{◌≡◌, ◌<◌, ◌==◌, ◌&&◌, ◌∷◌, ◌++◌, true, [], List, length, IfOk, IfSome};
+ghost use Rattle.mo_types.specs.Candidates.{Candidate, is_candidate, strength};
 ghost use Rattle.mo_types.specs.Loaded.{IsWholeLoaded};
-ghost use Rattle.name_ids.specs.Names.{IsNumbering, number_of, numbers_of};
-ghost use Rattle.resolve.specs.Found.{AreNamed};
+ghost use Rattle.name_ids.specs.Names.{IsNumbering, number_of, numbers_in, numbers_of};
+ghost use Rattle.resolve.specs.Found.{AreNamed, Found, found, found_in};
 ghost use Rattle.resolve.specs.Duplicates.{IsDuplicate};
-ghost use Rattle.resolve.specs.inner.Numbers.{AreNumbered};
-ghost use Rattle.resolve.specs.inner.Tables.{AreFirsts, IsLeastOf, better_of, held, name_at, strong_among};
+ghost use Rattle.resolve.specs.inner.Tables.{AreFirsts, IsLeastOf, better_of, name_at, strong_among};
 ghost use Rattle.resolve.specs.inner.Tables as tables;
 ghost use Rattle.std.specs.Ordering.{is_gt, nat_cmp};
 ghost use Rattle.std.specs.Cmp.Lexicographic.{slice_cmp};
 
 use crate::firsts::Firsts;
-use crate::found::{FoundIn, candidates};
-use mo_types::{FileId, Items, Loaded, OutOfMemory};
+use crate::found::{number_at, numbers_at};
+use mo_types::{FileId, Items, Loaded, LoadedFile, OutOfMemory, Symbol};
 use name_ids::{NameTable, NumberList};
 use std::alloc::Global;
 
@@ -21,7 +20,8 @@ use std::alloc::Global;
 fn note(table: &mut Vec<Firsts>, names: &NameTable, number: u32, file: FileId)
     requires numbering { IsNumbering names.now }
     requires table { length table.old.items ≡ length names.now }
-    ensures { (cs : List Candidate) (c : Candidate) → c.file ≡ file → c.symbol.external ≡ true → number ≡ number_of names.now c.symbol → AreFirsts names.now cs table.old.items → AreFirsts names.now (cs ++ c ∷ []) table.new.items }
+    ensures size { length table.new.items ≡ length table.old.items }
+    ensures firsts { (cs : List Candidate) (c : Candidate) → c.file ≡ file → c.symbol.external ≡ true → number ≡ number_of names.now c.symbol → AreFirsts names.now cs table.old.items → AreFirsts names.now (cs ++ c ∷ []) table.new.items }
 {
     if let Some(id) = names.id_of_number(number) {
         let place = &mut table[id as usize];
@@ -29,22 +29,45 @@ fn note(table: &mut Vec<Firsts>, names: &NameTable, number: u32, file: FileId)
     }
 }
 
+// Whether a symbol of a file is a strong candidate.
+fn is_strong(file: &LoadedFile, symbol: &Symbol) -> bool
+    ensures { result ≡ (is_candidate file.now.object.sections symbol.now && strength symbol.now == 0) }
+{
+    file.object.is_candidate(symbol) && symbol.strength() == 0
+}
+
+// Notes the strong candidates of a file, whose names have these numbers.
+#[tactic(auto, using(crate::proofs::UntilLemmas::firsts_noted))]
+fn note_file(table: &mut Vec<Firsts>, names: &NameTable, file: &LoadedFile, numbers: &[u32])
+    requires numbering { IsNumbering names.now }
+    requires table { length table.old.items ≡ length names.now }
+    requires numbers { numbers.now ≡ numbers_in names.now file.now }
+    ensures size { length table.new.items ≡ length table.old.items }
+    ensures firsts { (all : List Found) → AreFirsts names.now (strong_among all) table.old.items → AreFirsts names.now (strong_among (all ++ found_in file.now)) table.new.items }
+{
+    for (i, symbol) in file.object.symbols.as_slice().iter().enumerate() {
+        if is_strong(file, symbol) {
+            note(table, names, number_at(numbers, i), file.id);
+        }
+    }
+}
+
 // For each name the first two of its strong candidates.
-#[tactic(auto, using(crate::proofs::StrongLemmas::strongs))]
+#[tactic(auto, using(crate::proofs::UntilLemmas::firsts_noted))]
 fn firsts_of(
     alloc: Global,
     names: &NameTable,
-    found: &[FoundIn],
+    files: &[LoadedFile],
+    numbers: &Items<NumberList>,
 ) -> Result<Vec<Firsts>, OutOfMemory>
-    requires { AreNumbered names.now found.now }
-    ensures firsts { IfOk result (λ table. AreFirsts names.now (strong_among (held found.now)) table.items) }
+    requires { numbers.now ≡ numbers_of names.now files.now }
+    ensures firsts { IfOk result (λ table. AreFirsts names.now (strong_among (found files.now)) table.items) }
     ensures numbering { IsNumbering names.now }
 {
+    let lists = numbers.as_slice();
     let mut table = vec![in alloc; Firsts::Neither; names.len() as usize]?;
-    for candidate in found {
-        if candidate.symbol.strength() == 0 {
-            note(&mut table, names, candidate.number, candidate.file.id);
-        }
+    for (i, file) in files.iter().enumerate() {
+        note_file(&mut table, names, file, numbers_at(lists, i));
     }
     Ok(table)
 }
@@ -111,7 +134,6 @@ pub fn duplicate(
     requires numbers { numbers.now ≡ numbers_of names.now loaded.now.files }
     ensures { IfOk result (λ found. IsDuplicate loaded.now.files names.now found) }
 {
-    let found = candidates(alloc, loaded.files.as_slice(), numbers)?;
-    let table = firsts_of(alloc, names, found.as_slice())?;
+    let table = firsts_of(alloc, names, loaded.files.as_slice(), numbers)?;
     Ok(least_pair(names, table.as_slice()))
 }

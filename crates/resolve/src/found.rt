@@ -21,8 +21,8 @@ pub(crate) struct FoundIn<'a> {
     pub symbol: &'a Symbol,
 }
 
-// The number at a place.
-fn number_at(numbers: &[u32], at: usize) -> u32
+/// The number at a place.
+pub(crate) fn number_at(numbers: &[u32], at: usize) -> u32
     ensures { result ≡ get_or numbers.now at NO_NAME }
 {
     match numbers.get(at) {
@@ -31,8 +31,8 @@ fn number_at(numbers: &[u32], at: usize) -> u32
     }
 }
 
-// The numbers at a place.
-fn numbers_at(lists: &[NumberList], at: usize) -> &[u32]
+/// The numbers at a place.
+pub(crate) fn numbers_at(lists: &[NumberList], at: usize) -> &[u32]
     ensures { result.now ≡ get_or lists.now at [] }
 {
     match lists.get(at) {

@@ -9,7 +9,6 @@ ghost use Rattle.resolve.specs.Winners.{AreLeast};
 use crate::choosing::{bests_of, index_of, winners_of};
 use crate::chosen::chosen_by_name;
 use crate::exports::rules_of;
-use crate::found::candidates;
 use crate::groups::representatives;
 use crate::known::Winners;
 use crate::name_set::set_of;
@@ -37,9 +36,8 @@ pub fn winners<'a>(
     ensures names { IfOk result (λ winners. winners.names ≡ names.entry.now) }
 {
     let files = loaded.files.as_slice();
-    let found = candidates(alloc, files, numbers)?;
-    let table = bests_of(alloc, names, words, found.as_slice())?;
-    let chosen = chosen_by_name(alloc, table.as_slice())?;
+    let table = bests_of(alloc, names, words, files, numbers)?;
+    let chosen = chosen_by_name(alloc, table)?;
     let rules = rules_of(alloc, command)?;
     let list = winners_of(alloc, chosen.as_slice(), &rules)?;
     let index = index_of(alloc, names, chosen.as_slice())?;

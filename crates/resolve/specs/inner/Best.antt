@@ -1,5 +1,5 @@
 -- How the code finds the winners.
-use Rattle.std.specs.Prelude.{◌≡◌, ℕ, ◌<◌, ◌==◌, Bool, true, max, List, map, fold, get_or, length, Option, Some, None, if◌then◌else◌}
+use Rattle.std.specs.Prelude.{◌≡◌, ◌≢◌, refl, ℕ, ◌<◌, ◌==◌, Bool, true, max, List, map, fold, get_or, length, Option, Some, None, if◌then◌else◌}
 use Rattle.std.specs.List.{AllByRecursion, find}
 use Rattle.std.specs.Option.{option_map}
 use Rattle.mo_cmd.specs.declared.command.Command.{Command}
@@ -14,7 +14,8 @@ use Rattle.resolve.specs.declared.best.Best.{Best}
 use Rattle.resolve.specs.declared.chosen.Chosen.{Chosen}
 use Rattle.resolve.specs.declared.found.FoundIn.{FoundIn}
 use Rattle.resolve.specs.declared.winner.Winner.{Winner}
-use Rattle.resolve.specs.inner.Tables.{found_of, table_of}
+use Rattle.resolve.specs.inner.Numbers.{AreNumbered}
+use Rattle.resolve.specs.inner.Tables.{found_of, held, table_of}
 
 -- a candidate has the least word of its name
 abbrev pub candidate_wins : List LoadedFile → FoundIn → Bool
@@ -45,6 +46,13 @@ held_name f = f.symbol.now.name
 pub record AreBests (files : List LoadedFile) (names : List (List ℕ)) (fs : List FoundIn) (table : List Best) : Type 0 where
   pub are : table ≡ table_of (best_of files) held_name names fs
 
+-- for each name what is held of its candidates, of some that have the numbers of their names
+pub record HasBests (files : List LoadedFile) (names : List (List ℕ)) (all : List Found) (table : List Best) : Type 0 where
+  pub fs : List FoundIn
+  pub held_is : held fs ≡ all
+  pub numbered : AreNumbered names fs
+  pub bests : AreBests files names fs table
+
 -- a candidate stands at its index in a whole file
 pub record IsCandidateOf (f : Found) : Type 0 where
   pub whole : IsWholeFile f.file
@@ -59,6 +67,11 @@ AreCandidates fs = AllByRecursion (λ f. IsCandidateOf (found_of f)) fs
 -- a winner with what is known of the common symbols of its name
 abbrev pub chosen_of : Best → Option Chosen
 chosen_of best = option_map (λ f. record { found = f; size = best.size; align = best.align }) best.winner
+
+-- that of what has one
+unfoldable pub the_chosen : (chosen : Option Chosen) → chosen ≢ None → Chosen
+the_chosen None has = absurd (has refl)
+the_chosen (Some chosen) has = chosen
 
 abbrev pub chosen_name : Chosen → List ℕ
 chosen_name c = c.found.symbol.now.name

@@ -1,22 +1,12 @@
-use Rattle.std.proofs.Common.{take, refl, sym, ◌∙◌}
-use Rattle.std.proofs.lemmas.Bool.{eq-eqb, ne_eqb}
-use Rattle.resolve.specs.Found.{candidate_of}
-use Rattle.resolve.specs.inner.Tables.{found_of, held, strong_among}
-use Rattle.resolve.proofs.NumberLemmas.{external_there, number_at}
-use Rattle.resolve.proofs.StrongLemmas.{strong_pass, strong_step}
+use Rattle.std.proofs.Common.{rules, [], List, ℕ, get_or, ap, ◌∙◌}
+use Rattle.resolve.specs.inner.Tables.{strong_among}
+use Rattle.resolve.proofs.NumberLemmas.{list_there}
+use Rattle.resolve.proofs.StrongLemmas.{no_strong, strong_start}
+use Rattle.resolve.proofs.UntilLemmas.{files_start}
 use Rattle.resolve.proofs.duplicates.firsts_of.Goals as goal
-use Rattle.resolve.proofs.duplicates.firsts_of.Goals.{then-strength-eq0, else-strength-eq0}
 
-pub loop-candidate-preserved : goal.loop-candidate-preserved
-loop-candidate-preserved c =
-    elim c.if-strength-eq0.branch [
-      | then-strength-eq0 w ↦
-          rw w.table-is
-          (strong_step c.args.names.now w.note.new.table.items c.args.found.now c.loop-candidate.candidate-index c.candidate-item.result c.loop-candidate-test.true c.candidate-item.is (eq-eqb _ 0 (sym c.strength.ensures.value ∙ w.if-strength-eq0.true))
-          (w.note.ensures (strong_among (held (take c.loop-candidate.candidate-index c.args.found.now))) (candidate_of (found_of c.candidate-item.result)) refl
-          (external_there c.args.names.now c.args.found.now c.loop-candidate.candidate-index c.candidate-item.result c.requires c.loop-candidate-test.true c.candidate-item.is)
-          (number_at c.args.names.now c.args.found.now c.loop-candidate.candidate-index c.candidate-item.result c.requires c.loop-candidate-test.true c.candidate-item.is) c.loop-candidate.invariant))
-      | else-strength-eq0 w ↦
-          rw w.table-is
-          (strong_pass c.args.names.now c.loop-candidate.table.items c.args.found.now c.loop-candidate.candidate-index c.candidate-item.result c.loop-candidate-test.true c.candidate-item.is (ne_eqb _ 0 (λ e. w.if-strength-eq0.false (c.strength.ensures.value ∙ e))) c.loop-candidate.invariant)
-    ]
+pub loop-i-init : goal.loop-i-init
+loop-i-init c = files_start c.args.names.now c.args.files.now c.in_ok-table.table.items (strong_start c.args.names.now c.in_ok-table.table.items c.len.result (strong_among []) c.len.ensures.value (c.in_ok-table.ensures.items_if_clones_equal (λ y e. search rules)) no_strong)
+
+pub note_file-requires-clause-numbers : goal.note_file-requires-clause-numbers
+note_file-requires-clause-numbers c = list_there c.args.names.now c.args.files.now c.args.numbers.now c.loop-i.i c.index-files-i.result c.numbers_at.result.now c.requires c.loop-i-test.true c.index-files-i.is (c.numbers_at.ensures ∙ ap (λ (lists : List (List ℕ)). get_or lists c.loop-i.i []) c.as_slice-lists.ensures)

@@ -1,6 +1,7 @@
 use Rattle.std.proofs.Common.{take}
-use Rattle.resolve.specs.inner.Tables.{AreFirsts, held, strong_among}
+use Rattle.resolve.specs.Found.{found}
+use Rattle.resolve.specs.inner.Tables.{AreFirsts, strong_among}
 use Rattle.resolve.proofs.duplicates.firsts_of.Given as goal
 
-abbrev pub invariant-loop-candidate : goal.invariant-loop-candidate
-invariant-loop-candidate l = AreFirsts l.names (strong_among (held (take l.candidate-index l.found))) l.table.items
+abbrev pub invariant-loop-i : goal.invariant-loop-i
+invariant-loop-i l = AreFirsts l.names (strong_among (found (take l.i l.files))) l.table.items
