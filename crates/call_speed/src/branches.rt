@@ -1,10 +1,10 @@
 //! Atoms with a branch each, which workers write into an image.
-use crate::objects::{BASE, Input, code_of, met_at, work_at};
+use crate::objects::{BASE, Input, code_of, met_at, part_of, work_at};
 use anyhow::{Result, bail};
 use image_join::fill;
 use mo_outside::FreeGate;
 use mo_types::{Bytes, OutOfMemory, RefKind};
-use patch::{Met, PlacedWork, work_is_in_order};
+use patch::{Meeting, Met, PlacedWork, work_stands};
 use std::alloc::Global;
 use std::thread::Threads;
 use std::time::Instant;
@@ -24,7 +24,7 @@ fn contents(alloc: Global, size: u64) -> Result<Bytes, OutOfMemory> {
 fn work_of(alloc: Global, atoms: u32) -> Result<Vec<PlacedWork>, OutOfMemory> {
     let mut work = Vec::with_capacity(alloc, atoms as usize)?;
     for i in 0..u64::from(atoms) {
-        work.push(work_at(ATOM_SIZE * i, ATOM_SIZE, i as usize, 1))?;
+        work.push(work_at(ATOM_SIZE * i, ATOM_SIZE))?;
     }
     Ok(work)
 }
@@ -46,6 +46,31 @@ fn input_of(alloc: Global, atoms: u32) -> Result<Input, OutOfMemory> {
     Ok(Input { loaded, work, mets })
 }
 
+// The branches of atoms that stand one behind the other.
+#[derive(Drop)]
+struct Branches<'a> {
+    mets: &'a [Met],
+}
+
+impl<'a> Meeting for Branches<'a> {
+    ghost use Rattle.std.specs.Prelude.{◌/◌, drop, take};
+
+    ghost ready = { λ _. Unit {0} };
+
+    ghost mets_of = { λ branches item. take 1 (drop (item.atom.key.offset / 48) branches.mets.now) };
+
+    fn meet(
+        &self,
+        item: &PlacedWork,
+        _next: &mut usize,
+        mets: &mut Vec<Met>,
+    ) -> Result<(), OutOfMemory> {
+        let first = item.atom.key.offset / ATOM_SIZE;
+        mets.extend_from_slice(part_of(self.mets, first as usize, 1))?;
+        Ok(())
+    }
+}
+
 fn sum_of(bytes: &[u8]) -> u64 {
     let mut sum = 0u64;
     for byte in bytes {
@@ -63,18 +88,20 @@ fn filled<T: Threads + Sync>(
     image: &mut [u8],
 ) -> Result<()> {
     let (work, mets) = (input.work.as_slice(), input.mets.as_slice());
-    if !work_is_in_order(work, input.loaded.files.as_slice(), mets, 0, image.len()) {
+    if !work_stands(work, input.loaded.files.as_slice(), 0, image.len()) {
         bail!("the atoms aren't in order");
     }
+    let branches = Branches { mets };
     let start = Instant::now(rt)?;
     let fault = fill(
         threads,
+        rt.alloc(),
         &FreeGate,
         workers,
         image,
         work,
         &input.loaded,
-        mets,
+        &branches,
     )
     .is_err();
     let took = start.elapsed(rt)?;

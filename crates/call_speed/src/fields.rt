@@ -1,11 +1,11 @@
 //! Atoms with a reference of each kind, whose fields are written.
 ghost use Rattle.std.specs.Prelude.{◌≤◌, ◌^◌};
 
-use crate::objects::{BASE, Input, code_of, met_at, work_at};
+use crate::objects::{BASE, Input, code_of, met_at, part_of, work_at};
 use crate::once::{copy_atoms, write_once};
 use anyhow::{Result, bail};
 use mo_types::{Bytes, OutOfMemory, RefKind};
-use patch::{Met, PlacedWork, patch_range, work_is_in_order};
+use patch::{Meeting, Met, PlacedWork, patch_range, work_stands};
 use std::alloc::Global;
 use std::time::Instant;
 
@@ -53,7 +53,7 @@ fn work_of(alloc: Global, count: u64) -> Result<Vec<PlacedWork>, OutOfMemory>
 {
     let mut work = Vec::with_capacity(alloc, count as usize)?;
     for i in 0..count {
-        work.push(work_at(i * ATOM, ATOM, (i * FIELDS) as usize, FIELDS as usize))?;
+        work.push(work_at(i * ATOM, ATOM))?;
     }
     Ok(work)
 }
@@ -68,6 +68,31 @@ fn input_of(alloc: Global, count: u64) -> Result<Input, OutOfMemory>
     Ok(Input { loaded, work, mets })
 }
 
+// The references of atoms that stand one behind the other.
+#[derive(Drop)]
+struct Fields<'a> {
+    mets: &'a [Met],
+}
+
+impl<'a> Meeting for Fields<'a> {
+    ghost use Rattle.std.specs.Prelude.{◌*◌, ◌/◌, drop, take};
+
+    ghost ready = { λ _. Unit {0} };
+
+    ghost mets_of = { λ fields item. take 4 (drop (item.atom.key.offset / 200 * 4) fields.mets.now) };
+
+    fn meet(
+        &self,
+        item: &PlacedWork,
+        _next: &mut usize,
+        mets: &mut Vec<Met>,
+    ) -> Result<(), OutOfMemory> {
+        let first = item.atom.key.offset / ATOM * FIELDS;
+        mets.extend_from_slice(part_of(self.mets, first as usize, FIELDS as usize))?;
+        Ok(())
+    }
+}
+
 // Prints the microseconds of a copy, of `patch_range`, and of a pass that copies and writes in one.
 fn timed(rt: &HostRuntime, input: &Input, image: &mut [u8], other: &mut [u8]) -> Result<()> {
     let (work, mets) = (input.work.as_slice(), input.mets.as_slice());
@@ -77,14 +102,15 @@ fn timed(rt: &HostRuntime, input: &Input, image: &mut [u8], other: &mut [u8]) ->
     let start = Instant::now(rt)?;
     copy_atoms(image, files, work);
     let copied = start.elapsed(rt)?.as_micros();
-    if !work_is_in_order(work, files, mets, 0, image.len()) {
+    if !work_stands(work, files, 0, image.len()) {
         bail!("the atoms aren't in order");
     }
+    let fields = Fields { mets };
     let start = Instant::now(rt)?;
-    let fault = patch_range(image, 0, work, &input.loaded, mets).is_err();
+    let fault = patch_range(rt.alloc(), image, 0, work, &input.loaded, &fields).is_err();
     let patched = start.elapsed(rt)?.as_micros();
     let start = Instant::now(rt)?;
-    write_once(other, files, work, mets);
+    write_once(other, files, work, mets, FIELDS as usize);
     let once = start.elapsed(rt)?.as_micros();
     if fault || *image != *other {
         bail!("both ways should write the same");

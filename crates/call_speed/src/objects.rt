@@ -1,4 +1,6 @@
 //! Files with code, and what is to be written of it.
+ghost use Rattle.std.specs.Prelude.{◌≡◌, drop, take};
+
 use mo_types::{Bytes, Loaded, OutOfMemory, RefKind, SymbolList};
 use patch::{Met, PlacedWork};
 use std::alloc::Global;
@@ -22,16 +24,23 @@ pub(crate) fn code_of(alloc: Global, bytes: Bytes) -> Result<Loaded, OutOfMemory
     only(alloc, file(alloc, file_id(0), object))
 }
 
-/// The atom of that section at an offset, which is that in the image too, with so many references from the first one on.
-pub(crate) fn work_at(offset: u64, size: u64, first: usize, count: usize) -> PlacedWork {
+/// The atom of that section at an offset, which is that in the image too.
+pub(crate) fn work_at(offset: u64, size: u64) -> PlacedWork {
     PlacedWork {
         atom: atom(key(0, 1, offset), size, 2),
         file: 0,
         at: offset,
         address: BASE.wrapping_add(offset),
-        first,
-        count,
     }
+}
+
+/// So many references from one on, as far as there are any.
+#[tactic(auto, using(std::proofs::lemmas::List::drop_min, std::proofs::lemmas::List::take_min))]
+pub(crate) fn part_of(mets: &[Met], first: usize, count: usize) -> &[Met]
+    ensures { result.now ≡ take count (drop first mets.now) }
+{
+    let rest = &mets[first.min(mets.len())..];
+    &rest[..count.min(rest.len())]
 }
 
 /// A reference at a place of its atom.

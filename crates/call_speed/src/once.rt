@@ -65,11 +65,19 @@ fn write_field(bytes: &mut [u8], address: u64, met: &Met) {
     }
 }
 
-/// Copies the bytes of atoms to their places and writes their fields, each as it comes.
-pub fn write_once(image: &mut [u8], files: &[LoadedFile], work: &[PlacedWork], mets: &[Met]) {
-    for item in work {
-        let last = item.first.saturating_add(item.count);
-        match (copied(image, files, item), mets.get(item.first..last)) {
+/// Copies the bytes of atoms to their places and writes their fields, each as it comes: so many references of each atom,
+/// one atom's behind the other's.
+pub fn write_once(
+    image: &mut [u8],
+    files: &[LoadedFile],
+    work: &[PlacedWork],
+    mets: &[Met],
+    each: usize,
+) {
+    for (i, item) in work.iter().enumerate() {
+        let first = i.saturating_mul(each);
+        let last = first.saturating_add(each);
+        match (copied(image, files, item), mets.get(first..last)) {
             (Some(bytes), Some(refs)) => {
                 for met in refs {
                     write_field(bytes, item.address, met);

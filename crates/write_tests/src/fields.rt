@@ -1,10 +1,12 @@
 //! Fields against the words of an assembler, and atoms against images that were put together by hand.
 
+use crate::listed::{Listed, one_each};
 use mo_types::{
     AtomKey, Bytes, Loaded, LoadedList, Object, OutOfMemory, RangeKind, RefKind, SymbolList,
 };
 use patch::{
-    Met, PlacedWork, RangeFault, fields_are_in_order, patch_atom, patch_range, work_is_in_order,
+    Met, PatchFault, PlacedWork, RangeFault, fields_are_in_order, patch_atom, patch_range,
+    work_stands,
 };
 use std::alloc::Global;
 use std::test::Fail;
@@ -519,34 +521,34 @@ fn loaded(alloc: Global, contents: &[u8]) -> Result<Loaded, OutOfMemory> {
     Ok(Loaded { files })
 }
 
-// An atom of 4 bytes with one reference, which stands at a place of an image from 2^32 on.
-pub(crate) fn work(position: u16, offset: u64, at: u64, first: usize) -> PlacedWork {
+// An atom of 4 bytes, which stands at a place of an image from 2^32 on.
+pub(crate) fn work(position: u16, offset: u64, at: u64) -> PlacedWork {
     PlacedWork {
         atom: atom(key(position, 1, offset), 4, 2),
         file: usize::from(position),
         at,
         address: 0x1_0000_0000 + at % 0x1_0000_0000,
-        first,
-        count: 1,
     }
 }
 
-// Three atoms in a piece of 20 bytes: nop of the first file, and the second file's two words the other way round.
+// Three atoms in a piece of 20 bytes: nop of the first file, and the second file's two words the other way round, each
+// with its references.
 fn filled(
     alloc: Global,
-    mets: &[Met],
-) -> Result<(Result<(), (AtomKey, RangeFault)>, [u8; 20]), OutOfMemory> {
+    mets: [&[Met]; 3],
+) -> Result<(Result<(), PatchFault>, [u8; 20]), OutOfMemory> {
     let loaded = loaded(alloc, b"\0\0\0\x94\x01\x02\x03\x14")?;
-    let items = [
-        work(0, 0, 0x4004, 0),
-        work(1, 4, 0x4008, 1),
-        work(1, 0, 0x4010, 2),
-    ];
+    let items = [work(0, 0, 0x4004), work(1, 4, 0x4008), work(1, 0, 0x4010)];
     let mut piece = [0xee; 20];
-    if !work_is_in_order(&items, loaded.files.as_slice(), mets, 0x4000, 20) {
+    if !work_stands(&items, loaded.files.as_slice(), 0x4000, 20) {
         return Ok((Ok(()), [0; 20]));
     }
-    let answer = patch_range(&mut piece, 0x4000, &items, &loaded, mets);
+    let listed = Listed {
+        from: 0x4000,
+        apart: 4,
+        rows: &[&[], mets[0], mets[1], &[], mets[2]],
+    };
+    let answer = patch_range(alloc, &mut piece, 0x4000, &items, &loaded, &listed);
     Ok((answer, piece))
 }
 
@@ -564,12 +566,10 @@ fn beside_are_kept(piece: &[u8; 20]) -> bool {
 }
 
 fn atoms_are_filled(alloc: Global) -> Result<bool, OutOfMemory> {
-    let mets = [
-        met(0, RefKind::Diff32, 0x1122_3344),
-        met(0, RefKind::Branch, 0x1_0000_4010),
-        met(0, RefKind::Branch, 0x1_0000_4000),
-    ];
-    let (answer, piece) = filled(alloc, &mets)?;
+    let number = met(0, RefKind::Diff32, 0x1122_3344);
+    let ahead = met(0, RefKind::Branch, 0x1_0000_4010);
+    let back = met(0, RefKind::Branch, 0x1_0000_4000);
+    let (answer, piece) = filled(alloc, [&[number], &[ahead], &[back]])?;
     let want = b"\xee\xee\xee\xee\x44\x33\x22\x11\x02\0\0\x14\xee\xee\xee\xee\xfc\xff\xff\x97";
     Ok(answer == Ok(()) && piece == *want)
 }
@@ -582,13 +582,11 @@ fn fault_with(
     key: AtomKey,
     fault: RangeFault,
 ) -> Result<bool, OutOfMemory> {
-    let mets = [
-        met(0, RefKind::Branch, first),
-        met(0, RefKind::Branch, second),
-        met(0, RefKind::Branch, 0x1_0800_4010),
-    ];
-    let (answer, piece) = filled(alloc, &mets)?;
-    Ok(answer == Err((key, fault)) && beside_are_kept(&piece))
+    let first = met(0, RefKind::Branch, first);
+    let second = met(0, RefKind::Branch, second);
+    let far = met(0, RefKind::Branch, 0x1_0800_4010);
+    let (answer, piece) = filled(alloc, [&[first], &[second], &[far]])?;
+    Ok(answer == Err(PatchFault::Range { atom: key, fault }) && beside_are_kept(&piece))
 }
 
 // Of several atoms at fault that of the least key is told, wherever it stands in the image.
@@ -599,6 +597,24 @@ fn least_key_is_told(alloc: Global) -> Result<bool, OutOfMemory> {
         fault_with(alloc, near, near, key(1, 1, 0), far)?
             && fault_with(alloc, near, near + 1, key(1, 1, 0), far)?
             && fault_with(alloc, near + 2, near, key(0, 1, 0), fault(0, -2))?,
+    )
+}
+
+// References of the first two atoms for whose fields memory is refused.
+fn are_refused(alloc: Global, first: &[Met], second: &[Met]) -> Result<bool, OutOfMemory> {
+    let (answer, piece) = filled(alloc, [first, second, &[]])?;
+    Ok(answer == Err(PatchFault::OutOfMemory) && beside_are_kept(&piece))
+}
+
+// Fields that overlap, and such that end behind their atom, one of them beside a value that doesn't fit its field.
+fn fields_must_lie_apart(alloc: Global) -> Result<bool, OutOfMemory> {
+    let number = met(0, RefKind::Diff32, 1);
+    let pointer = met(0, RefKind::Pointer, 1);
+    let far = met(0, RefKind::Branch, 0x1_0800_4004);
+    Ok(
+        are_refused(alloc, &[], &[number, number])?
+            && are_refused(alloc, &[met(1, RefKind::Diff32, 1)], &[number])?
+            && are_refused(alloc, &[far], &[pointer])?,
     )
 }
 
@@ -622,30 +638,43 @@ fn many_branches(alloc: Global) -> Result<Vec<Met>, OutOfMemory> {
 fn many_works(alloc: Global) -> Result<Vec<PlacedWork>, OutOfMemory> {
     let mut items = Vec::new(alloc);
     for i in 0..3000u64 {
-        items.push(work(1, 4 * (2999 - i), 8 * i, i as usize))?;
+        items.push(work(1, 4 * (2999 - i), 8 * i))?;
     }
     Ok(items)
 }
 
-fn are_filled(piece: &mut [u8], items: &[PlacedWork], loaded: &Loaded, mets: &[Met]) -> bool {
-    if !work_is_in_order(items, loaded.files.as_slice(), mets, 0, piece.len()) {
+fn are_filled(
+    alloc: Global,
+    piece: &mut [u8],
+    items: &[PlacedWork],
+    loaded: &Loaded,
+    rows: &[&[Met]],
+) -> bool {
+    if !work_stands(items, loaded.files.as_slice(), 0, piece.len()) {
         return false;
     }
-    let is_done = patch_range(piece, 0, items, loaded, mets) == Ok(());
+    let listed = Listed {
+        from: 0,
+        apart: 8,
+        rows,
+    };
+    let is_done = patch_range(alloc, piece, 0, items, loaded, &listed) == Ok(());
     let want = b"\x01\0\0\x94\xee\xee\xee\xee".as_slice();
     is_done && piece.chunks(8).all(|part| part == want)
 }
 
 fn thousands_are_filled(alloc: Global) -> Result<bool, OutOfMemory> {
     let mets = many_branches(alloc)?;
+    let rows = one_each(alloc, mets.as_slice())?;
     let items = many_works(alloc)?;
     let loaded = loaded(alloc, many_words(alloc)?.as_slice())?;
     let mut piece = vec![in alloc; 0xee; 24_000]?;
     Ok(are_filled(
+        alloc,
         piece.as_mut_slice(),
         items.as_slice(),
         &loaded,
-        mets.as_slice(),
+        rows.as_slice(),
     ))
 }
 
@@ -663,6 +692,7 @@ fn fields_hold_their_values(rt: HostRuntime) -> Result<(), Fail> {
     assert!(rt; thousands_are_written(alloc)?);
     assert!(rt; atoms_are_filled(alloc)?);
     assert!(rt; least_key_is_told(alloc)?);
+    assert!(rt; fields_must_lie_apart(alloc)?);
     assert!(rt; thousands_are_filled(alloc)?);
     Ok(())
 }

@@ -4,10 +4,11 @@ ghost use Rattle.std.specs.Prelude.{◌≡◌, ◌+◌, ◌≤◌, IsTrue, lengt
 ghost use Rattle.image_join.specs.Joined.{AreRising};
 
 use crate::fields::{object, work};
+use crate::listed::{Listed, one_each};
 use image_join::{Part, PartList, Parts, fill, join};
 use mo_outside::{FreeGate, Gate, MeetGate};
 use mo_types::{AtomKey, Bytes, Loaded, OutOfMemory, RangeKind, RefKind};
-use patch::{Met, PlacedWork, RangeFault, work_is_in_order};
+use patch::{Met, PatchFault, PlacedWork, RangeFault, work_stands};
 use std::alloc::Global;
 use std::test::Fail;
 use std::thread::Threads;
@@ -129,21 +130,28 @@ fn branches(alloc: Global, count: u64) -> Result<Loaded, OutOfMemory> {
     loaded(alloc, contents.as_slice())
 }
 
-// Fills an image, where its work is in order.
+// Fills an image, where its atoms stand there one behind the other, so many bytes apart, each with a row of references.
 fn filled<R: Threads + Sync, G: Gate + Sync>(
     rt: &R,
+    alloc: Global,
     gate: &G,
     workers: u32,
     image: &mut [u8],
     items: &[PlacedWork],
     loaded: &Loaded,
-    mets: &[Met],
-) -> Option<Result<(), (AtomKey, RangeFault)>> {
+    apart: u64,
+    rows: &[&[Met]],
+) -> Option<Result<(), PatchFault>> {
     let size = image.len();
-    if !work_is_in_order(items, loaded.files.as_slice(), mets, 0, size) {
+    if apart == 0 || !work_stands(items, loaded.files.as_slice(), 0, size) {
         return None;
     }
-    Some(fill(rt, gate, workers, image, items, loaded, mets))
+    let listed = Listed {
+        from: 0,
+        apart,
+        rows,
+    };
+    Some(fill(rt, alloc, gate, workers, image, items, loaded, &listed))
 }
 
 // Atoms, of which the last one of the section comes first, so many bytes apart.
@@ -152,7 +160,7 @@ fn works(alloc: Global, count: u32, apart: u64) -> Result<Vec<PlacedWork>, OutOf
     let mut items = Vec::new(alloc);
     for i in 0..count {
         let offset = 4 * (count - 1 - i);
-        items.push(work(0, offset, apart.wrapping_mul(i), i as usize))?;
+        items.push(work(0, offset, apart.wrapping_mul(i)))?;
     }
     Ok(items)
 }
@@ -176,16 +184,19 @@ fn branches_are_filled<R: Threads + Sync, G: Gate + Sync>(
 ) -> Result<bool, OutOfMemory> {
     let items = works(alloc, count, 8)?;
     let mets = branches_to_start(alloc, count)?;
+    let rows = one_each(alloc, mets.as_slice())?;
     let loaded = branches(alloc, u64::from(count))?;
     let mut image = vec![in alloc; 0xee; 8 * count as usize]?;
     let answer = filled(
         rt,
+        alloc,
         gate,
         workers,
         image.as_mut_slice(),
         items.as_slice(),
         &loaded,
-        mets.as_slice(),
+        8,
+        rows.as_slice(),
     );
     Ok(answer == Some(Ok(())) && branches_lead_back(image.as_slice(), count))
 }
@@ -259,22 +270,26 @@ fn is_told<R: Threads + Sync>(
     alloc: Global,
     workers: u32,
     values: &[u64],
-    told: (AtomKey, RangeFault),
+    atom: AtomKey,
+    fault: RangeFault,
 ) -> Result<bool, OutOfMemory> {
     let items = works(alloc, 4, 4)?;
     let mets = branches_to(alloc, values)?;
+    let rows = one_each(alloc, mets.as_slice())?;
     let loaded = branches(alloc, 4)?;
     let mut image = [0; 16];
     let answer = filled(
         rt,
+        alloc,
         &FreeGate,
         workers,
         &mut image,
         items.as_slice(),
         &loaded,
-        mets.as_slice(),
+        4,
+        rows.as_slice(),
     );
-    Ok(answer == Some(Err(told)))
+    Ok(answer == Some(Err(PatchFault::Range { atom, fault })))
 }
 
 // Of the atoms at fault the last one has the least key. A branch reaches 2^27 bytes less 4 forwards.
@@ -301,13 +316,8 @@ fn the_fault_of_the_least_atom<R: Threads + Sync>(
             kind: RangeKind::Branch,
             value: *value,
         };
-        if !is_told(
-            rt,
-            alloc,
-            workers,
-            values,
-            (key(0, 1, 4 * (3 - *place % 4)), fault),
-        )? {
+        let atom = key(0, 1, 4 * (3 - *place % 4));
+        if !is_told(rt, alloc, workers, values, atom, fault)? {
             return Ok(false);
         }
     }

@@ -9,4 +9,6 @@ mod fixups;
 #[cfg(test)]
 mod images;
 #[cfg(test)]
+mod listed;
+#[cfg(test)]
 mod tries;
