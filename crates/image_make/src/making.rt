@@ -79,6 +79,7 @@ pub fn make_image<R: Threads + Sync, G: Gate + Sync>(
     )?;
     let blank = blank_image(alloc, &layout, front)?;
     let work = work_of(alloc, &kept, &layout)?;
+    drop(kept);
     let meets = Meets::of(
         alloc,
         scheme.loaded,
