@@ -2,13 +2,16 @@
 """Times the link of a folder's objects by atomld and by ld64.lld: `measure_many.py ATOMLD FOLDER RUNS`.
 
 The objects are those of make_many_objects.py. Both linkers are first run once, and their images compared: the same code
-with the same calls, and each address that is taken at the same place of its section. Then each is run so often, in
-turn, with one worker and with four (ld64.lld: with as many as it takes by itself), ld64.lld with and without a
-signature, and beside them the objects are copied by cp. Prints the least and the median of seconds and of the
-processor's, the peak memory, and the seconds as parts of those of ld64.lld with as many workers and no signature.
+with the same calls, and each address that is taken at the same place of its section. Then each is run once in each of
+RUNS rounds, with one worker and with four (ld64.lld: with as many as it takes by itself), ld64.lld with and without a
+signature, and beside them the objects are copied by cp. Each round has an order of its own, so that none always follows
+the same one. Prints the least and the median of seconds and of the processor's, the peak memory, and the seconds as
+parts of those of ld64.lld with as many workers and no signature: of the least, of the median, and the median of the
+parts of each round, which a machine whose speed drifts disturbs least.
 """
 import glob
 import os
+import random
 import re
 import shutil
 import statistics
@@ -105,15 +108,16 @@ def main(program, folder, runs):
             shutil.copy(image, f"{out_folder}/{name}")
         if len({Path(f"{out_folder}/{name}").read_bytes() for name in ATOMLD_FORMS}) != 1:
             sys.exit("the images of atomld differ by the number of workers")
+        order = random.Random(0)
         for _ in range(runs):
             # in turn, so that a busy moment of the machine meets all of them
-            for name, words in commands.items():
+            for name, words in order.sample(list(commands.items()), len(commands)):
                 for path in (image, other):
                     if os.path.exists(path):
                         os.remove(path)
                 measured[name].append(run(words))
     print(f"{len(objects)} objects, {size} bytes, {runs} runs, load {os.getloadavg()[0]:.1f} at the end")
-    print(f"{'':28}{'seconds':>9}{'median':>9}{'processor':>11}{'median':>9}{'peak MiB':>10}{'of lld':>8}{'median':>8}")
+    print(f"{'':28}{'seconds':>9}{'median':>9}{'processor':>11}{'median':>9}{'peak MiB':>10}{'of lld':>8}{'median':>8}{'rounds':>8}")
     base = {name: [seconds for seconds, _, _ in results] for name, results in measured.items()}
     for name, results in measured.items():
         seconds, processor, peak = zip(*results)
@@ -122,6 +126,7 @@ def main(program, folder, runs):
         if lld and name in ATOMLD_FORMS:
             against = base[ATOMLD_FORMS[name][1]]
             row += f"{min(seconds) / min(against):8.2f}{statistics.median(seconds) / statistics.median(against):8.2f}"
+            row += f"{statistics.median(one / of for one, of in zip(seconds, against)):8.2f}"
         print(row)
     if lld:
         print("the code of both linkers is the same, and the image of atomld is one for all numbers of workers")
