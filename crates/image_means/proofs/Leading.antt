@@ -1,6 +1,5 @@
 -- The references of an image's atoms lead to their goals.
-use Rattle.std.proofs.Common.{◌≡◌, ℕ, ◌+◌, ◌≤◌, true, List, [], length, map, Option, Some, None, Contains, refl, sym, arith, subst}
-use Rattle.std.specs.Prelude.{slice_get}
+use Rattle.std.proofs.Common.{◌≡◌, ℕ, ◌+◌, ◌≤◌, true, List, length, map, Option, Some, None, Contains, refl, sym, arith, subst}
 use Rattle.std.specs.List.{filter}
 use Rattle.std.specs.Option.{option_map, option_map_or}
 use Rattle.list_lemmas.proofs.Members.{In, in_filter, in_from_Contains, in_map}
@@ -19,6 +18,7 @@ use Rattle.atom_work.specs.Addresses.{Scene, target_address}
 use Rattle.atom_work.specs.Mets.{is_ref_of, met_of, mets_of}
 use Rattle.atom_work.specs.Rows.{goals_at, kept_mets}
 use Rattle.patch.specs.declared.range.PlacedWork.{PlacedWork}
+use Rattle.atom_work.proofs.OrderLemmas.{kept_mets_of}
 use Rattle.image_make.specs.Made.{Making, rows_of, scene_of}
 use Rattle.image_make.specs.Made as made
 use Rattle.image_read.specs.Held.{AtomMap, goal_address}
@@ -30,13 +30,6 @@ use Rattle.image_means.proofs.Referring.{IsMetFrom, IsToldAt, denotes_by}
 
 -- ---- a reference among those that a row has met
 
-mets_with : (scene : Scene) (goals : List (List Goal)) (file : LoadedFile) (found : Option LoadedFile) (row : PlacedWork) → found ≡ Some file → option_map_or (λ (f : LoadedFile). mets_of scene (goals_at goals row.file) f.refs row.atom.key) found [] ≡ mets_of scene (goals_at goals row.file) file.refs row.atom.key
-mets_with scene goals file found row e = rw e refl
-
-kept_with : (scene : Scene) (files : List LoadedFile) (goals : List (List Goal)) (row : PlacedWork) (file : LoadedFile) → slice_get files row.file ≡ Some file → kept_mets scene files goals row ≡ mets_of scene (goals_at goals row.file) file.refs row.atom.key
-unfolding kept_mets
-kept_with scene files goals row file e = mets_with scene goals file (slice_get files row.file) row e
-
 among_mets : (scene : Scene) (goals : List Goal) (refs : List Ref) (section offset : ℕ) (reference : Ref) → In reference refs → is_ref_of section offset reference ≡ true → In (met_of scene goals reference) (map (met_of scene goals) (filter (is_ref_of section offset) refs))
 among_mets scene goals refs section offset reference h e = in_map (met_of scene goals) (filter (is_ref_of section offset) refs) reference (in_filter (is_ref_of section offset) refs reference h e)
 
@@ -45,7 +38,7 @@ unfolding mets_of
 met_in m layout row reference of_row =
     let scene = scene_of m layout in
     let file : LoadedFile = of_row.file in
-    subst (λ (xs : List Met). In (met_of scene (goals_at m.goals row.file) reference) xs) (sym (kept_with scene m.files m.goals row file of_row.of_file))
+    subst (λ (xs : List Met). In (met_of scene (goals_at m.goals row.file) reference) xs) (sym (kept_mets_of scene m.files m.goals row file (goals_at m.goals row.file) of_row.of_file refl))
     (among_mets scene (goals_at m.goals row.file) file.refs row.atom.key.section row.atom.key.offset reference (in_from_Contains file.refs reference of_row.among) of_row.of_atom)
 
 -- ---- its field
