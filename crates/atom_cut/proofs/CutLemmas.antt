@@ -42,7 +42,7 @@ offset_is number section (Defined place value) y from e =
     let same : value ≡ section.address + y = omega arith in
     (omega arith, rw (tests.0, eq-eqb value (section.address + y) same) refl)
 offset_is number section Undefined y from e = cc
-offset_is number section (Common size align) y from e = cc
+offset_is number section (Common align size) y from e = cc
 offset_is number section Absolute y from e = cc
 offset_is number section Passed y from e = cc
 
@@ -53,7 +53,7 @@ offset_from number section (Defined place value) y below e =
     let offset : value - section.address ≡ y = omega arith in
     rw (tests.0, offset, lt-ltb y section.size below) refl
 offset_from number section Undefined y below e = absurd (false≢true e)
-offset_from number section (Common size align) y below e = absurd (false≢true e)
+offset_from number section (Common align size) y below e = absurd (false≢true e)
 offset_from number section Absolute y below e = absurd (false≢true e)
 offset_from number section Passed y below e = absurd (false≢true e)
 
@@ -221,7 +221,7 @@ from_definition sections index d (Defined place value) within = λ same.
     let before : place - 1 ≡ index = omega arith in
     subst (λ (k : ℕ). (get_or sections k d).address ≤ value) before (within.low d)
 from_definition sections index d Undefined within = tt
-from_definition sections index d (Common size align) within = tt
+from_definition sections index d (Common align size) within = tt
 from_definition sections index d Absolute within = tt
 from_definition sections index d Passed within = tt
 

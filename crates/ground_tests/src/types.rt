@@ -220,6 +220,18 @@ fn parts_end_with_their_string(alloc: Global) -> Result<bool, OutOfMemory> {
     Ok(true)
 }
 
+fn parts_of_parts_are_told(alloc: Global) -> Result<bool, OutOfMemory> {
+    let part = Bytes::from_slice(alloc, b"abcdef")?.part(1, 4)?;
+    let inner = part.part(1, 2)?;
+    let constant = Bytes::from_static(b"abc").part(1, 1)?;
+    Ok(
+        part.as_slice() == b"bcde".as_slice()
+            && inner.as_slice() == b"cd".as_slice()
+            && inner.len() == 2
+            && constant.as_slice() == b"b".as_slice(),
+    )
+}
+
 fn strings_are_ordered_byte_by_byte() -> bool {
     let name = Bytes::from_static(b"_a");
     let longer = Bytes::from_static(b"_a\0");
@@ -343,6 +355,22 @@ fn are_references(refs: &RefList) -> bool {
     refs.len() == 9000 && refs.get(9000).is_none()
 }
 
+// Whether a list of one reference of a sort has one that leads straight to an atom.
+fn has_local(alloc: Global, sort: u32) -> Result<bool, OutOfMemory> {
+    let mut refs = RefList::new(alloc, file_id(3));
+    refs.push(reference(sort, 1))?;
+    Ok(refs.has_local())
+}
+
+fn references_to_atoms_are_told(alloc: Global) -> Result<bool, OutOfMemory> {
+    for sort in 0..9 {
+        if has_local(alloc, sort)? != (sort == 6 || sort == 7) {
+            return Ok(false);
+        }
+    }
+    Ok(many_references(alloc)?.has_local())
+}
+
 fn lists_of_references_lose_nothing(alloc: Global) -> Result<bool, OutOfMemory> {
     let refs = many_references(alloc)?;
     Ok(RefList::new(alloc, file_id(3)).is_empty() && are_references(&refs))
@@ -451,12 +479,14 @@ fn causes_and_answers_are_as_messages_show_them(rt: HostRuntime) -> Result<(), F
         ("parts", parts_are_shared(alloc)?),
         ("copies", copies_are_alike(alloc)?),
         ("ends", parts_end_with_their_string(alloc)?),
+        ("parts of parts", parts_of_parts_are_told(alloc)?),
         ("strings", strings_are_ordered_byte_by_byte()),
         ("words", words_are_their_bytes(alloc)?),
         ("lists", lists_keep_their_elements(alloc)?),
         ("keys", keys_rise()),
         ("files", files_are_loaded(alloc)?),
         ("references", lists_of_references_lose_nothing(alloc)?),
+        ("references to atoms", references_to_atoms_are_told(alloc)?),
         ("kinds", kinds_are_told()),
         ("objects", objects_are_whole(alloc)?),
         ("lines", answers_have_lines(alloc)),

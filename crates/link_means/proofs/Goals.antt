@@ -116,7 +116,7 @@ place_in_file files file index (Defined number value) place solid h uncommon is 
         linked false e =
             let same = some_is _ place (rw e at there) in
             subst (λ (p : Place). HasKey file.atoms p.atom) same (cut_of_file files file number section _ solid h numbered e)
-place_in_file files file index (Common size align) place solid h uncommon is = absurd (false≢true (sym uncommon))
+place_in_file files file index (Common align size) place solid h uncommon is = absurd (false≢true (sym uncommon))
 place_in_file files file index _ place solid h uncommon is = no_some place is
 
 place_in_atom : (files : List LoadedFile) (file : LoadedFile) (index : ℕ) (kind : SymbolKind) (place : Place) → AreSolid files → In file files → is_common kind ≡ false → place_of file index kind ≡ Some place → IsAtomIn files place.atom

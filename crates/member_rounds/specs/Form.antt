@@ -22,7 +22,7 @@ abbrev pub is_later_section : Section → Bool
 is_later_section section = (not (is_dropped section) && is_later_type section.kind) || is_unwind section
 
 abbrev pub is_common : SymbolKind → Bool
-is_common (Common size align) = true
+is_common (Common align size) = true
 is_common _ = false
 
 -- a pointer, and what leads to a slot of the image (`mach-o/arm64/reloc.h`)

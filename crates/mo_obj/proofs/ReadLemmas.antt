@@ -225,7 +225,7 @@ definition sections number value false (Some section) none is e =
       high = λ d. rw (get_or_from_slice_get sections (number - 1) section d is) (leb-true value (section.address + section.size) bounds.1);
     }
 
-others_placed : (sections : List Section) (entry : Nlist) (absolute free external empty : Bool) → IsDefinedWithin sections (if absolute then Absolute else if free then (if external then (if empty then Undefined else Common entry.n_value (entry.n_desc / 0x100 % 0x10)) else Passed) else Undefined)
+others_placed : (sections : List Section) (entry : Nlist) (absolute free external empty : Bool) → IsDefinedWithin sections (if absolute then Absolute else if free then (if external then (if empty then Undefined else Common (entry.n_desc / 0x100 % 0x10) entry.n_value) else Passed) else Undefined)
 others_placed sections entry true free external empty = tt
 others_placed sections entry false true true true = tt
 others_placed sections entry false true true false = tt

@@ -34,7 +34,7 @@ abbrev pub is_overaligned : Section → Bool
 is_overaligned section = nat_lt 14 section.align
 
 abbrev pub is_overaligned_common : SymbolKind → Bool
-is_overaligned_common (Common size align) = nat_lt 14 align
+is_overaligned_common (Common align size) = nat_lt 14 align
 is_overaligned_common _ = false
 
 abbrev pub is_code : Section → Bool

@@ -77,7 +77,7 @@ is_defined_within sections entry = option_map_or (λ section. is_within section 
 
 -- an external symbol without a section: undefined, or common with its size and GET_COMM_ALIGN
 abbrev pub common_or_undefined : Nlist → SymbolKind
-common_or_undefined entry = if entry.n_value == 0 then Undefined else Common entry.n_value (entry.n_desc / 0x100 % 0x10)
+common_or_undefined entry = if entry.n_value == 0 then Undefined else Common (entry.n_desc / 0x100 % 0x10) entry.n_value
 
 -- What a symbol that is no debugging entry stands for, by N_TYPE. Those that aren't named here
 -- (N_INDR, N_PBUD) are defined elsewhere, if anywhere.

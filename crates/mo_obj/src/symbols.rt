@@ -111,8 +111,8 @@ fn common_or_undefined(entry: &Nlist) -> SymbolKind
         return SymbolKind::Undefined;
     }
     SymbolKind::Common {
-        size: entry.n_value,
         align: (entry.n_desc / 0x100 % 0x10) as u8,
+        size: entry.n_value,
     }
 }
 

@@ -6,7 +6,12 @@ use Rattle.mo_types.specs.declared.ref_row.Row.{Row}
 use Rattle.mo_types.specs.declared.ref_row.Row.TheVariants.{Name, Difference, Other}
 use Rattle.mo_types.specs.inner.RefRows.{ref_of, refs_of_rows, no_ref, IsRowWithin, AreRowsWithin}
 use Rattle.std.proofs.Common.{suc, zero, unwrap_or, subst}
+use Rattle.std.proofs.Common.{Bool, ◌||◌, sym}
+use Rattle.std.specs.List.{list_any}
 use Rattle.std.specs.Option.{option_map}
+use Rattle.std.proofs.Math.Bool.{or-false}
+use Rattle.std.proofs.lemmas.List.Folds.{list_any-append}
+use Rattle.mo_types.specs.LocalEnds.{has_local}
 use Rattle.std.proofs.Math.Seq.{get_or-append_seam}
 use Rattle.std.proofs.lemmas.List.{get_or_append_left, map-append}
 use Rattle.std.proofs.lemmas.Option.{slice_get-map, slice_get_within}
@@ -56,6 +61,13 @@ push_other_within others others2 rows rows2 reference within is kept =
     rw (count, is) (within_more (length others + 1) rows (Other (length others)) (within_of_more (length others) (length others + 1) rows (omega arith) within) (omega arith))
 
 pub ruleset pushes = (push_row, push_within, push_other, push_other_within)
+
+-- whether one of more references leads straight to an atom
+pub has_local_more : (refs more : List Ref) (reference : Ref) (before : Bool) → more ≡ refs ++ reference ∷ [] → before ≡ list_any has_local refs → (before || has_local reference) ≡ list_any has_local more
+has_local_more refs more reference before is same =
+    rw (is, same) (sym (list_any-append has_local refs (reference ∷ []) ∙ ap (λ b. list_any has_local refs || b) (or-false (has_local reference))))
+
+pub ruleset flags = (has_local_more)
 
 -- the row at a place is within
 pub row_at_within : (count : ℕ) (rows : List Row) (at : ℕ) (row : Row) → AreRowsWithin count rows → slice_get rows at ≡ Some row → IsRowWithin count row

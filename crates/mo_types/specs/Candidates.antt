@@ -18,7 +18,7 @@ use Rattle.mo_types.specs.Whole.{is_dropped}
 -- a symbol that stands for a place of the image: a definition in a section that is linked, or a common symbol
 abbrev pub has_place : List Section → SymbolKind → Bool
 has_place sections (Defined section value) = option_map_or (λ s. not (is_dropped s)) (section_numbered sections section) false
-has_place sections (Common size align) = true
+has_place sections (Common align size) = true
 has_place sections _ = false
 
 unfoldable pub is_candidate : List Section → Symbol → Bool
@@ -29,7 +29,7 @@ unfoldable pub strength : Symbol → ℕ
 strength symbol = strength_of symbol.kind symbol.weak_def
   where
     strength_of : SymbolKind → Bool → ℕ
-    strength_of (Common size align) weak = 2
+    strength_of (Common align size) weak = 2
     strength_of _ weak = if weak then 1 else 0
 
 -- the word of a file's symbol: its strength, its file's position and member, and its index in the file

@@ -9,6 +9,7 @@ pub mod Gives
 pub mod Keys
 pub mod Kind
 pub mod Loaded
+pub mod LocalEnds
 pub mod Message
 pub mod Refs
 pub mod RelocationRules

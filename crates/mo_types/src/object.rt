@@ -1,13 +1,16 @@
 use crate::items::Items;
 use crate::string::Bytes;
 
+// A symbol fills a cache line.
+const _: () = prove!(size_of::<Symbol>() == 64);
+
 /// What a symbol stands for (`nlist.h`: `n_type`, `n_sect`, `n_value`).
 #[derive(Clone, Copy, Debug, PartialEq, Eq)]
 pub enum SymbolKind {
     /// An external symbol that another file defines.
     Undefined,
-    /// An external symbol with a size in bytes and an alignment exponent, but no section.
-    Common { size: u64, align: u8 },
+    /// An external symbol with an alignment exponent and a size in bytes, but no section.
+    Common { align: u8, size: u64 },
     /// A symbol in a section, by the section's number from 1 and the symbol's address in the object.
     Defined { section: u8, value: u64 },
     /// A symbol that is a number and no place.

@@ -1,9 +1,11 @@
 //! The references of an object.
 
 ghost use Rattle.std.specs.Prelude.{◌≡◌, ◌↔◌, [], ◌∷◌, ◌++◌, ◌<◌, length, slice_get, slice_index_or, IsTrue, OnOk, OnErr, OnSome};
+ghost use Rattle.std.specs.List.{list_any};
+ghost use Rattle.mo_types.specs.LocalEnds as ends;
 ghost use Rattle.mo_types.specs.declared.reference.Ref.{Ref};
 ghost use Rattle.mo_types.specs.declared.ref_row.Row.TheVariants as row;
-ghost use Rattle.mo_types.specs.inner.RefRows as rows;
+ghost use Rattle.mo_types.specs.inner.RefRows as spec;
 
 use crate::key::FileId;
 use crate::memory::OutOfMemory;
@@ -22,10 +24,13 @@ pub struct RefList {
     file: FileId,
     rows: Vec<Row>,
     others: Vec<Ref>,
+    has_local: bool,
 }
 
 impl Model for RefList {
-    ghost use Rattle.std.specs.Prelude.{List, length};
+    ghost use Rattle.std.specs.Prelude.{◌≡◌, List, length};
+    ghost use Rattle.std.specs.List.{list_any};
+    ghost use Rattle.mo_types.specs.LocalEnds as ends;
     ghost use Rattle.mo_types.specs.declared.reference.Ref.{Ref};
     ghost use Rattle.mo_types.specs.inner.RefRows.{AreRowsWithin, refs_of_rows};
 
@@ -33,7 +38,8 @@ impl Model for RefList {
 
     ghost view = { λ list. refs_of_rows list.file list.others.items list.rows.items };
 
-    ghost invariant = { λ list. AreRowsWithin (length list.others.items) list.rows.items };
+    ghost invariant = { λ list. AreRowsWithin (length list.others.items) list.rows.items
+        × (list.has_local ≡ list_any ends.has_local (refs_of_rows list.file list.others.items list.rows.items)) };
 }
 
 // Puts a reference behind those that are kept whole, and its row behind the rows.
@@ -55,6 +61,27 @@ fn add_other(rows: &mut Vec<Row>, others: &mut Vec<Ref>, reference: Ref) -> Resu
     Ok(())
 }
 
+// Puts a reference behind those of a file's rows.
+#[tactic(auto, using(crate::proofs::RefRowLemmas::pushes))]
+fn add(
+    file: FileId,
+    rows: &mut Vec<Row>,
+    others: &mut Vec<Ref>,
+    reference: Ref,
+) -> Result<(), OutOfMemory>
+    requires { spec.AreRowsWithin (length others.now.items) rows.now.items }
+    ensures ok { OnOk result (spec.refs_of_rows file others.new.items rows.new.items ≡ spec.refs_of_rows file others.old.items rows.old.items ++ reference ∷ []) }
+    ensures within { spec.AreRowsWithin (length others.new.items) rows.new.items }
+    ensures err_rows { OnErr result (rows.new.items ≡ rows.old.items) }
+    ensures err_others { OnErr result (others.new.items ≡ others.old.items) }
+{
+    match row_of(file, &reference) {
+        Some(row) => rows.push(row)?,
+        None => add_other(rows, others, reference)?,
+    }
+    Ok(())
+}
+
 impl RefList {
     /// No references, of a file's object, which takes no memory.
     pub fn new(alloc: Global, file: FileId) -> RefList
@@ -64,6 +91,7 @@ impl RefList {
             file,
             rows: Vec::new(alloc),
             others: Vec::new(alloc),
+            has_local: false,
         }
     }
 
@@ -77,15 +105,14 @@ impl RefList {
 
     /// Puts a reference at the end; where memory runs out, the list stays as it was. 2^32 references that are kept
     /// whole run out of it.
-    #[tactic(auto, using(crate::proofs::RefRowLemmas::pushes))]
+    #[tactic(auto, using(crate::proofs::RefRowLemmas::flags))]
     pub fn push(&mut self, reference: Ref) -> Result<(), OutOfMemory>
         ensures ok { OnOk result (self.new ≡ self.old ++ reference ∷ []) }
         ensures err { OnErr result (self.new ≡ self.old) }
     {
-        match row_of(self.file, &reference) {
-            Some(row) => self.rows.push(row)?,
-            None => add_other(&mut self.rows, &mut self.others, reference)?,
-        }
+        let has_local = self.has_local | reference.has_local();
+        add(self.file, &mut self.rows, &mut self.others, reference)?;
+        self.has_local = has_local;
         Ok(())
     }
 
@@ -101,6 +128,13 @@ impl RefList {
         ensures { IsTrue result ↔ (self.now ≡ []) }
     {
         self.rows.is_empty()
+    }
+
+    /// Whether a reference leads straight to an atom.
+    pub fn has_local(&self) -> bool
+        ensures { result ≡ list_any ends.has_local self.now }
+    {
+        self.has_local
     }
 
     /// The reference at a place, or `None` exactly where the list ends before it.

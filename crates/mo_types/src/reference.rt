@@ -1,3 +1,7 @@
+ghost use Rattle.std.specs.Prelude.{◌≡◌, false};
+ghost use Rattle.std.specs.Option.{option_map_or};
+ghost use Rattle.mo_types.specs.LocalEnds as ends;
+
 use crate::key::AtomKey;
 
 /// Where a reference leads.
@@ -7,6 +11,27 @@ pub enum Target {
     Name(u32),
     /// An atom of the reference's own object, and an offset from its start in bytes.
     Local(AtomKey, u64),
+}
+
+impl Target {
+    fn is_local(&self) -> bool
+        ensures { result ≡ ends.is_local self.now }
+    {
+        match self {
+            Target::Name(_) => false,
+            Target::Local(..) => true,
+        }
+    }
+}
+
+// Whether there is a target that is an atom.
+fn is_there_local(target: &Option<Target>) -> bool
+    ensures { result ≡ option_map_or ends.is_local target.now false }
+{
+    match target {
+        Some(target) => target.is_local(),
+        None => false,
+    }
 }
 
 /// What a reference's field holds (`mach-o/arm64/reloc.h`).
@@ -62,4 +87,13 @@ pub struct Ref {
     pub minus: Option<Target>,
     /// In bytes, added to the target.
     pub addend: i64,
+}
+
+impl Ref {
+    /// Whether its target, or what is subtracted from it, is an atom and no symbol.
+    pub(crate) fn has_local(&self) -> bool
+        ensures { result ≡ ends.has_local self.now }
+    {
+        self.target.is_local() || is_there_local(&self.minus)
+    }
 }

@@ -75,7 +75,7 @@ linked_place file number value (Some s) linked none = by (is_dropped s) refl lin
 kind_place : (file : LoadedFile) (index : ℕ) (kind : SymbolKind) → has_place file.object.sections kind ≡ true → None ≡ place_of file index kind → ⊥
 unfolding place_of
 kind_place file index Undefined has none = cc
-kind_place file index (Common size align) has none = cc
+kind_place file index (Common align size) has none = cc
 kind_place file index (Defined section value) has none = linked_place file section value (section_numbered file.object.sections section) has none
 kind_place file index Absolute has none = cc
 kind_place file index Passed has none = cc

@@ -26,5 +26,5 @@ place_in file number value section = if is_dropped section then None else Some (
 -- with the index as its offset; what isn't defined stands nowhere.
 unfoldable pub place_of : LoadedFile → ℕ → SymbolKind → Option Place
 place_of file index (Defined section value) = option_and_then (place_in file section value) (section_numbered file.object.sections section)
-place_of file index (Common size align) = Some (record { atom = record { file = file.id; section = COMMON_SECTION; offset = index }; offset = 0 })
+place_of file index (Common align size) = Some (record { atom = record { file = file.id; section = COMMON_SECTION; offset = index }; offset = 0 })
 place_of file index _ = None

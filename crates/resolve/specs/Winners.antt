@@ -41,15 +41,15 @@ is_exported command symbol =
 
 -- the size and the alignment of a common symbol; a definition in a section has those of its atom, and none of its own
 abbrev pub size_in : SymbolKind → ℕ
-size_in (Common size align) = size
+size_in (Common align size) = size
 size_in _ = 0
 
 abbrev pub align_in : SymbolKind → ℕ
-align_in (Common size align) = align
+align_in (Common align size) = align
 align_in _ = 0
 
 abbrev pub is_common : SymbolKind → Bool
-is_common (Common size align) = 1 == 1
+is_common (Common align size) = 1 == 1
 is_common _ = false
 
 -- the greatest size, and the greatest alignment, of the common symbols among some candidates
