@@ -52,15 +52,9 @@ const STEPS: usize = 8;
 // A hint has the value's place in its lower 24 bits, and bits of its atom's hash above them.
 const PLACES: u32 = 0xff_ffff;
 
-// How many hints a table has for a number of values: a power of two.
+// How many hints a table has for a number of values.
 fn table_size(count: usize) -> usize {
-    let mut size: usize = 16;
-    for _ in 0..21 {
-        if size < count.saturating_mul(2) {
-            size = size.saturating_mul(2);
-        }
-    }
-    size
+    count.min(PLACES as usize).saturating_mul(2).max(16)
 }
 
 // Puts a value's place into the table, at the place that its atom's hash tells or behind it, if there is room.

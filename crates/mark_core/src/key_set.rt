@@ -52,7 +52,8 @@ impl KeySet {
 
     /// The vector of the atoms, without taking memory.
     pub fn into_vec(self) -> Vec<AtomKey>
-        ensures { result.items ≡ self }
+        ensures all { result.items ≡ self }
+        ensures rising { IsStrictlySortedBy compare_keys result.items }
     {
         let KeySet { keys, .. } = self;
         keys

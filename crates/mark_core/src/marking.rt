@@ -28,6 +28,9 @@ fn joined(
     ensures same { IfOk result (λ keys. (atom : Key) → has keys.items atom ≡ has (roots ++ atoms.now.keys) atom) }
     ensures rising { IfOk result (λ keys. IsStrictlySortedBy compare_keys keys.items) }
 {
+    if atoms.is_empty() {
+        return Ok(roots.into_vec());
+    }
     let list = list_of(alloc, atoms)?;
     let mut keys = roots.into_vec();
     keys.extend_from_slice(list.as_slice())?;
