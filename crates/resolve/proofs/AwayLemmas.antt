@@ -1,15 +1,16 @@
 -- The edges that lead away from some atoms are those of all edges that do.
-use Rattle.std.proofs.Common.{◌≡◌, ◌++◌, ℕ, zero, suc, ◌==◌, Bool, true, false, List, [], ◌∷◌, map, slice_get, Some, None, inl, inr, refl, sym, ap, ap₂, ◌-◌, ◌∙◌, if◌then◌else◌}
+use Rattle.std.proofs.Common.{◌≡◌, ◌++◌, ℕ, zero, suc, ◌==◌, Bool, true, false, List, [], ◌∷◌, length, map, slice_get, Some, None, inl, inr, refl, sym, ap, ap₂, ◌-◌, ◌∙◌, if◌then◌else◌}
 use Rattle.std.specs.Prelude.{IfOk, Option, Result, Ok, Err}
 use Rattle.std.specs.List.{filter, flat_map, list_any}
 use Rattle.std.specs.Option.{is_some, option_and_then, option_map, option_map_or}
-use Rattle.std.proofs.lemmas.Bool.{cases_Bool, false≢true}
-use Rattle.std.proofs.lemmas.List.{append-nil}
+use Rattle.std.proofs.lemmas.Bool.{cases_Bool, eqb-true, false≢true, or_parts}
+use Rattle.std.proofs.lemmas.List.{append-nil, nil_from_length}
 use Rattle.std.proofs.lemmas.List.Elements.{filter-append}
 use Rattle.std.proofs.lemmas.Option.{get_or_from_slice_get, slice_get-map, slice_get_within}
 use Rattle.goal_table.specs.Table.{AreWithin, Tabled, goals_in, goals_of}
 use Rattle.list_lemmas.proofs.Members.{any_from_in, in_from_Contains}
 use Rattle.mark_core.specs.Kept.{begins_away, has, leads_away}
+use Rattle.mo_types.specs.LocalEnds.{has_local, is_local}
 use Rattle.mo_types.specs.RelocationRules.{section_numbered}
 use Rattle.mo_types.specs.declared.edge.Edge.{Edge}
 use Rattle.mo_types.specs.declared.goal.Goal.{Goal}
@@ -25,7 +26,7 @@ use Rattle.mo_types.specs.declared.unwind.Unwind.{Unwind}
 use Rattle.resolve.specs.Edges.{edge_from, edges_at, file_edges, file_supports, goal_atom, is_live_support, ref_edges, ref_supports, supports_at, supports_live, target_atom, unwind_edges}
 use Rattle.resolve.specs.declared.representative.Representative.{Representative}
 use Rattle.resolve.proofs.PlacedLemmas.{ends_told}
-use Rattle.resolve.specs.inner.Away.{AreAway, away, end_in, ends_in, file_away, goal_away, ref_away, target_away, unwind_away}
+use Rattle.resolve.specs.inner.Away.{AreAway, AreNone, away, end_in, ends_in, file_away, goal_away, ref_away, target_away, unwind_away}
 
 -- ---- lists
 
@@ -127,6 +128,41 @@ pub each_away : (roots : List AtomKey) (pool : List Goal) (ends : List (Option A
 each_away roots pool ends is = record { each = λ place. ap (λ (es : List (Option AtomKey)). end_in es place) is }
 
 pub ruleset aways = (nothing_away, each_away)
+
+pub none_in : (pool ends : List (Option AtomKey)) (places : List ℕ) (empty : Bool) → empty ≡ (length pool == 0) → empty ≡ true → ends ≡ ends_in pool places → AreNone ends
+unfolding ends_in
+none_in pool ends places empty same told is =
+    let none : length pool ≡ 0 = eqb-true (length pool) 0 (sym same ∙ told) in
+    let nothing : pool ≡ [] = nil_from_length pool none in
+    record { each = λ index. ap (λ (es : List (Option AtomKey)). option_and_then (λ (end : Option AtomKey). end) (slice_get es index)) (is ∙ ap (λ (os : List (Option AtomKey)). map (end_in os) places) nothing) ∙ by places index }
+  where
+    by : (there : List ℕ) (k : ℕ) → option_and_then (λ (end : Option AtomKey). end) (slice_get (map (end_in []) there) k) ≡ None
+    by [] k = refl
+    by (place ∷ there) zero = refl
+    by (place ∷ there) (suc k) = by there k
+
+-- references to symbols that lead nowhere give no edges
+no_target : (literals : List Representative) (roots : List AtomKey) (ends : List (Option AtomKey)) (target : Target) → AreNone ends → is_local target ≡ false → target_away literals roots ends target ≡ None
+no_target literals roots ends (Name index) none named = none.each index
+no_target literals roots ends (Local atom offset) none named = absurd (false≢true (sym named))
+
+no_optional : (literals : List Representative) (roots : List AtomKey) (ends : List (Option AtomKey)) (target : Option Target) → AreNone ends → option_map_or is_local target false ≡ false → option_and_then (target_away literals roots ends) target ≡ None
+no_optional literals roots ends None none named = refl
+no_optional literals roots ends (Some target) none named = no_target literals roots ends target none named
+
+no_ref_away : (literals : List Representative) (roots : List AtomKey) (ends : List (Option AtomKey)) (ref : Ref) → AreNone ends → has_local ref ≡ false → ref_away literals roots ends ref ≡ []
+unfolding ref_away
+no_ref_away literals roots ends ref none named =
+    let parts : (is_local ref.target ≡ false) × (option_map_or is_local ref.minus false ≡ false) = or_parts (is_local ref.target) (option_map_or is_local ref.minus false) named in
+    ap (λ (o : Option AtomKey). edge_from ref.atom o ++ edge_from ref.atom (option_and_then (target_away literals roots ends) ref.minus)) (no_target literals roots ends ref.target none parts.0)
+    ∙ ap (edge_from ref.atom) (no_optional literals roots ends ref.minus none parts.1)
+
+pub no_refs_away : (literals : List Representative) (roots : List AtomKey) (ends : List (Option AtomKey)) (refs : List Ref) → AreNone ends → list_any has_local refs ≡ false → flat_map (ref_away literals roots ends) refs ≡ []
+no_refs_away literals roots ends [] none named = refl
+no_refs_away literals roots ends (ref ∷ refs) none named =
+    let parts : (has_local ref ≡ false) × (list_any has_local refs ≡ false) = or_parts (has_local ref) (list_any has_local refs) named in
+    ap (λ (es : List Edge). es ++ flat_map (ref_away literals roots ends) refs) (no_ref_away literals roots ends ref none parts.0)
+    ∙ no_refs_away literals roots ends refs none parts.1
 
 ends_alike : (ends others : List (Option AtomKey)) (places : List ℕ) → ((place : ℕ) → end_in ends place ≡ end_in others place) → ends_in ends places ≡ ends_in others places
 unfolding ends_in

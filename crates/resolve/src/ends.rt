@@ -1,7 +1,7 @@
 //! Where the symbols of a file lead, by the places of their goals in a pool.
-ghost use Rattle.std.specs.Prelude.{◌≡◌, slice_get};
+ghost use Rattle.std.specs.Prelude.{◌≡◌, slice_get, true};
 ghost use Rattle.std.specs.Option.{option_and_then};
-ghost use Rattle.resolve.specs.inner.Away.{ends_in};
+ghost use Rattle.resolve.specs.inner.Away.{AreNone, ends_in};
 
 use mo_types::AtomKey;
 use std::marker::Model;
@@ -29,6 +29,13 @@ impl<'a> Ends<'a> {
         ensures { result ≡ ends_in pool.now places.now }
     {
         Ends { pool, places }
+    }
+
+    /// Whether it is known that no symbol leads to an atom that counts.
+    pub(crate) fn are_none(&self) -> bool
+        ensures { result ≡ true → AreNone self.now }
+    {
+        self.pool.is_empty()
     }
 
     /// The atom to which the symbol of an index leads.

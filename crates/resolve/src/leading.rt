@@ -198,9 +198,9 @@ fn with_ref_away_at(
     }
 }
 
-// Edges, and those of references.
+// Edges, and those of each reference.
 #[tactic(auto, using(crate::proofs::GrowLemmas::grows))]
-fn with_refs_away(
+fn with_each_ref_away(
     before: Vec<Edge>,
     winners: &Winners,
     roots: &KeySet,
@@ -214,6 +214,23 @@ fn with_refs_away(
         edges = with_ref_away_at(edges, winners, roots, ends, refs, at)?;
     }
     Ok(edges)
+}
+
+// Edges, and those of references. Where no symbol leads away, and no reference straight to an atom, it goes through no
+// references.
+fn with_refs_away(
+    before: Vec<Edge>,
+    winners: &Winners,
+    roots: &KeySet,
+    ends: &Ends,
+    refs: &RefList,
+) -> Result<Vec<Edge>, OutOfMemory>
+    ensures { IfOk result (λ new. new.items ≡ before.items ++ flat_map (aways.ref_away winners.now.literals roots.now ends.now) refs.now) }
+{
+    if ends.are_none() && !refs.has_local() {
+        return Ok(before);
+    }
+    with_each_ref_away(before, winners, roots, ends, refs)
 }
 
 // The atom of the data for handling a function's exceptions, if it isn't a root.
@@ -437,8 +454,8 @@ fn with_supports_at(
 /// kept, so are those. Then the supports, from atoms of sections with S_ATTR_LIVE_SUPPORT (`loader.h`) to where their
 /// references lead: where one of these is kept, so is the atom. File by file, by the goals of each file's symbols, as
 /// `goal_table` gives them; no name is looked up. Edges that end in a root, and supports that begin in one, are left out:
-/// they add nothing to what is kept. In which atom a goal stands and whether that is a root is asked once for each goal of
-/// the pool.
+/// they add nothing to what is kept. In which atom a goal stands and whether that is a root is asked at most twice for each
+/// goal of the pool; where all are roots, only the references of files are gone through that lead straight to atoms.
 pub fn edges(
     alloc: Global,
     loaded: &Loaded,

@@ -1,5 +1,5 @@
 -- The edges that lead away from some atoms, by where the symbols of a file lead.
-use Rattle.std.specs.Prelude.{ℕ, ◌≡◌, ◌++◌, not, List, map, Option, slice_get}
+use Rattle.std.specs.Prelude.{ℕ, ◌≡◌, ◌++◌, not, List, map, None, Option, slice_get}
 use Rattle.std.specs.List.{flat_map}
 use Rattle.std.specs.Option.{option_and_then, option_map}
 use Rattle.mark_core.specs.Kept.{has}
@@ -34,6 +34,10 @@ pub record AreAway (roots : List AtomKey) (pool : List Goal) (ends : List (Optio
 
 unfoldable pub ends_in : List (Option AtomKey) → List ℕ → List (Option AtomKey)
 ends_in ends places = map (end_in ends) places
+
+-- no symbol leads anywhere
+pub record AreNone (ends : List (Option AtomKey)) : Type 0 where
+  pub each : (index : ℕ) → option_and_then (λ end. end) (slice_get ends index) ≡ None
 
 -- the same of a target, by those of the file's symbols
 abbrev pub target_away : List Representative → List AtomKey → List (Option AtomKey) → Target → Option AtomKey

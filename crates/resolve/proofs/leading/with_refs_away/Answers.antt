@@ -1,6 +1,10 @@
-use Rattle.resolve.specs.inner.Away.{ref_away}
-use Rattle.resolve.proofs.GrowLemmas.{grow_at}
+use Rattle.std.proofs.Common.{◌++◌, List, ap, sym, ◌∙◌}
+use Rattle.std.proofs.lemmas.List.{append-nil}
+use Rattle.mo_types.specs.declared.edge.Edge.{Edge}
+use Rattle.resolve.proofs.AwayLemmas.{no_refs_away}
 use Rattle.resolve.proofs.leading.with_refs_away.Goals as goal
 
-pub loop-at-preserved : goal.loop-at-preserved
-loop-at-preserved c = grow_at (ref_away c.args.winners.now.literals c.args.roots.now c.args.ends.now) c.args.before.items c.loop-at.edges.items c.in_ok-edges.edges.items c.args.refs.now c.loop-at.at c.loop-at.invariant c.in_ok-edges.ensures
+pub returns-then-not-has_local : goal.returns-then-not-has_local
+returns-then-not-has_local c =
+    sym (append-nil c.args.before.items)
+    ∙ ap (λ (es : List Edge). c.args.before.items ++ es) (sym (no_refs_away c.args.winners.now.literals c.args.roots.now c.args.ends.now c.args.refs.now (c.are_none.ensures c.if-are_none.true) (sym c.has_local.ensures ∙ c.if-not-has_local.true)))
