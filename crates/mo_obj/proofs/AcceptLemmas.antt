@@ -1,5 +1,5 @@
 -- An object that is accepted is whole, and its references can be read.
-use Rattle.std.proofs.Common.{tests, ◌≡◌, ℕ, ◌-◌, ◌%◌, ◌^◌, ◌<◌, ◌≤◌, ◌==◌, List, length, Bool, true, false, not, if◌then◌else◌, Option, Some, None, Ok, All, IfErr, IfSome, IsTrue, slice_get, slice_index, refl, sym, ap, subst, ◌∙◌, arith}
+use Rattle.std.proofs.Common.{tests, ◌≡◌, ℕ, ◌-◌, ◌%◌, ◌^◌, ◌<◌, ◌≤◌, ◌==◌, List, length, Bool, true, false, not, if◌then◌else◌, Option, Some, None, Ok, All, IfSome, IsTrue, slice_get, slice_index, refl, sym, ap, subst, ◌∙◌, arith}
 use Rattle.std.proofs.lemmas.Option.{slice_get-get_or}
 use Rattle.std.specs.List.{list_any}
 use Rattle.std.specs.Option.{option_map_or}

@@ -1,7 +1,7 @@
 -- What the reader of references finds, as a rule or a feature of the object.
-use Rattle.std.proofs.Common.{◌≡◌, ℕ, Option, Some, None, Result, Ok, Err, IfErr, refl, sym, ap, subst, ◌∙◌}
+use Rattle.std.proofs.Common.{◌≡◌, ℕ, Option, Some, None, Result, Ok, Err, refl, sym, ap, ◌∙◌}
 use Rattle.mo_types.specs.Gives.{◌>>=◌}
-use Rattle.mo_types.specs.Refs.{IsRefFault, refs_from, refs_of}
+use Rattle.mo_types.specs.Refs.{refs_from, refs_of}
 use Rattle.mo_types.specs.RelocationRules.{first_fault, pair_fault, shape_fault, place_fault, target_fault}
 use Rattle.mo_types.specs.declared.cause.Feature.{Feature}
 use Rattle.mo_types.specs.declared.cause.Rule.TheVariants as rule
@@ -11,7 +11,6 @@ use Rattle.mo_types.specs.declared.object_fault.ObjFault.{ObjFault}
 use Rattle.mo_types.specs.declared.object_fault.ObjFault.TheVariants as fault
 use Rattle.mo_types.specs.declared.reference_fault.RefFault.{RefFault}
 use Rattle.mo_types.specs.declared.reference_fault.RefFault.TheVariants.{BadPair, BadShape, BadPlace, BadTarget, Unsupported, OutOfMemory}
-use Rattle.reloc_read.specs.Faults.{IsClean}
 use Rattle.reloc_read.specs.Checked.{checked, feature_of, unless_fault}
 use Rattle.reloc_read.proofs.CheckedLemmas.{read_all}
 use Rattle.mo_obj.specs.Faults.{keeps}
@@ -24,7 +23,7 @@ told (Err (BadPair place)) = Err (fault.Malformed place rule.Pair)
 told (Err (BadShape place)) = Err (fault.Malformed place rule.Shape)
 told (Err (BadPlace place)) = Err (fault.Malformed place rule.Place)
 told (Err (BadTarget place)) = Err (fault.Malformed place rule.Target)
-told (Err (Unsupported feature)) = Ok (Some feature)
+told (Err (Unsupported feature)) = Err (fault.Unsupported feature)
 told (Err OutOfMemory) = Err fault.OutOfMemory
 
 rules_told : (pair shape place target : Option ℕ) (feature : Option Feature) → told (unless_fault BadPair pair (unless_fault BadShape shape (unless_fault BadPlace place (unless_fault BadTarget target (Ok feature))))) ≡ (keeps rule.Pair pair (tt {0}) >>= λ p. keeps rule.Shape shape (tt {0}) >>= λ s. keeps rule.Place place (tt {0}) >>= λ l. keeps rule.Target target feature)
@@ -57,15 +56,10 @@ told_place object place is = as_told object (Err (BadPlace place)) is
 pub told_target : (object : Object) (place : ℕ) → checked object ≡ Err (BadTarget place) → relocations_of object ≡ Err (fault.Malformed place rule.Target)
 told_target object place is = as_told object (Err (BadTarget place)) is
 
-pub told_any_feature : (object : Object) (found : RefFault) (feature : Feature) → found ≡ Unsupported feature → (IsRefFault found → checked object ≡ Err found) → relocations_of object ≡ Ok (Some feature)
-told_any_feature object (Unsupported other) feature same known = as_told object (Err (Unsupported other)) (known tt) ∙ ap (λ e. told (Err e)) same
-told_any_feature object (BadPair place) feature same known = cc
-told_any_feature object (BadShape place) feature same known = cc
-told_any_feature object (BadPlace place) feature same known = cc
-told_any_feature object (BadTarget place) feature same known = cc
-told_any_feature object OutOfMemory feature same known = cc
+pub told_feature : (object : Object) (feature : Feature) → checked object ≡ Err (Unsupported feature) → relocations_of object ≡ Err (fault.Unsupported feature)
+told_feature object feature is = as_told object (Err (Unsupported feature)) is
 
-pub ruleset answers = (told_pair, told_shape, told_place, told_target)
+pub ruleset answers = (told_pair, told_shape, told_place, told_target, told_feature)
 
 found_nothing : (answer : Result (Option Feature) RefFault) → told answer ≡ Ok None → answer ≡ Ok None
 found_nothing (Ok None) e = refl
@@ -79,25 +73,3 @@ found_nothing (Err OutOfMemory) e = cc
 
 pub read_where_nothing : (object : Object) (file : FileId) → relocations_of object ≡ Ok None → refs_of object file ≡ Ok (refs_from object file 1 object.sections)
 read_where_nothing object file is = read_all object file (found_nothing (checked object) (told_of_object object ∙ is))
-
--- a feature is no fault
-
-never_unsupported : (pair shape place target : Option ℕ) (found : Option Feature) (feature : Feature) → unless_fault BadPair pair (unless_fault BadShape shape (unless_fault BadPlace place (unless_fault BadTarget target (Ok found)))) ≡ Err (Unsupported feature) → ⊥
-never_unsupported (Some at) shape place target found feature e = cc
-never_unsupported None (Some at) place target found feature e = cc
-never_unsupported None None (Some at) target found feature e = cc
-never_unsupported None None None (Some at) found feature e = cc
-never_unsupported None None None None found feature e = cc
-
-is_no_fault : (object : Object) (feature : Feature) → checked object ≡ Err (Unsupported feature) → ⊥
-unfolding checked
-is_no_fault object feature is =
-    never_unsupported (first_fault pair_fault object) (first_fault shape_fault object) (first_fault place_fault object) (first_fault target_fault object) (feature_of object) feature is
-
-pub clean_all_the_same : (object : Object) (found : RefFault) (feature : Feature) → found ≡ Unsupported feature → (IsRefFault found → checked object ≡ Err found) → IsClean object
-clean_all_the_same object (Unsupported other) feature same known = absurd (is_no_fault object other (known tt))
-clean_all_the_same object (BadPair place) feature same known = cc
-clean_all_the_same object (BadShape place) feature same known = cc
-clean_all_the_same object (BadPlace place) feature same known = cc
-clean_all_the_same object (BadTarget place) feature same known = cc
-clean_all_the_same object OutOfMemory feature same known = cc

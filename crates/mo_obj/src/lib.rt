@@ -32,7 +32,6 @@ pub use laws::{
 };
 use mo_format::loader::MH_SUBSECTIONS_VIA_SYMBOLS;
 use mo_types::{AtomList, Bytes, FileId, ObjFault, Object, RefList};
-use reloc_read::refs_of_checked;
 use sections::{checked_sections, keep_literals};
 use std::alloc::Global;
 use symbols::{any_foreign, symbols_of, symtab_of};
@@ -112,8 +111,7 @@ pub fn read_for_link(alloc: Global, file: &Bytes, id: FileId) -> Result<LinkObje
 {
     let Described { object, foreign } = describe(alloc, file)?;
     let atoms = cut(alloc, &object, id)?;
-    accept(alloc, &object, &atoms, id, foreign)?;
-    let refs = refs_of_checked(alloc, &object, &atoms, id)?;
+    let refs = accept(alloc, &object, &atoms, id, foreign)?;
     Ok(LinkObject {
         object,
         atoms,

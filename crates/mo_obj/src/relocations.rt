@@ -1,32 +1,32 @@
 //! The rules of relocations, which the readers of atoms and references ask (`reloc.h`).
 
-ghost use Rattle.std.specs.Prelude.{◌≡◌, IfOk};
+ghost use Rattle.std.specs.Prelude.{◌≡◌, Err, IfErr, IfOk, Ok};
 ghost use Rattle.mo_types.specs.Atoms.{atoms_of};
-ghost use Rattle.mo_types.specs.Gives.{Gives};
+ghost use Rattle.mo_types.specs.Refs.{refs_from};
 ghost use Rattle.mo_types.specs.Whole.{IsWhole};
-ghost use Rattle.reloc_read.specs.Faults.{IsClean};
 ghost use Rattle.mo_obj.specs.Faults.{IsObjFault};
 ghost use Rattle.mo_obj.specs.Relocations as relocations;
 
-use mo_types::{AtomList, Feature, FileId, ObjFault, Object, RefFault, Rule};
-use reloc_read::check;
+use mo_types::{AtomList, FileId, ObjFault, Object, RefFault, Rule};
+use reloc_read::{FoundRefs, read};
 use std::alloc::Global;
 
-/// The first rule that fails, or what a relocation of the object has that the linker doesn't.
+/// The references of an object with what a relocation has that the linker doesn't, or the first rule that fails.
 #[tactic(auto, using(crate::proofs::RelocationLemmas::answers))]
 pub fn relocations_of(
     alloc: Global,
     object: &Object,
     atoms: &AtomList,
     file: FileId,
-) -> Result<Option<Feature>, ObjFault>
+) -> Result<FoundRefs, ObjFault>
     requires whole { IsWhole object.now }
     requires atoms { atoms.now ≡ atoms_of object.now file }
-    ensures exact { Gives IsObjFault result (relocations.relocations_of object.now) }
-    ensures clean { IfOk result (λ feature. IsClean object.now) }
+    ensures feature { IfOk result (λ found. relocations.relocations_of object.now ≡ Ok found.feature) }
+    ensures refs { IfOk result (λ found. found.refs ≡ refs_from object.now file 1 object.now.sections) }
+    ensures fault { IfErr result (λ fault. IsObjFault fault → relocations.relocations_of object.now ≡ Err fault) }
 {
-    match check(alloc, object, atoms, file) {
-        Ok(feature) => Ok(feature),
+    match read(alloc, object, atoms, file) {
+        Ok(found) => Ok(found),
         Err(RefFault::BadPair { place }) => Err(ObjFault::Malformed {
             place,
             rule: Rule::Pair,
@@ -43,7 +43,7 @@ pub fn relocations_of(
             place,
             rule: Rule::Target,
         }),
-        Err(RefFault::Unsupported(feature)) => Ok(Some(feature)),
+        Err(RefFault::Unsupported(feature)) => Err(ObjFault::Unsupported(feature)),
         Err(RefFault::OutOfMemory) => Err(ObjFault::OutOfMemory),
     }
 }

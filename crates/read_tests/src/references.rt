@@ -10,7 +10,7 @@ use mo_types::{
     Bytes, Feature, Object, OutOfMemory, RawReloc, Ref, RefFault, RefKind, RefList, RelocList,
     Section, SectionList, SymbolKind, SymbolList, Target,
 };
-use reloc_read::refs_of;
+use reloc_read::{FoundRefs, refs_of};
 use std::alloc::Global;
 use std::test::Fail;
 use test_objects::{defined, file_id, key, object_of, symbol};
@@ -88,12 +88,13 @@ fn is_answer(found: &Result<RefList, RefFault>, wanted: &Result<&[Ref], RefFault
     }
 }
 
-// What the check of relocations answers where their references are to be read so.
-fn check_of(wanted: &Result<&[Ref], RefFault>) -> Result<Option<Feature>, RefFault> {
-    match wanted {
-        Ok(_) => Ok(None),
-        Err(RefFault::Unsupported(feature)) => Ok(Some(*feature)),
-        Err(fault) => Err(*fault),
+// Whether relocations are found so, whose references are to be read so.
+fn is_found(found: &Result<FoundRefs, RefFault>, wanted: &Result<&[Ref], RefFault>) -> bool {
+    match (found, wanted) {
+        (Ok(found), Ok(wanted)) => found.feature.is_none() && are_read(&found.refs, wanted),
+        (Ok(found), Err(RefFault::Unsupported(feature))) => found.feature == Some(*feature),
+        (Err(found), Err(wanted)) => found == wanted,
+        _ => false,
     }
 }
 
@@ -107,9 +108,9 @@ fn object_is_read(
     }
     let file = file_id(1);
     let atoms = cut(alloc, object, file)?;
-    let is_checked = reloc_read::check(alloc, object, &atoms, file) == check_of(wanted);
-    let found = refs_of(alloc, object, &atoms, file);
-    Ok(is_checked && is_answer(&found, wanted))
+    let found = reloc_read::read(alloc, object, &atoms, file);
+    let refs = refs_of(alloc, object, &atoms, file);
+    Ok(is_found(&found, wanted) && is_answer(&refs, wanted))
 }
 
 // Whether these relocations are checked and read so.

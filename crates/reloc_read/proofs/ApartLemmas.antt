@@ -71,10 +71,10 @@ and_comm true false = refl
 and_comm false true = refl
 and_comm false false = refl
 
-no_overlap : (a b : Field) → a.offset + a.size ≤ b.offset → overlap a b ≡ false
+pub no_overlap : (a b : Field) → a.offset + a.size ≤ b.offset → overlap a b ≡ false
 no_overlap a b low = and_false (ltb a.offset (b.offset + b.size)) (ltb b.offset (a.offset + a.size)) (le-ltb b.offset (a.offset + a.size) low)
 
-overlap_flips : (a b : Field) → overlap a b ≡ overlap b a
+pub overlap_flips : (a b : Field) → overlap a b ≡ overlap b a
 overlap_flips a b = and_comm (ltb a.offset (b.offset + b.size)) (ltb b.offset (a.offset + a.size))
 
 distinct_sorted : (fields : List Field) → Follow fields → IsDistinct overlap fields
@@ -128,18 +128,22 @@ not_itself : (same other : Bool) → (same ≡ false → other ≡ false) → (n
 not_itself true other none = refl
 not_itself false other none = none refl
 
+-- fields stand apart where no two of them overlap
+pub apart_of_pairs : (relocs : List RawReloc) → ((i j : ℕ) (a b : Field) → i < j → j < length relocs → field_at relocs i ≡ Some a → field_at relocs j ≡ Some b → overlap a b ≡ false) → AreApart relocs
+apart_of_pairs relocs pairs = record {
+  apart = λ at field within here. none_in_range (overlaps_at relocs at field) 0 (length relocs) (λ k low high.
+      not_itself (eqb k at) (option_map_or (overlap field) (field_at relocs k) false) (λ differ. tested field (field_at relocs k) (λ other there.
+      elim (cases_order at k) [
+        | inl same ↦ absurd (eqb-false k at differ (sym same))
+        | inr (inl less) ↦ pairs at k field other less (omega arith) here there
+        | inr (inr more) ↦ overlap_flips field other ∙ pairs k at other field more within there here
+      ])));
+}
+
 pub apart_from_follow : (relocs : List RawReloc) (found sorted : List Field) → found ≡ filter_map (field_at relocs) (range_with_len 0 (length relocs)) → IsPermutation found sorted → Follow sorted → AreApart relocs
 apart_from_follow relocs found sorted is moved follow =
     let distinct : IsDistinct overlap (filter_map (field_at relocs) (range_with_len 0 (length relocs))) =
     subst (λ (xs : List Field). IsDistinct overlap xs) is (IsDistinct-IsPermutation overlap overlap_flips sorted found (IsPermutation-sym found sorted moved) (distinct_sorted sorted follow)) in
-    record {
-      apart = λ at field within here. none_in_range (overlaps_at relocs at field) 0 (length relocs) (λ k low high.
-          not_itself (eqb k at) (option_map_or (overlap field) (field_at relocs k) false) (λ differ. tested field (field_at relocs k) (λ other there.
-          elim (cases_order at k) [
-            | inl same ↦ absurd (eqb-false k at differ (sym same))
-            | inr (inl less) ↦ rows_apart (field_at relocs) 0 (length relocs) at k field other distinct (omega arith) less high here there
-            | inr (inr more) ↦ overlap_flips field other ∙ rows_apart (field_at relocs) 0 (length relocs) k at other field distinct (omega arith) more (omega arith) there here
-          ])));
-    }
+    apart_of_pairs relocs (λ i j a b less within is its. rows_apart (field_at relocs) 0 (length relocs) i j a b distinct (omega arith) less (omega arith) is its)
 
 pub ruleset aparts = (apart_from_follow)

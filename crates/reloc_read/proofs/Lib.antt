@@ -7,6 +7,7 @@ pub mod LinkedLemmas
 pub mod LookupLemmas
 pub mod NoFaultLemmas
 pub mod NumberLemmas
+pub mod OrderLemmas
 pub mod OverlapLemmas
 pub mod PointLemmas
 pub mod RefLemmas

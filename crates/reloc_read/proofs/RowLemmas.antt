@@ -11,12 +11,14 @@ use Rattle.mo_types.specs.declared.key.FileId.{FileId}
 use Rattle.mo_types.specs.declared.object.Object.{Object}
 use Rattle.mo_types.specs.declared.object.Section.{Section}
 use Rattle.mo_types.specs.declared.reference.Ref.{Ref}
+use Rattle.mo_types.specs.Atoms.{cut_of}
 use Rattle.mo_types.specs.Refs.{reference, reference_at}
 use Rattle.reloc_read.specs.Faults.{place_of, row_faults}
 use Rattle.reloc_read.proofs.NoFaultLemmas.{field_fits, target_is_good}
 use Rattle.reloc_read.specs.declared.rows.RelocRow.{RelocRow}
 use Rattle.reloc_read.specs.Fields.{IsSmall}
-use Rattle.reloc_read.specs.RelocRow.{IsRow}
+use Rattle.reloc_read.specs.declared.linked_section.LinkedSection.{LinkedSection}
+use Rattle.reloc_read.specs.RelocRow.{IsRow, field_cut}
 
 kept : (test : Bool) (x y : RawReloc) → when test x ≡ Some y → (test ≡ true) × (x ≡ y)
 kept true x y e = (refl, cc)
@@ -82,13 +84,26 @@ pub ruleset fields = (field_read, field_small)
 
 -- its place
 
-pub bad_place : (object : Object) (number : ℕ) (section : Section) (at : ℕ) (row : RelocRow) (start : ℕ) → IsRow section.relocs at row → is_bad_field object number section at row.kind row.field ≡ true → start ≡ row_start section.relocs at → Some start ≡ place_fault object number section at
-unfolding place_fault
-bad_place object number section at row start is bad e = rw (is.kind, is.field, bad) (ap Some e)
+-- what is where a test fails
+unless_some : {A : Type 0} (test : Bool) (x : A) → None ≡ when (not test) x → test ≡ true
+unless_some true x e = refl
+unless_some false x e = cc
 
-pub good_place : (object : Object) (number : ℕ) (section : Section) (at : ℕ) (row : RelocRow) → IsRow section.relocs at row → is_bad_field object number section at row.kind row.field ≡ false → None ≡ place_fault object number section at
+unless_none : {A : Type 0} (test : Bool) (x y : A) → Some y ≡ when (not test) x → (test ≡ false) × (y ≡ x)
+unless_none true x y e = cc
+unless_none false x y e = (refl, cc)
+
+pub bad_place : (linked : LinkedSection) (at : ℕ) (row : RelocRow) (start : ℕ) → IsRow linked.section.now.relocs at row → None ≡ field_cut linked at row → start ≡ row_start linked.section.now.relocs at → Some start ≡ place_fault linked.cut.object.now (linked.index + 1) linked.section.now at
 unfolding place_fault
-good_place object number section at row is good = rw (is.kind, is.field, good) refl
+bad_place linked at row start is none e =
+    let bad : is_bad_field linked.cut.object.now (linked.index + 1) linked.section.now at row.kind row.field ≡ true = unless_some _ _ none in
+    rw (is.kind, is.field, bad) (ap Some e)
+
+pub good_place : (linked : LinkedSection) (at : ℕ) (row : RelocRow) (cut : ℕ) → IsRow linked.section.now.relocs at row → Some cut ≡ field_cut linked at row → None ≡ place_fault linked.cut.object.now (linked.index + 1) linked.section.now at
+unfolding place_fault
+good_place linked at row cut is some =
+    let good : is_bad_field linked.cut.object.now (linked.index + 1) linked.section.now at row.kind row.field ≡ false = (unless_none _ _ _ some).0 in
+    rw (is.kind, is.field, good) refl
 
 pub ruleset places = (field_read, field_small, bad_place, good_place)
 
@@ -155,4 +170,16 @@ row_fits object number section at row is none = field_fits object number section
 pub row_leads : (object : Object) (number : ℕ) (section : Section) (at : ℕ) (row : RelocRow) → IsRow section.relocs at row → target_fault object number section at ≡ None → is_bad_target object section.bytes row.field row.last ≡ false
 row_leads object number section at row is none = target_is_good object number section at row.last row.field none is.last is.field
 
-pub ruleset references = (field_small, no_reference, row_fits, row_leads)
+-- what keeps the rules is in one atom, fits, and leads where it may
+pub cut_fits : (linked : LinkedSection) (at : ℕ) (row : RelocRow) (cut : ℕ) → Some cut ≡ field_cut linked at row → IsRow linked.section.now.relocs at row → row.field.offset + row.field.size ≤ linked.section.now.size
+cut_fits linked at row cut some is = row_fits linked.cut.object.now (linked.index + 1) linked.section.now at row is (sym (good_place linked at row cut is some))
+
+pub cut_is : (linked : LinkedSection) (at : ℕ) (row : RelocRow) (cut : ℕ) → Some cut ≡ field_cut linked at row → cut ≡ cut_of linked.cut.object.now (linked.index + 1) linked.section.now row.field.offset
+cut_is linked at row cut some = (unless_none _ _ _ some).1
+
+pub no_cut : (linked : LinkedSection) (at : ℕ) (row : RelocRow) → None ≡ field_cut linked at row → IsRow linked.section.now.relocs at row → place_fault linked.cut.object.now (linked.index + 1) linked.section.now at ≡ None → ⊥
+no_cut linked at row none is good =
+    let bad : Some (row_start linked.section.now.relocs at) ≡ place_fault linked.cut.object.now (linked.index + 1) linked.section.now at = bad_place linked at row _ is none refl in
+    cc
+
+pub ruleset references = (field_small, row_leads, cut_fits, cut_is)

@@ -19,6 +19,16 @@ overlaps_at relocs at field other = not (other == at) && option_map_or (overlap 
 pub record AreApart (relocs : List RawReloc) : Type 0 where
   pub apart : (at : ℕ) (field : Field) → at < length relocs → field_at relocs at ≡ Some field → overlaps_another relocs at field ≡ false
 
+-- the fields of the rows before a place stand apart, and end by a bound
+pub record AreBelow (relocs : List RawReloc) (count bound : ℕ) : Type 0 where
+  pub each : (k : ℕ) (field : Field) → k < count → field_at relocs k ≡ Some field → field.offset + field.size ≤ bound
+  pub apart : (i j : ℕ) (a b : Field) → i < j → j < count → field_at relocs i ≡ Some a → field_at relocs j ≡ Some b → overlap a b ≡ false
+
+-- they stand apart, and begin at a bound or after it
+pub record AreAbove (relocs : List RawReloc) (count bound : ℕ) : Type 0 where
+  pub each : (k : ℕ) (field : Field) → k < count → field_at relocs k ≡ Some field → bound ≤ field.offset
+  pub apart : (i j : ℕ) (a b : Field) → i < j → j < count → field_at relocs i ≡ Some a → field_at relocs j ≡ Some b → overlap a b ≡ false
+
 -- each field but the last one ends before the next
 pub record Follow (fields : List Field) : Type 0 where
   pub next : (k : ℕ) (d : Field) → k + 1 < length fields → (slice_index_or fields k d).offset + (slice_index_or fields k d).size ≤ (slice_index_or fields (k + 1) d).offset

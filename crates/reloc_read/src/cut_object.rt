@@ -146,6 +146,7 @@ pub fn cuts_of(cut: &CutObject, index: usize, offset: u64, behind: u64) -> (u64,
     requires index { index < length cut.now.object.now.sections }
     requires linked { (d : Section) → is_dropped (slice_index_or cut.now.object.now.sections index d) ≡ false }
     ensures first { (d : Section) → result.0 ≡ cutting.cut_of cut.now.object.now (index + 1) (slice_index_or cut.now.object.now.sections index d) offset }
+    ensures within { result.0 ≤ offset }
     ensures second { (d : Section) → result.1 ≡ cutting.cut_of cut.now.object.now (index + 1) (slice_index_or cut.now.object.now.sections index d) behind }
 {
     let from = first_for(cut.guides, index, offset);

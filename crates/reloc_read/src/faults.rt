@@ -1,6 +1,6 @@
 //! The least place at which each rule of relocations fails.
 
-ghost use Rattle.std.specs.Prelude.{◌≡◌, ◌+◌, ◌*◌, ◌<◌, ◌^◌, ℕ, None, length, slice_index_or, IfSome, IfOk};
+ghost use Rattle.std.specs.Prelude.{◌≡◌, ◌+◌, ◌*◌, ◌<◌, ◌≤◌, ◌^◌, ℕ, None, length, slice_index_or, IfSome, IfOk};
 ghost use Rattle.mo_types.specs.RelocationRules as rules;
 ghost use Rattle.mo_types.specs.declared.object.Object.{Object};
 ghost use Rattle.mo_types.specs.declared.object.Section.{Section};
@@ -38,14 +38,16 @@ fn lesser(a: Option<u64>, b: Option<u64>) -> Option<u64>
     }
 }
 
-const NONE: Faults = Faults {
+/// No rule fails.
+pub const NONE: Faults = Faults {
     pair: None,
     shape: None,
     place: None,
     target: None,
 };
 
-fn merge(a: Faults, b: Faults) -> Faults
+/// For each rule the lesser place.
+pub fn merge(a: Faults, b: Faults) -> Faults
     ensures { result ≡ faults.merged a b }
 {
     Faults {
@@ -66,27 +68,35 @@ fn place_of(section: &Section, index: Option<usize>) -> Option<u64>
     Some(section.reloc_offset + 8 * index as u64)
 }
 
-// The faults of a row, which keeps the rules of pairs and shapes.
+/// The faults of a row, which keeps the rules of pairs and shapes, by those of its place and its target.
 #[tactic(auto, using(crate::proofs::RowLemmas::faults, crate::proofs::LinkedLemmas::linked))]
-fn faults_of_row(linked: &LinkedSection, at: usize, row: &RelocRow, overlaps: &Overlaps) -> Faults
+pub fn faults_of_row(
+    linked: &LinkedSection,
+    at: usize,
+    row: &RelocRow,
+    place: Option<usize>,
+    target: Option<usize>,
+) -> Faults
     requires linked { IsLinked linked.now }
     requires index { at < length linked.now.section.now.relocs }
     requires row { IsRow linked.now.section.now.relocs at row.now }
-    requires overlaps { Tells linked.now.section.now.relocs overlaps.now }
+    requires place { place ≡ rules.place_fault linked.now.cut.object.now (linked.now.index + 1) linked.now.section.now at }
+    requires target { target ≡ rules.target_fault linked.now.cut.object.now (linked.now.index + 1) linked.now.section.now at }
+    requires place_within { IfSome place (λ index. index ≤ at) }
+    requires target_within { IfSome target (λ index. index ≤ at) }
     ensures { result ≡ faults.row_faults linked.now.cut.object.now (linked.now.index + 1) linked.now.section.now at }
 {
-    let section = linked.section;
     Faults {
         pair: None,
         shape: None,
-        place: place_of(section, place_fault(linked, at, row, overlaps)),
-        target: place_of(section, target_fault(linked.cut.object, section, at, row)),
+        place: place_of(linked.section, place),
+        target: place_of(linked.section, target),
     }
 }
 
-// The faults at a place at which no row with a field ends.
+/// The faults at a place at which no row with a field ends.
 #[tactic(auto, using(crate::proofs::RowLemmas::faults))]
-fn faults_of_none(section: &Section, at: usize) -> Faults
+pub fn faults_of_none(section: &Section, at: usize) -> Faults
     requires room { section.now.reloc_offset + 8 * length section.now.relocs < 2 ^ 64 }
     requires index { at < length section.now.relocs }
     requires none { rules.field_at section.now.relocs at ≡ None }
@@ -98,63 +108,4 @@ fn faults_of_none(section: &Section, at: usize) -> Faults
         place: place_of(section, field_fault(section, at)),
         target: None,
     }
-}
-
-#[tactic(auto, using(crate::proofs::LinkedLemmas::linked))]
-fn row_faults(linked: &LinkedSection, at: usize, overlaps: &Overlaps) -> Faults
-    requires linked { IsLinked linked.now }
-    requires index { at < length linked.now.section.now.relocs }
-    requires overlaps { Tells linked.now.section.now.relocs overlaps.now }
-    ensures { result ≡ faults.row_faults linked.now.cut.object.now (linked.now.index + 1) linked.now.section.now at }
-{
-    match row_at(linked.section.relocs.as_slice(), at) {
-        Some(row) => faults_of_row(linked, at, &row, overlaps),
-        None => faults_of_none(linked.section, at),
-    }
-}
-
-// The faults of a linked section; `overlaps` tells which of its fields overlap.
-#[tactic(auto, using(crate::proofs::FaultLemmas::rows))]
-fn section_faults(linked: &LinkedSection, overlaps: &Overlaps) -> Faults
-    requires linked { IsLinked linked.now }
-    requires overlaps { Tells linked.now.section.now.relocs overlaps.now }
-    ensures { result ≡ faults.section_faults linked.now.cut.object.now (linked.now.index + 1) linked.now.section.now }
-{
-    let mut found = NONE;
-    for at in 0..linked.section.relocs.len() {
-        found = merge(found, row_faults(linked, at, overlaps));
-    }
-    found
-}
-
-#[tactic(auto, using(crate::proofs::FaultLemmas::sections))]
-fn faults_at(alloc: Global, cut: &CutObject, index: usize) -> Result<Faults, OutOfMemory>
-    requires cut { IsCut cut.now }
-    requires index { index < length cut.now.object.now.sections }
-    ensures { IfOk result (λ found. (d : Section) → found ≡ faults.section_faults cut.now.object.now (index + 1) (slice_index_or cut.now.object.now.sections index d)) }
-{
-    let section = &cut.object.sections.as_slice()[index];
-    if section.is_dropped() {
-        return Ok(NONE);
-    }
-    let linked = LinkedSection {
-        cut: *cut,
-        index,
-        section,
-    };
-    let overlaps = overlaps_of(alloc, section.relocs.as_slice())?;
-    Ok(section_faults(&linked, &overlaps))
-}
-
-/// The least places at which the rules fail.
-#[tactic(auto, using(crate::proofs::FaultLemmas::objects))]
-pub fn all_faults(alloc: Global, cut: &CutObject) -> Result<Faults, OutOfMemory>
-    requires { IsCut cut.now }
-    ensures { IfOk result (λ found. found ≡ faults.all_faults cut.now.object.now) }
-{
-    let mut found = NONE;
-    for index in 0..cut.object.sections.len() {
-        found = merge(found, faults_at(alloc, cut, index)?);
-    }
-    Ok(found)
 }

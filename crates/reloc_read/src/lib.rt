@@ -1,14 +1,13 @@
 //! The references of an object: what its relocations say, after the rules that they keep.
 #![tactic(auto)]
 
-ghost use Rattle.std.specs.Prelude.{◌≡◌, IfOk};
+ghost use Rattle.std.specs.Prelude.{◌≡◌, Err, IfErr, IfOk, Ok};
 ghost use Rattle.mo_types.specs.Atoms.{atoms_of};
 ghost use Rattle.mo_types.specs.Gives.{Gives};
 ghost use Rattle.mo_types.specs.Refs.{IsRefFault};
 ghost use Rattle.mo_types.specs.Refs as refs;
 ghost use Rattle.mo_types.specs.Whole.{IsWhole};
 ghost use Rattle.reloc_read.specs.Checked.{checked};
-ghost use Rattle.reloc_read.specs.Faults.{IsClean};
 
 mod cut_object;
 mod faults;
@@ -17,33 +16,43 @@ mod guide;
 mod linked_section;
 mod numbers;
 mod overlaps;
+mod reading;
 mod refs;
 mod rows;
 mod rules;
 mod targets;
 
 use cut_object::CutObject;
-use faults::all_faults;
-use features::{has_absolute, has_authenticated};
+use features::feature_of;
 use guide::guides_of;
-use mo_types::{AtomList, Feature, FileId, Object, OutOfMemory, RefFault, RefList};
-use refs::all_refs;
+use mo_types::{AtomList, Feature, FileId, Object, RefFault, RefList};
+use reading::read_sections;
 use std::alloc::Global;
 
+/// The references of an object, and the first feature of its relocations that the linker doesn't have, if there is
+/// one.
+#[derive(Debug, Drop)]
+pub struct FoundRefs {
+    pub refs: RefList,
+    pub feature: Option<Feature>,
+}
+
 /// What the relocations of a whole object with its atoms are: the first of the rules Pair, Shape, Place and Target
-/// that fails, at its least place; or else the first feature that the linker doesn't have, if there is one
-/// (`mach-o/arm64/reloc.h`). No references are made.
+/// that fails, at its least place; or else one reference for each row of the table of relocations, section by section
+/// and in a section in the order of its relocations, and the first feature that the linker doesn't have
+/// (`mach-o/arm64/reloc.h`).
 #[tactic(auto, unfolding(crate::specs::Checked::checked))]
-pub fn check(
+pub fn read(
     alloc: Global,
     object: &Object,
     atoms: &AtomList,
     file: FileId,
-) -> Result<Option<Feature>, RefFault>
+) -> Result<FoundRefs, RefFault>
     requires whole { IsWhole object.now }
     requires atoms { atoms.now ≡ atoms_of object.now file }
-    ensures exact { Gives IsRefFault result (checked object.now) }
-    ensures clean { IfOk result (λ feature. IsClean object.now) }
+    ensures feature { IfOk result (λ found. checked object.now ≡ Ok found.feature) }
+    ensures refs { IfOk result (λ found. found.refs ≡ refs.refs_from object.now file 1 object.now.sections) }
+    ensures fault { IfErr result (λ fault. IsRefFault fault → checked object.now ≡ Err fault) }
 {
     let guides = guides_of(alloc, atoms.as_slice(), object.sections.as_slice())?;
     let cut = CutObject {
@@ -52,7 +61,8 @@ pub fn check(
         guides: guides.as_slice(),
         file,
     };
-    let faults = all_faults(alloc, &cut)?;
+    let mut refs = RefList::new(alloc, file);
+    let faults = read_sections(alloc, &mut refs, &cut)?;
     if let Some(place) = faults.pair {
         return Err(RefFault::BadPair { place });
     }
@@ -65,39 +75,14 @@ pub fn check(
     if let Some(place) = faults.target {
         return Err(RefFault::BadTarget { place });
     }
-    if has_absolute(object) {
-        return Ok(Some(Feature::Absolute));
-    }
-    if has_authenticated(object) {
-        return Ok(Some(Feature::PointerAuth));
-    }
-    Ok(None)
+    Ok(FoundRefs {
+        refs,
+        feature: feature_of(object),
+    })
 }
 
-/// The references of a whole object with its atoms, in which `check` found no rule that fails: one for each row of
-/// the table of relocations, section by section, and in a section in the order of its relocations.
-pub fn refs_of_checked(
-    alloc: Global,
-    object: &Object,
-    atoms: &AtomList,
-    file: FileId,
-) -> Result<RefList, OutOfMemory>
-    requires whole { IsWhole object.now }
-    requires atoms { atoms.now ≡ atoms_of object.now file }
-    requires clean { IsClean object.now }
-    ensures { IfOk result (λ found. found ≡ refs.refs_from object.now file 1 object.now.sections) }
-{
-    let guides = guides_of(alloc, atoms.as_slice(), object.sections.as_slice())?;
-    let cut = CutObject {
-        object,
-        atoms: atoms.as_slice(),
-        guides: guides.as_slice(),
-        file,
-    };
-    all_refs(alloc, &cut)
-}
-
-/// The references of a whole object with its atoms, or what `check` finds.
+/// The references of a whole object with its atoms; or the first rule that fails, as `read` tells it, or the feature
+/// that the linker doesn't have.
 #[tactic(auto, using(crate::proofs::CheckedLemmas::checks))]
 pub fn refs_of(
     alloc: Global,
@@ -109,8 +94,9 @@ pub fn refs_of(
     requires atoms { atoms.now ≡ atoms_of object.now file }
     ensures { Gives IsRefFault result (refs.refs_of object.now file) }
 {
-    if let Some(feature) = check(alloc, object, atoms, file)? {
+    let FoundRefs { refs, feature } = read(alloc, object, atoms, file)?;
+    if let Some(feature) = feature {
         return Err(RefFault::Unsupported(feature));
     }
-    Ok(refs_of_checked(alloc, object, atoms, file)?)
+    Ok(refs)
 }

@@ -30,6 +30,7 @@ pub fn cut_at(linked: &LinkedSection, offset: u64) -> u64
 pub fn cuts_at(linked: &LinkedSection, offset: u64, behind: u64) -> (u64, u64)
     requires { IsLinked linked.now }
     ensures first { result.0 ≡ cutting.cut_of linked.now.cut.object.now (linked.now.index + 1) linked.now.section.now offset }
+    ensures within { result.0 ≤ offset }
     ensures second { result.1 ≡ cutting.cut_of linked.now.cut.object.now (linked.now.index + 1) linked.now.section.now behind }
 {
     cuts_of(&linked.cut, linked.index, offset, behind)

@@ -1,12 +1,12 @@
 //! Fields that have bytes in common.
 
-ghost use Rattle.std.specs.Prelude.{◌≡◌, ◌↔◌, ℕ, ◌<◌, ◌++◌, List, Some, length, map, nat_le, nat_lt, All, IsTrue, IfOk, IfSome, OnOk};
+ghost use Rattle.std.specs.Prelude.{◌≡◌, ◌↔◌, ℕ, ◌+◌, ◌<◌, true, ◌++◌, List, Some, length, map, nat_le, nat_lt, All, IsTrue, IfOk, IfSome, OnOk};
 ghost use Rattle.std.specs.List.{count_by};
 ghost use Rattle.std.specs.List.Sorted.{IsNonDecreasing, IsNonDecreasingBy};
 ghost use Rattle.std.specs.Option.{option_to_list};
 ghost use Rattle.mo_types.specs.RelocationRules as rules;
 ghost use Rattle.mo_types.specs.declared.object.RawReloc.{RawReloc};
-ghost use Rattle.reloc_read.specs.Fields.{Follow, IsSmall};
+ghost use Rattle.reloc_read.specs.Fields.{AreAbove, AreApart, AreBelow, Follow, IsSmall};
 ghost use Rattle.reloc_read.specs.Overlaps as bounds;
 ghost use Rattle.reloc_read.specs.Overlaps.{AreSorted, Tells};
 
@@ -82,11 +82,76 @@ fn sort_by_offset(fields: &mut Vec<Field>)
     fields.sort_unstable_by_key(|field| field.offset);
 }
 
-/// What tells of each field of a section's rows whether it overlaps another one, in time n log n of n rows.
+// Where the field of the row at a place ends, or the bound where it has none; `None` where it begins below the bound.
+#[tactic(auto, using(crate::proofs::OrderLemmas::rises))]
+fn end_above(relocs: &[RawReloc], at: usize, bound: u64) -> Option<u64>
+    ensures { IfSome result (λ end. AreBelow relocs.now at bound → AreBelow relocs.now (at + 1) end) }
+{
+    match field_at(relocs, at) {
+        Some(field) if field.offset < bound => None,
+        Some(field) => Some(field.offset + field.size),
+        None => Some(bound),
+    }
+}
+
+// Whether each row's field begins where the one before it ends, or after it.
+#[tactic(auto, using(crate::proofs::OrderLemmas::rises))]
+fn rise(relocs: &[RawReloc]) -> bool
+    ensures { result ≡ true → AreApart relocs.now }
+{
+    let mut bound = 0;
+    for at in 0..relocs.len() {
+        let Some(end) = end_above(relocs, at, bound) else {
+            return false;
+        };
+        bound = end;
+    }
+    true
+}
+
+// Where the field of the row at a place begins, or the bound where it has none; `None` where it ends above the bound.
+#[tactic(auto, using(crate::proofs::OrderLemmas::falls))]
+fn start_below(relocs: &[RawReloc], at: usize, bound: u64) -> Option<u64>
+    ensures { IfSome result (λ start. AreAbove relocs.now at bound → AreAbove relocs.now (at + 1) start) }
+{
+    match field_at(relocs, at) {
+        Some(field) if field.offset + field.size > bound => None,
+        Some(field) => Some(field.offset),
+        None => Some(bound),
+    }
+}
+
+// Whether each row's field ends where the one before it begins, or before it.
+#[tactic(auto, using(crate::proofs::OrderLemmas::falls))]
+fn fall(relocs: &[RawReloc]) -> bool
+    ensures { result ≡ true → AreApart relocs.now }
+{
+    let mut bound = u64::MAX;
+    for at in 0..relocs.len() {
+        let Some(start) = start_below(relocs, at, bound) else {
+            return false;
+        };
+        bound = start;
+    }
+    true
+}
+
+// Whether the fields stand apart by the order of their rows, as compilers write them.
+fn are_in_order(relocs: &[RawReloc]) -> bool
+    ensures { result ≡ true → AreApart relocs.now }
+{
+    rise(relocs) || fall(relocs)
+}
+
+/// What tells of each field of a section's rows whether it overlaps another one, in time n log n of n rows. No list of
+/// fields is made where they stand apart, and rise or fall all the way.
 #[tactic(auto, using(crate::proofs::ApartLemmas::aparts))]
 pub fn overlaps_of(alloc: Global, relocs: &[RawReloc]) -> Result<Overlaps, OutOfMemory>
     ensures { IfOk result (Tells relocs.now) }
 {
+    if are_in_order(relocs) {
+        return Ok(Overlaps::Nowhere);
+    }
     let mut fields = fields_of(alloc, relocs)?;
     sort_by_offset(&mut fields);
     if follow(fields.as_slice()) {

@@ -1,21 +1,16 @@
-//! The references of rows at which no rule fails.
+//! The reference of a row at which no rule fails.
 
-ghost use Rattle.std.specs.Prelude.{◌≡◌, ◌+◌, ◌++◌, ◌<◌, ◌≤◌, None, false, length, slice_index_or, IfOk, OnOk};
+ghost use Rattle.std.specs.Prelude.{◌≡◌, ◌+◌, ◌≤◌, false};
+ghost use Rattle.mo_types.specs.Atoms.{cut_of};
 ghost use Rattle.mo_types.specs.RelocationRules as rules;
 ghost use Rattle.mo_types.specs.Refs as refs;
-ghost use Rattle.mo_types.specs.declared.object.Section.{Section};
-ghost use Rattle.std.specs.Option.{option_to_list};
-ghost use Rattle.reloc_read.specs.CutObject.{IsCut};
-ghost use Rattle.reloc_read.specs.Faults.{IsClean};
 ghost use Rattle.reloc_read.specs.Fields.{IsSmall};
 ghost use Rattle.reloc_read.specs.LinkedSection.{IsLinked};
 
-use crate::cut_object::CutObject;
 use crate::linked_section::{LinkedSection, cut_at};
 use crate::numbers::{field_number, field_signed, signed_24};
-use crate::rows::{is_subtractor, row_at};
-use mo_types::{AtomKey, Field, OutOfMemory, RawReloc, Ref, RefKind, RefList, Target};
-use std::alloc::Global;
+use crate::rows::{RelocRow, is_subtractor};
+use mo_types::{AtomKey, Field, RawReloc, Ref, Target};
 
 // The atom and offset of an address in a linked section.
 #[tactic(auto, using(crate::proofs::LinkedLemmas::linked))]
@@ -85,103 +80,31 @@ fn addend_of(bytes: &[u8], field: Field, first: Option<RawReloc>, reloc: &RawRel
     }
 }
 
+/// The reference of a row that keeps the rules, by the cut of the atom that holds its field.
 #[tactic(auto, using(crate::proofs::LinkedLemmas::linked))]
-fn reference(
-    linked: &LinkedSection,
-    first: Option<RawReloc>,
-    reloc: &RawReloc,
-    kind: RefKind,
-    field: Field,
-) -> Option<Ref>
+pub fn reference(linked: &LinkedSection, row: &RelocRow, cut: u64) -> Option<Ref>
     requires linked { IsLinked linked.now }
-    requires small { IsSmall field }
-    requires fits { field.offset + field.size ≤ linked.now.section.now.size }
-    requires good { rules.is_bad_target linked.now.cut.object.now linked.now.section.now.bytes field reloc.now ≡ false }
-    ensures { result ≡ refs.reference linked.now.cut.object.now linked.now.cut.file (linked.now.index + 1) linked.now.section.now first reloc.now kind field }
+    requires small { IsSmall row.now.field }
+    requires fits { row.now.field.offset + row.now.field.size ≤ linked.now.section.now.size }
+    requires good { rules.is_bad_target linked.now.cut.object.now linked.now.section.now.bytes row.now.field row.now.last ≡ false }
+    requires cut { cut ≡ cut_of linked.now.cut.object.now (linked.now.index + 1) linked.now.section.now row.now.field.offset }
+    requires low { cut ≤ row.now.field.offset }
+    ensures { result ≡ refs.reference linked.now.cut.object.now linked.now.cut.file (linked.now.index + 1) linked.now.section.now row.now.first row.now.last row.now.kind row.now.field }
 {
-    let target = target_of(linked, field, reloc)?;
-    let start = cut_at(linked, field.offset);
+    let field = row.field;
+    let target = target_of(linked, field, &row.last)?;
     let bytes = linked.section.bytes.as_slice();
     Some(Ref {
         atom: AtomKey {
             file: linked.cut.file,
             section: linked.index as u16 + 1,
-            offset: start,
+            offset: cut,
         },
-        place: field.offset - start,
+        place: field.offset - cut,
         file_place: linked.section.file_offset + field.offset,
-        kind,
+        kind: row.kind,
         target,
-        minus: minus_of(first),
-        addend: addend_of(bytes, field, first, reloc),
+        minus: minus_of(row.first),
+        addend: addend_of(bytes, field, row.first, &row.last),
     })
-}
-
-/// The reference of the row that ends at a place, at which no rule fails.
-#[tactic(auto, using(crate::proofs::RowLemmas::references))]
-pub fn reference_at(linked: &LinkedSection, at: usize) -> Option<Ref>
-    requires linked { IsLinked linked.now }
-    requires index { at < length linked.now.section.now.relocs }
-    requires place { rules.place_fault linked.now.cut.object.now (linked.now.index + 1) linked.now.section.now at ≡ None }
-    requires target { rules.target_fault linked.now.cut.object.now (linked.now.index + 1) linked.now.section.now at ≡ None }
-    ensures { result ≡ refs.reference_at linked.now.cut.object.now linked.now.cut.file (linked.now.index + 1) linked.now.section.now at }
-{
-    let row = row_at(linked.section.relocs.as_slice(), at)?;
-    reference(linked, row.first, &row.last, row.kind, row.field)
-}
-
-fn add(out: &mut RefList, reference: Option<Ref>) -> Result<(), OutOfMemory>
-    ensures { OnOk result (out.new ≡ out.old ++ option_to_list reference) }
-{
-    if let Some(reference) = reference {
-        out.push(reference)?;
-    }
-    Ok(())
-}
-
-// Puts the references of a linked section at the end of the others.
-#[tactic(auto, using(crate::proofs::RefLemmas::rows))]
-fn add_rows(out: &mut RefList, linked: &LinkedSection) -> Result<(), OutOfMemory>
-    requires linked { IsLinked linked.now }
-    requires clean { IsClean linked.now.cut.object.now }
-    ensures { OnOk result (out.new ≡ out.old ++ refs.section_refs linked.now.cut.object.now linked.now.cut.file (linked.now.index + 1) linked.now.section.now) }
-{
-    out.reserve(linked.section.relocs.len())?;
-    for at in 0..linked.section.relocs.len() {
-        add(out, reference_at(linked, at))?;
-    }
-    Ok(())
-}
-
-#[tactic(auto, using(crate::proofs::RefLemmas::sections))]
-fn add_section(out: &mut RefList, cut: &CutObject, index: usize) -> Result<(), OutOfMemory>
-    requires cut { IsCut cut.now }
-    requires index { index < length cut.now.object.now.sections }
-    requires clean { IsClean cut.now.object.now }
-    ensures { OnOk result ((d : Section) → out.new ≡ out.old ++ refs.section_refs cut.now.object.now cut.now.file (index + 1) (slice_index_or cut.now.object.now.sections index d)) }
-{
-    let section = &cut.object.sections.as_slice()[index];
-    if section.is_dropped() {
-        return Ok(());
-    }
-    let linked = LinkedSection {
-        cut: *cut,
-        index,
-        section,
-    };
-    add_rows(out, &linked)
-}
-
-/// The references of an object at which no rule fails.
-#[tactic(auto, using(crate::proofs::RefLemmas::objects))]
-pub fn all_refs(alloc: Global, cut: &CutObject) -> Result<RefList, OutOfMemory>
-    requires cut { IsCut cut.now }
-    requires clean { IsClean cut.now.object.now }
-    ensures { IfOk result (λ found. found ≡ refs.refs_from cut.now.object.now cut.now.file 1 cut.now.object.now.sections) }
-{
-    let mut out = RefList::new(alloc, cut.file);
-    for index in 0..cut.object.sections.len() {
-        add_section(&mut out, cut, index)?;
-    }
-    Ok(out)
 }

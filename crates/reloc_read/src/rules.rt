@@ -1,11 +1,15 @@
 //! The rules that relocations keep: for a place of a section's table, the relocation at fault there.
 
-ghost use Rattle.std.specs.Prelude.{◌≡◌, ◌+◌, ◌<◌, ◌≤◌, ℕ, length, None, Some, IfSome};
+ghost use Rattle.std.specs.Prelude.{◌≡◌, ◌+◌, ◌%◌, ◌<◌, ◌≤◌, ◌==◌, ◌&&◌, ◌||◌, not, ℕ, length, None, Some, IfSome};
+ghost use Rattle.mo_types.specs.Atoms.{cut_of};
 ghost use Rattle.mo_types.specs.RelocationRules as rules;
+ghost use Rattle.mo_types.specs.Rows as table;
+ghost use Rattle.mo_types.specs.Rows.{when};
 ghost use Rattle.mo_types.specs.declared.object.Object.{Object};
 ghost use Rattle.reloc_read.specs.Fields.{IsSmall};
 ghost use Rattle.reloc_read.specs.LinkedSection.{IsLinked};
 ghost use Rattle.reloc_read.specs.Overlaps.{Tells};
+ghost use Rattle.reloc_read.specs.RelocRow as rows;
 ghost use Rattle.reloc_read.specs.RelocRow.{IsRow};
 
 use crate::linked_section::{LinkedSection, cuts_at};
@@ -13,7 +17,7 @@ use crate::overlaps::{Overlaps, overlaps_another};
 use crate::rows::{
     RelocRow, first_before, is_first, is_instruction, is_second, is_subtractor, kind_at, last_at,
 };
-use mo_types::{Field, RawReloc, RefKind, Section};
+use mo_types::{Field, RawReloc, Section};
 
 /// The first of two relocations that isn't followed by the second.
 #[tactic(auto, unfolding(mo_types::specs::RelocationRules::pair_fault))]
@@ -62,17 +66,19 @@ fn row_start(relocs: &[RawReloc], at: usize) -> usize
     }
 }
 
-fn is_in_one_atom(linked: &LinkedSection, field: &Field) -> bool
+// The cut of the atom that holds the whole field, where one does.
+fn cut_around(linked: &LinkedSection, field: &Field) -> Option<u64>
     requires linked { IsLinked linked.now }
     requires small { IsSmall field.now }
-    ensures { result ≡ rules.is_in_one_atom linked.now.cut.object.now (linked.now.index + 1) linked.now.section.now field.now }
+    ensures value { result ≡ when (rules.is_in_one_atom linked.now.cut.object.now (linked.now.index + 1) linked.now.section.now field.now) (cut_of linked.now.cut.object.now (linked.now.index + 1) linked.now.section.now field.now.offset) }
+    ensures within { IfSome result (λ cut. cut ≤ field.now.offset) }
 {
     let end = field.offset + field.size;
     if end > linked.section.size {
-        return false;
+        return None;
     }
     let (first, last) = cuts_at(linked, field.offset, end - 1);
-    last == first
+    if last == first { Some(first) } else { None }
 }
 
 fn has_fields(section: &Section) -> bool
@@ -81,46 +87,58 @@ fn has_fields(section: &Section) -> bool
     !section.is_zerofill() && !section.is_strings() && section.literal_size().is_none()
 }
 
-fn is_bad_field(
-    linked: &LinkedSection,
-    at: usize,
-    kind: RefKind,
-    field: &Field,
-    overlaps: &Overlaps,
-) -> bool
-    requires linked { IsLinked linked.now }
-    requires small { IsSmall field.now }
+// Whether no field of the row's kind may lie where its field does, be it in one atom or not.
+fn is_barred(linked: &LinkedSection, at: usize, row: &RelocRow, overlaps: &Overlaps) -> bool
     requires index { at < length linked.now.section.now.relocs }
-    requires is { rules.field_at linked.now.section.now.relocs at ≡ Some field.now }
+    requires row { IsRow linked.now.section.now.relocs at row.now }
     requires overlaps { Tells linked.now.section.now.relocs overlaps.now }
-    ensures { result ≡ rules.is_bad_field linked.now.cut.object.now (linked.now.index + 1) linked.now.section.now at kind field.now }
+    ensures { result ≡ ((table.is_instruction row.now.kind && not (row.now.field.offset % 4 == 0)) || rules.overlaps_another linked.now.section.now.relocs at row.now.field || not (rules.has_fields linked.now.section.now)) }
 {
-    !is_in_one_atom(linked, field)
-        || (is_instruction(kind) && field.offset % 4 != 0)
-        || overlaps_another(overlaps, field)
+    is_instruction(row.kind) && row.field.offset % 4 != 0
+        || overlaps_another(overlaps, &row.field)
         || !has_fields(linked.section)
 }
 
-/// The first relocation of a row whose field lies where none may lie; `overlaps` tells which fields of the section
-/// overlap.
+/// The cut of the atom that holds a row's field, where the field lies where one may lie; `overlaps` tells which fields
+/// of the section overlap.
+#[tactic(auto, using(crate::proofs::RowLemmas::fields))]
+pub fn field_cut(
+    linked: &LinkedSection,
+    at: usize,
+    row: &RelocRow,
+    overlaps: &Overlaps,
+) -> Option<u64>
+    requires linked { IsLinked linked.now }
+    requires index { at < length linked.now.section.now.relocs }
+    requires row { IsRow linked.now.section.now.relocs at row.now }
+    requires overlaps { Tells linked.now.section.now.relocs overlaps.now }
+    ensures value { result ≡ rows.field_cut linked.now at row.now }
+    ensures within { IfSome result (λ cut. cut ≤ row.now.field.offset) }
+{
+    let cut = cut_around(linked, &row.field)?;
+    if is_barred(linked, at, row, overlaps) {
+        return None;
+    }
+    Some(cut)
+}
+
+/// The first relocation of a row whose field lies where none may lie, by what `field_cut` gives of it.
 #[tactic(auto, using(crate::proofs::RowLemmas::places))]
 pub fn place_fault(
     linked: &LinkedSection,
     at: usize,
     row: &RelocRow,
-    overlaps: &Overlaps,
+    cut: Option<u64>,
 ) -> Option<usize>
-    requires linked { IsLinked linked.now }
-    requires index { at < length linked.now.section.now.relocs }
     requires row { IsRow linked.now.section.now.relocs at row.now }
-    requires overlaps { Tells linked.now.section.now.relocs overlaps.now }
+    requires cut { cut ≡ rows.field_cut linked.now at row.now }
     ensures value { result ≡ rules.place_fault linked.now.cut.object.now (linked.now.index + 1) linked.now.section.now at }
     ensures within { IfSome result (λ index. index ≤ at) }
 {
-    if is_bad_field(linked, at, row.kind, &row.field, overlaps) {
-        return Some(row_start(linked.section.relocs.as_slice(), at));
+    match cut {
+        Some(_) => None,
+        None => Some(row_start(linked.section.relocs.as_slice(), at)),
     }
-    None
 }
 
 /// The first relocation of a row that has a kind and no field.

@@ -3,4 +3,4 @@ use Rattle.reloc_read.proofs.CheckedLemmas.{read_feature}
 use Rattle.reloc_read.proofs.refs_of.Goals as goal
 
 pub returns-in-Some : goal.returns-in-Some
-returns-in-Some c = λ u. read_feature c.args.object.now c.args.file c.in-Some.feature (c.in_ok-feature.ensures.exact ∙ ap Ok c.in-Some.is)
+returns-in-Some c = λ u. read_feature c.args.object.now c.args.file c.in-Some.feature (c.in_ok-refs.ensures.feature ∙ ap Ok c.in-Some.is)
