@@ -3,6 +3,6 @@ pub mod GrowLemmas
 pub mod KeptLemmas
 pub mod KeptListLemmas
 pub mod ListLemmas
+pub mod ListedLemmas
 pub mod OrderLemmas
-pub mod SpotLemmas
 pub mod ToldLemmas

@@ -11,7 +11,7 @@ use crate::addresses::{Setting, addresses_of};
 use crate::mets::add_mets;
 use crate::orders::orders_of;
 use goal_table::GoalTable;
-use kept_refs::SpotList;
+use kept_refs::RefOrder;
 use mo_types::{Items, Loaded, LoadedList, OutOfMemory};
 use patch::{Meeting, Met, PlacedWork};
 use resolve::Winners;
@@ -23,7 +23,7 @@ use std::alloc::Global;
 #[derive(Drop)]
 pub struct Meets<'a> {
     files: &'a LoadedList,
-    orders: Items<SpotList>,
+    orders: Items<RefOrder>,
     winners: &'a Winners<'a>,
     layout: &'a Layout,
     base: u64,
@@ -36,7 +36,7 @@ fn add_kept_mets(
     mets: &mut Vec<Met>,
     setting: &Setting,
     files: &LoadedList,
-    orders: &Items<SpotList>,
+    orders: &Items<RefOrder>,
     next: &mut usize,
     item: &PlacedWork,
 ) -> Result<(), OutOfMemory>
@@ -60,8 +60,8 @@ fn add_kept_mets(
 }
 
 impl<'a> Meets<'a> {
-    /// What references mean. It takes memory for the address of each goal of the pool, and for the places of each file's
-    /// references by their atoms.
+    /// What references mean. It takes memory for the address of each goal of the pool, and for the place of each
+    /// reference in its file's list.
     pub fn of(
         alloc: Global,
         loaded: &'a Loaded,

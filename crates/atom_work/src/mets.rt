@@ -6,11 +6,11 @@ ghost use Rattle.goal_table.specs.Table.{AreWithin, goals_in};
 ghost use Rattle.kept_refs.specs.Order.{AreInOrder};
 ghost use Rattle.atom_work.specs.Addresses.{AreOnce, target_address};
 ghost use Rattle.atom_work.specs.Mets as spec;
-ghost use Rattle.atom_work.specs.inner.Spots.{mets_at};
+ghost use Rattle.atom_work.specs.inner.Listed.{mets_at};
 ghost use Rattle.atom_work.specs.inner.Told.{AreTold, scene_of};
 
 use crate::addresses::{Setting, target_address};
-use kept_refs::{Spot, next_spots};
+use kept_refs::next_spots;
 use mo_types::{AtomKey, OutOfMemory, Ref, RefList, Target};
 use patch::Met;
 
@@ -51,43 +51,43 @@ fn met_of(setting: &Setting, places: &[u32], reference: &Ref) -> Result<Met, Out
     })
 }
 
-// Puts the reference at a place of a file's list behind others.
-#[tactic(auto, unfolding(crate::specs::inner::Spots::mets_at))]
+// Puts the reference at an index of a file's list behind others.
+#[tactic(auto, unfolding(crate::specs::inner::Listed::mets_at))]
 fn add_met(
     mets: &mut Vec<Met>,
     setting: &Setting,
     places: &[u32],
     refs: &RefList,
-    spot: &Spot,
+    index: u32,
 ) -> Result<(), OutOfMemory>
     requires once { AreOnce setting.now.layout.now.placed }
     requires told { AreTold setting.now }
     requires within { AreWithin setting.now.goals.now.pool places.now }
-    ensures { OnOk result (mets.new.items ≡ mets.old.items ++ mets_at (scene_of setting.now) (goals_in setting.now.goals.now.pool places.now) refs.now spot.now) }
+    ensures { OnOk result (mets.new.items ≡ mets.old.items ++ mets_at (scene_of setting.now) (goals_in setting.now.goals.now.pool places.now) refs.now index) }
 {
-    match refs.get(spot.index as usize) {
+    match refs.get(index as usize) {
         Some(reference) => mets.push(met_of(setting, places, &reference)?)?,
         None => {}
     }
     Ok(())
 }
 
-// Puts the references at some places of a file's list behind others.
+// Puts the references at some indices of a file's list behind others.
 #[tactic(auto, using(resolve::proofs::GrowLemmas::grow_start, resolve::proofs::GrowLemmas::grow_end))]
-fn add_spots(
+fn add_each(
     mets: &mut Vec<Met>,
     setting: &Setting,
     places: &[u32],
     refs: &RefList,
-    spots: &[Spot],
+    indices: &[u32],
 ) -> Result<(), OutOfMemory>
     requires once { AreOnce setting.now.layout.now.placed }
     requires told { AreTold setting.now }
     requires within { AreWithin setting.now.goals.now.pool places.now }
-    ensures { OnOk result (mets.new.items ≡ mets.old.items ++ flat_map (mets_at (scene_of setting.now) (goals_in setting.now.goals.now.pool places.now) refs.now) spots.now) }
+    ensures { OnOk result (mets.new.items ≡ mets.old.items ++ flat_map (mets_at (scene_of setting.now) (goals_in setting.now.goals.now.pool places.now) refs.now) indices.now) }
 {
-    for spot in spots {
-        add_met(mets, setting, places, refs, spot)?;
+    for index in indices {
+        add_met(mets, setting, places, refs, *index)?;
     }
     Ok(())
 }
@@ -99,7 +99,7 @@ pub(crate) fn add_mets(
     setting: &Setting,
     places: &[u32],
     refs: &RefList,
-    order: &[Spot],
+    order: &[u32],
     next: &mut usize,
     key: AtomKey,
 ) -> Result<(), OutOfMemory>
@@ -109,6 +109,6 @@ pub(crate) fn add_mets(
     requires order { AreInOrder refs.now order.now }
     ensures { OnOk result (mets.new.items ≡ mets.old.items ++ spec.mets_of (scene_of setting.now) (goals_in setting.now.goals.now.pool places.now) refs.now key) }
 {
-    let spots = next_spots(order, next, key.section, key.offset);
-    add_spots(mets, setting, places, refs, spots)
+    let indices = next_spots(refs, order, next, key.section, key.offset);
+    add_each(mets, setting, places, refs, indices)
 }

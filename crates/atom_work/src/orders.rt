@@ -2,13 +2,13 @@
 ghost use Rattle.std.specs.Prelude.{IfOk};
 ghost use Rattle.atom_work.specs.inner.Orders.{AreOrders};
 
-use kept_refs::{SpotList, ref_order};
+use kept_refs::{RefOrder, ref_order};
 use mo_types::{Items, LoadedFile, OutOfMemory};
 use std::alloc::Global;
 
 /// For each file its references in the order of their atoms.
 #[tactic(auto, using(crate::proofs::OrderLemmas::orders))]
-pub(crate) fn orders_of(alloc: Global, files: &[LoadedFile]) -> Result<Items<SpotList>, OutOfMemory>
+pub(crate) fn orders_of(alloc: Global, files: &[LoadedFile]) -> Result<Items<RefOrder>, OutOfMemory>
     ensures { IfOk result (AreOrders files.now) }
 {
     let mut orders = Items::new(alloc);

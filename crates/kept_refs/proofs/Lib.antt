@@ -1,3 +1,4 @@
+mod IndexLemmas
 mod LeastLemmas
 mod ListLemmas
 mod LostLemmas

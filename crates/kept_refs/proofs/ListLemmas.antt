@@ -7,7 +7,7 @@ use Rattle.std.proofs.lemmas.Option.{get_or_from_slice_get, slice_get-get_or}
 use Rattle.std.proofs.lemmas.List.FromFn.{get_or-enumerate_from, length-enumerate_from}
 use Rattle.mo_types.specs.declared.reference.Ref.{Ref}
 use Rattle.kept_refs.specs.declared.order.Spot.{Spot}
-use Rattle.kept_refs.specs.Order.{spot_of, spots_of}
+use Rattle.kept_refs.specs.inner.Spots.{spot_of, spots_of}
 
 pub record AreSpots (refs : List Ref) (at : ℕ) (spots : List Spot) : Type 0 where
   pub are : spots ≡ map spot_of (take at (enumerate_from 0 refs))
@@ -15,7 +15,7 @@ pub record AreSpots (refs : List Ref) (at : ℕ) (spots : List Spot) : Type 0 wh
 pub spots_start : (refs : List Ref) (spots : List Spot) → spots ≡ [] → AreSpots refs 0 spots
 spots_start refs spots none = record { are = none }
 
-numbered : (refs : List Ref) (i : ℕ) (d : Ref) → i < length refs → get_or (enumerate_from 0 refs) i (0, d) ≡ (i, get_or refs i d)
+pub numbered : (refs : List Ref) (i : ℕ) (d : Ref) → i < length refs → get_or (enumerate_from 0 refs) i (0, d) ≡ (i, get_or refs i d)
 numbered refs i d low = let e : 0 + i ≡ i = omega arith in get_or-enumerate_from 0 refs i (0, d) low ∙ ap (λ (n : ℕ). (n, get_or refs i d)) e
 
 pub spots_step : (refs : List Ref) (at : ℕ) (spots new : List Spot) (r : Ref) → AreSpots refs at spots → at < length refs → slice_get refs at ≡ Some r → new ≡ spots ++ record { section = r.atom.section; offset = r.atom.offset; index = at } ∷ [] → AreSpots refs (at + 1) new

@@ -9,27 +9,27 @@ use Rattle.std.proofs.lemmas.Bool.{cases_lt, eq-eqb, ne_eqb, leb-false, leb-true
 use Rattle.std.proofs.lemmas.Bool.Decides.{leb_tells}
 use Rattle.std.proofs.lemmas.Cmp.{nat_cmp_total, on_total}
 use Rattle.std.proofs.lemmas.List.Sorted.{ranks_by, sorted_far}
-use Rattle.kept_refs.specs.declared.order.Spot.{Spot}
-use Rattle.kept_refs.specs.Order.{compare_spots, is_of, place, place_of}
+use Rattle.mo_types.specs.declared.reference.Ref.{Ref}
+use Rattle.kept_refs.specs.Order.{AreInOrder, compare_at, place_at, place_of, refs_of_atom}
 
-pub spots_total : IsTotalOrder compare_spots
-spots_total = on_total place nat_cmp_total
+places_total : (refs : List Ref) → IsTotalOrder (compare_at refs)
+places_total refs = on_total (place_at refs) nat_cmp_total
 
-pub places_rise : (spots : List Spot) → IsSorted compare_spots spots → IsNonDecreasingBy place spots
-places_rise spots sorted i j d low high = by (cases_lt (place (get_or spots j d)) (place (get_or spots i d)))
+pub places_rise : (refs : List Ref) (order : List ℕ) → IsSorted (compare_at refs) order → IsNonDecreasingBy (place_at refs) order
+places_rise refs order sorted i j d low high = by (cases_lt (place_at refs (get_or order j d)) (place_at refs (get_or order i d)))
   where
-    far : is_lt (compare_spots (get_or spots j d) (get_or spots i d)) ≡ false
-    far = sorted_far (λ x y. is_lt (compare_spots x y)) (ranks_by spots_total (λ s. s)) spots sorted i j d low high
+    far : is_lt (compare_at refs (get_or order j d) (get_or order i d)) ≡ false
+    far = sorted_far (λ x y. is_lt (compare_at refs x y)) (ranks_by (places_total refs) (λ s. s)) order sorted i j d low high
 
-    falls : place (get_or spots j d) < place (get_or spots i d) → is_lt (compare_spots (get_or spots j d) (get_or spots i d)) ≡ true
+    falls : place_at refs (get_or order j d) < place_at refs (get_or order i d) → is_lt (compare_at refs (get_or order j d) (get_or order i d)) ≡ true
     falls less =
-        let is : Less ≡ nat_cmp (place (get_or spots j d)) (place (get_or spots i d)) = nat_cmp_is (place (get_or spots j d)) (place (get_or spots i d)) Less less in
+        let is : Less ≡ nat_cmp (place_at refs (get_or order j d)) (place_at refs (get_or order i d)) = nat_cmp_is (place_at refs (get_or order j d)) (place_at refs (get_or order i d)) Less less in
         rw (sym is) refl
 
-    clash : true ≡ false → place (get_or spots i d) ≤ place (get_or spots j d)
+    clash : true ≡ false → place_at refs (get_or order i d) ≤ place_at refs (get_or order j d)
     clash e = cc
 
-    by : (place (get_or spots j d) < place (get_or spots i d)) ⊎ (place (get_or spots i d) ≤ place (get_or spots j d)) → place (get_or spots i d) ≤ place (get_or spots j d)
+    by : (place_at refs (get_or order j d) < place_at refs (get_or order i d)) ⊎ (place_at refs (get_or order i d) ≤ place_at refs (get_or order j d)) → place_at refs (get_or order i d) ≤ place_at refs (get_or order j d)
     by (inl less) = clash (sym (falls less) ∙ far)
     by (inr up) = up
 
@@ -71,63 +71,53 @@ away a b (inl less) = ne_eqb a b (λ e. absurd (omega (arith, e, less)))
 away a b (inr more) = ne_eqb a b (λ e. absurd (omega (arith, e, more)))
 
 -- the references of a place stand between those before it and those behind it
-pub record ArePoints (spots : List Spot) (at from to : ℕ) : Type 0 where
-  pub low : from ≤ length spots
-  pub high : to ≤ length spots
-  pub lower : IsPartitionPoint (λ spot. nat_lt (place spot) at ≡ true) (λ spot. nat_lt (place spot) at ≡ false) spots from
-  pub upper : IsPartitionPoint (λ spot. nat_le (place spot) at ≡ true) (λ spot. nat_le (place spot) at ≡ false) spots to
+pub record ArePoints (refs : List Ref) (order : List ℕ) (at from to : ℕ) : Type 0 where
+  pub low : from ≤ length order
+  pub high : to ≤ length order
+  pub lower : IsPartitionPoint (λ index. nat_lt (place_at refs index) at ≡ true) (λ index. nat_lt (place_at refs index) at ≡ false) order from
+  pub upper : IsPartitionPoint (λ index. nat_le (place_at refs index) at ≡ true) (λ index. nat_le (place_at refs index) at ≡ false) order to
 
-pub points : (spots : List Spot) (at from to : ℕ) → from ≤ length spots → to ≤ length spots → IsPartitionPoint (λ spot. nat_lt (place spot) at ≡ true) (λ spot. nat_lt (place spot) at ≡ false) spots from → IsPartitionPoint (λ spot. nat_le (place spot) at ≡ true) (λ spot. nat_le (place spot) at ≡ false) spots to → ArePoints spots at from to
-points spots at from to low high lower upper = record { low = low; high = high; lower = lower; upper = upper }
+pub points : (refs : List Ref) (order : List ℕ) (at from to : ℕ) → from ≤ length order → to ≤ length order → IsPartitionPoint (λ index. nat_lt (place_at refs index) at ≡ true) (λ index. nat_lt (place_at refs index) at ≡ false) order from → IsPartitionPoint (λ index. nat_le (place_at refs index) at ≡ true) (λ index. nat_le (place_at refs index) at ≡ false) order to → ArePoints refs order at from to
+points refs order at from to low high lower upper = record { low = low; high = high; lower = lower; upper = upper }
 
-stand : (spots : List Spot) (at from to : ℕ) → ArePoints spots at from to → from ≤ to → StandsBetween (λ spot. nat_eq (place spot) at) spots from (to - from)
-stand spots at from to h up = record {
-  before = λ k d low within. away (place (get_or spots k d)) at (inl (ltb-true (place (get_or spots k d)) at (h.lower.0 k d (omega arith) low)));
-  inside = λ k d over low within. eq-eqb (place (get_or spots k d)) at
-      (let least : at ≤ place (get_or spots k d) = ltb-false (place (get_or spots k d)) at (h.lower.1 k d over within) in
-      let most : place (get_or spots k d) ≤ at = leb-true (place (get_or spots k d)) at (h.upper.0 k d (omega arith) (omega (arith, low, up))) in
+stand : (refs : List Ref) (order : List ℕ) (at from to : ℕ) → ArePoints refs order at from to → from ≤ to → StandsBetween (λ index. nat_eq (place_at refs index) at) order from (to - from)
+stand refs order at from to h up = record {
+  before = λ k d low within. away (place_at refs (get_or order k d)) at (inl (ltb-true (place_at refs (get_or order k d)) at (h.lower.0 k d (omega arith) low)));
+  inside = λ k d over low within. eq-eqb (place_at refs (get_or order k d)) at
+      (let least : at ≤ place_at refs (get_or order k d) = ltb-false (place_at refs (get_or order k d)) at (h.lower.1 k d over within) in
+      let most : place_at refs (get_or order k d) ≤ at = leb-true (place_at refs (get_or order k d)) at (h.upper.0 k d (omega arith) (omega (arith, low, up))) in
       omega (arith, least, most));
-  behind = λ k d over within. away (place (get_or spots k d)) at (inr (leb-false (place (get_or spots k d)) at (h.upper.1 k d (omega (arith, over, up)) within)));
+  behind = λ k d over within. away (place_at refs (get_or order k d)) at (inr (leb-false (place_at refs (get_or order k d)) at (h.upper.1 k d (omega (arith, over, up)) within)));
 }
 
-pub run_is : (spots : List Spot) (section offset at from to : ℕ) → at ≡ place_of section offset → ArePoints spots at from to → from ≤ to → take (to - from) (drop from spots) ≡ filter (is_of section offset) spots
-run_is spots section offset at from to is h up =
-    between (λ spot. nat_eq (place spot) at) spots from (to - from) (stand spots at from to h up)
-    ∙ ap (λ (n : ℕ). filter (λ spot. nat_eq (place spot) n) spots) is
+pub run_is : (refs : List Ref) (order : List ℕ) (section offset at from to : ℕ) → AreInOrder refs order → at ≡ place_of section offset → ArePoints refs order at from to → from ≤ to → take (to - from) (drop from order) ≡ refs_of_atom refs section offset
+run_is refs order section offset at from to are is h up =
+    between (λ index. nat_eq (place_at refs index) at) order from (to - from) (stand refs order at from to h up)
+    ∙ ap (λ (n : ℕ). filter (λ index. nat_eq (place_at refs index) n) order) is
+    ∙ are.listed section offset
 
--- no reference has an atom before a place, and behind it
-pub never : (spots : List Spot) (at from to : ℕ) → ArePoints spots at from to → to < from → (d : Spot) → ⊥
-never spots at from to h down d =
-    let less : place (get_or spots to d) < at = ltb-true (place (get_or spots to d)) at (h.lower.0 to d (omega arith) down) in
-    let more : at < place (get_or spots to d) = leb-false (place (get_or spots to d)) at (h.upper.1 to d (omega arith) (omega (arith, down, h.low))) in
-    omega (arith, less, more)
+pub in_order_sorted : (refs : List Ref) (order : List ℕ) → AreInOrder refs order → IsSorted (compare_at refs) order
+in_order_sorted refs order are = are.sorted
 
-some_spot : (spots : List Spot) (n : ℕ) → n < length spots → Spot
-some_spot [] n l = absurd (omega (arith, l))
-some_spot (s ∷ ss) n l = s
+pub ruleset runs = (points, run_is, in_order_sorted)
 
-pub run_none : (spots : List Spot) (section offset at from to : ℕ) → ArePoints spots at from to → to < from → [] ≡ filter (is_of section offset) spots
-run_none spots section offset at from to h down = absurd (never spots at from to h down (some_spot spots to (omega (arith, down, h.low))))
-
-pub ruleset runs = (points, run_is, run_none)
-
-pub same_element : (spots : List Spot) (k : ℕ) (d e : Spot) → k < length spots → get_or spots k d ≡ get_or spots k e
+pub same_element : {X : Type 0} (xs : List X) (k : ℕ) (d e : X) → k < length xs → get_or xs k d ≡ get_or xs k e
 same_element [] k d e low = absurd (omega (arith, low))
 same_element (x ∷ xs) zero d e low = refl
 same_element (x ∷ xs) (suc k) d e low = same_element xs k d e (omega (arith, low))
 
 -- ---- from the place where another run ended
 
-up_to : (spots : List Spot) (at near k : ℕ) (d : Spot) → IsSorted compare_spots spots → near ≤ length spots → ((e : Spot) → 0 < near → place (get_or spots (near - 1) e) < at) → k < near → place (get_or spots k d) < at
-up_to spots at near k d sorted high before low =
-    let last : place (get_or spots (near - 1) d) < at = before d (omega (arith, low)) in
-    let rise : place (get_or spots k d) ≤ place (get_or spots (near - 1) d) = places_rise spots sorted k (near - 1) d (omega (arith, low)) (omega (arith, low, high)) in
+up_to : (refs : List Ref) (order : List ℕ) (at near k : ℕ) (d : ℕ) → IsSorted (compare_at refs) order → near ≤ length order → ((e : ℕ) → 0 < near → place_at refs (get_or order (near - 1) e) < at) → k < near → place_at refs (get_or order k d) < at
+up_to refs order at near k d sorted high before low =
+    let last : place_at refs (get_or order (near - 1) d) < at = before d (omega (arith, low)) in
+    let rise : place_at refs (get_or order k d) ≤ place_at refs (get_or order (near - 1) d) = places_rise refs order sorted k (near - 1) d (omega (arith, low)) (omega (arith, low, high)) in
     omega (arith, last, rise)
 
-on_from : (spots : List Spot) (at near k : ℕ) (d : Spot) → IsSorted compare_spots spots → ((e : Spot) → near < length spots → at ≤ place (get_or spots near e)) → near ≤ k → k < length spots → at ≤ place (get_or spots k d)
-on_from spots at near k d sorted behind over low =
-    let first : at ≤ place (get_or spots near d) = behind d (omega (arith, over, low)) in
-    let rise : place (get_or spots near d) ≤ place (get_or spots k d) = places_rise spots sorted near k d over low in
+on_from : (refs : List Ref) (order : List ℕ) (at near k : ℕ) (d : ℕ) → IsSorted (compare_at refs) order → ((e : ℕ) → near < length order → at ≤ place_at refs (get_or order near e)) → near ≤ k → k < length order → at ≤ place_at refs (get_or order k d)
+on_from refs order at near k d sorted behind over low =
+    let first : at ≤ place_at refs (get_or order near d) = behind d (omega (arith, over, low)) in
+    let rise : place_at refs (get_or order near d) ≤ place_at refs (get_or order k d) = places_rise refs order sorted near k d over low in
     omega (arith, first, rise)
 
 is_at_most : (a b : ℕ) → a ≤ b → nat_le a b ≡ true
@@ -142,14 +132,14 @@ is_not_less a b up = elim (leb_tells (suc a) b) [
   | inr p ↦ p.0
 ]
 
-pub point_lower : (spots : List Spot) (at near : ℕ) → IsSorted compare_spots spots → near ≤ length spots → ((e : Spot) → 0 < near → place (get_or spots (near - 1) e) < at) → ((e : Spot) → near < length spots → at ≤ place (get_or spots near e)) → IsPartitionPoint (λ spot. nat_lt (place spot) at ≡ true) (λ spot. nat_lt (place spot) at ≡ false) spots near
-point_lower spots at near sorted high before behind = (
-  λ k d from low. lt-ltb (place (get_or spots k d)) at (up_to spots at near k d sorted high before low),
-  λ k d over low. is_not_less (place (get_or spots k d)) at (on_from spots at near k d sorted behind over low),
+pub point_lower : (refs : List Ref) (order : List ℕ) (at near : ℕ) → IsSorted (compare_at refs) order → near ≤ length order → ((e : ℕ) → 0 < near → place_at refs (get_or order (near - 1) e) < at) → ((e : ℕ) → near < length order → at ≤ place_at refs (get_or order near e)) → IsPartitionPoint (λ index. nat_lt (place_at refs index) at ≡ true) (λ index. nat_lt (place_at refs index) at ≡ false) order near
+point_lower refs order at near sorted high before behind = (
+  λ k d from low. lt-ltb (place_at refs (get_or order k d)) at (up_to refs order at near k d sorted high before low),
+  λ k d over low. is_not_less (place_at refs (get_or order k d)) at (on_from refs order at near k d sorted behind over low),
 )
 
-pub point_upper : (spots : List Spot) (at to : ℕ) → IsSorted compare_spots spots → ((k : ℕ) (d : Spot) → k < to → place (get_or spots k d) ≤ at) → ((e : Spot) → to < length spots → at < place (get_or spots to e)) → IsPartitionPoint (λ spot. nat_le (place spot) at ≡ true) (λ spot. nat_le (place spot) at ≡ false) spots to
-point_upper spots at to sorted before behind = (
-  λ k d from low. is_at_most (place (get_or spots k d)) at (before k d low),
-  λ k d over low. lt-leb (place (get_or spots k d)) at (let up : at + 1 ≤ place (get_or spots k d) = on_from spots (at + 1) to k d sorted (λ e l. let first : at < place (get_or spots to e) = behind e l in omega (arith, first)) over low in omega (arith, up)),
+pub point_upper : (refs : List Ref) (order : List ℕ) (at to : ℕ) → IsSorted (compare_at refs) order → ((k : ℕ) (d : ℕ) → k < to → place_at refs (get_or order k d) ≤ at) → ((e : ℕ) → to < length order → at < place_at refs (get_or order to e)) → IsPartitionPoint (λ index. nat_le (place_at refs index) at ≡ true) (λ index. nat_le (place_at refs index) at ≡ false) order to
+point_upper refs order at to sorted before behind = (
+  λ k d from low. is_at_most (place_at refs (get_or order k d)) at (before k d low),
+  λ k d over low. lt-leb (place_at refs (get_or order k d)) at (let up : at + 1 ≤ place_at refs (get_or order k d) = on_from refs order (at + 1) to k d sorted (λ e l. let first : at < place_at refs (get_or order to e) = behind e l in omega (arith, first)) over low in omega (arith, up)),
 )

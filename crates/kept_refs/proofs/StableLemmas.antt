@@ -1,13 +1,18 @@
 -- A sort that keeps what ties in its order keeps the references of each atom as they are listed.
 use Rattle.std.proofs.Common.{◌≡◌, ℕ, ◌<◌, inl, inr, ◌&&◌, not, Bool, true, false, cond, List, [], ◌∷◌, refl, sym, ap, ◌∙◌, arith, nat_eq}
-use Rattle.std.specs.Cmp.{nat_cmp_is}
+use Rattle.std.specs.Cmp.{IsTotalOrder, nat_cmp_is}
 use Rattle.std.specs.List.{filter}
 use Rattle.std.specs.List.Sorted.{IsStableBy, ties}
 use Rattle.std.specs.Ordering.{is_lt, nat_cmp}
 use Rattle.std.specs.declared.cmp.Ordering.TheVariants.{Less, Equal}
 use Rattle.std.proofs.lemmas.Bool.{cases_eq, cases_lt, eq-eqb, ne_eqb}
+use Rattle.std.proofs.lemmas.Cmp.{nat_cmp_total, on_total}
 use Rattle.kept_refs.specs.declared.order.Spot.{Spot}
-use Rattle.kept_refs.specs.Order.{compare_spots, is_of, place, place_of}
+use Rattle.kept_refs.specs.Order.{place_of}
+use Rattle.kept_refs.specs.inner.Spots.{compare_spots, is_of, place}
+
+pub spots_total : IsTotalOrder compare_spots
+spots_total = on_total place nat_cmp_total
 
 and_none : (b : Bool) → (b && false) ≡ false
 and_none true = refl

@@ -12,7 +12,8 @@ use Rattle.std.proofs.Math.Seq.{drop-nil}
 use Rattle.std.proofs.lemmas.List.Elements.{filter-append}
 use Rattle.std.proofs.lemmas.List.Sorted.{All-permutation, IsPermutation-append_comm, IsPermutation-append_left, IsPermutation-refl, IsPermutation-trans}
 use Rattle.kept_refs.specs.declared.order.Spot.{Spot}
-use Rattle.kept_refs.specs.Order.{compare_spots, is_of, place, place_of}
+use Rattle.kept_refs.specs.Order.{place_of}
+use Rattle.kept_refs.specs.inner.Spots.{compare_spots, is_of, place}
 use Rattle.kept_refs.proofs.RunLemmas.{same_element}
 use Rattle.kept_refs.specs.inner.Turned.{AreTurned, Begins, GoesOn, IsFalling}
 
@@ -167,7 +168,7 @@ run_far spots start end same (suc m) d low =
     ∙ sym (same (start + m) d (omega arith) (omega (arith, low)))
     ∙ run_far spots start end same m d (omega (arith, low))
 
-some_spot : (spots : List Spot) (n : ℕ) → n < length spots → Spot
+pub some_spot : (spots : List Spot) (n : ℕ) → n < length spots → Spot
 some_spot [] n l = absurd (omega (arith, l))
 some_spot (s ∷ ss) n l = s
 

@@ -1,3 +1,4 @@
 pub mod Lost
 pub mod Parted
+pub mod Spots
 pub mod Turned

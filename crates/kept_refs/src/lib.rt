@@ -9,5 +9,5 @@ mod run;
 
 pub use laws::the_least_name_is_told;
 pub use lost::{Lost, undefined};
-pub use order::{Spot, SpotList, ref_order};
-pub use run::{next_spots, spots_of_atom};
+pub use order::{RefOrder, ref_order};
+pub use run::next_spots;

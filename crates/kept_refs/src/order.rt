@@ -3,7 +3,8 @@
 ghost use Rattle.std.specs.Prelude.{◌≡◌, ◌<◌, ◌≤◌, ℕ, IfOk, IsPermutation, IsTrue, OnOk, false, length, map};
 ghost use Rattle.std.specs.List.{enumerate_from, filter, range_with_len};
 ghost use Rattle.std.specs.List.Sorted.{IsSorted};
-ghost use Rattle.kept_refs.specs.Order as spec;
+ghost use Rattle.kept_refs.specs.Order.{AreInOrder, place_of};
+ghost use Rattle.kept_refs.specs.inner.Spots as spec;
 ghost use Rattle.kept_refs.specs.inner.Turned.{AreTurned, Begins, GoesOn, IsFalling};
 
 use mo_types::{Items, OutOfMemory, RefList};
@@ -13,9 +14,10 @@ use std::cmp::Ordering;
 // Four of them share a cache line.
 const _: () = prove!(size_of::<Spot>() == 16);
 
-/// A reference of a file: where its atom is cut from the object, and its place among the file's references.
-#[derive(Clone, Copy, Debug, PartialEq, Eq)]
-pub struct Spot {
+/// A reference of a file, while it is put in order: where its atom is cut from the object, and its place in the file's
+/// list.
+#[derive(Clone, Copy)]
+pub(crate) struct Spot {
     /// The atom's offset in its section, in bytes.
     pub offset: u64,
     /// The reference's place in the file's list, counted from 0.
@@ -24,18 +26,19 @@ pub struct Spot {
     pub section: u16,
 }
 
-/// References in a stated order.
-pub type SpotList = Items<Spot>;
+/// The references of a file in the order of their atoms, and those of one atom as the file lists them: of each its
+/// place in the file's list, counted from 0.
+pub type RefOrder = Items<u32>;
 
 /// The place of an atom among those of its object, as one number.
 pub(crate) fn place_of(section: u16, offset: u64) -> u128
-    ensures { result ≡ spec.place_of section offset }
+    ensures { result ≡ place_of section offset }
 {
     (u128::from(section) << 64) + u128::from(offset)
 }
 
 // The order of references by their atoms.
-#[tactic(auto, unfolding(crate::specs::Order::place))]
+#[tactic(auto, unfolding(crate::specs::inner::Spots::place))]
 fn compare(a: &Spot, b: &Spot) -> Ordering
     ensures { result ≡ spec.compare_spots a.now b.now }
 {
@@ -134,11 +137,18 @@ fn ordered(alloc: Global, spots: Vec<Spot>) -> Result<Vec<Spot>, OutOfMemory>
     Ok(spots)
 }
 
+// The places of references in their file's list.
+fn indices_of(alloc: Global, spots: &[Spot]) -> Result<Vec<u32>, OutOfMemory>
+    ensures { IfOk result (λ indices. indices.items ≡ map (λ spot. spot.index) spots.now) }
+{
+    Ok(spots.iter().map(|spot| spot.index).collect(alloc)?)
+}
+
 /// All references of a file in the order of their atoms, and of one atom in the order in which the file lists them. A
 /// file with 2^32 of them runs out of memory.
-pub fn ref_order(alloc: Global, refs: &RefList) -> Result<SpotList, OutOfMemory>
-    ensures { IfOk result (spec.AreInOrder refs.now) }
+pub fn ref_order(alloc: Global, refs: &RefList) -> Result<RefOrder, OutOfMemory>
+    ensures { IfOk result (AreInOrder refs.now) }
 {
-    let spots = spots_in(alloc, refs)?;
-    Ok(Items::from_vec(ordered(alloc, spots)?))
+    let spots = ordered(alloc, spots_in(alloc, refs)?)?;
+    Ok(Items::from_vec(indices_of(alloc, spots.as_slice())?))
 }

@@ -3,7 +3,7 @@
 ghost use Rattle.std.specs.Prelude.{◌≡◌, ◌<◌, All, IfOk, List, ℕ, length};
 
 use goal_table::{GoalTable, PlaceList};
-use kept_refs::{Lost, Spot, next_spots, ref_order, spots_of_atom, undefined};
+use kept_refs::{Lost, next_spots, ref_order, undefined};
 use mark_core::kept;
 use mo_types::{
     AtomKey, Bytes, EdgeList, Goal, Items, KeyList, Loaded, LoadedFile, LoadedList, OutOfMemory,
@@ -171,7 +171,7 @@ const CASES: [Case; 8] = [
 ];
 
 // The references of three atoms.
-const SPOTS: [Row; 5] = [
+const MIXED: [Row; 5] = [
     (16, 5, None),
     (0, 4, None),
     (16, 3, None),
@@ -179,8 +179,8 @@ const SPOTS: [Row; 5] = [
     (0, 1, None),
 ];
 
-// The offsets of atoms, and the indices of their references.
-const ORDER: [(u64, &[u32]); 4] = [(0, &[1, 4]), (8, &[3]), (16, &[0, 2]), (12, &[])];
+// The offsets of atoms, and the places of their references.
+const MIXED_ORDER: [(u64, &[u32]); 4] = [(0, &[1, 4]), (8, &[3]), (16, &[0, 2]), (12, &[])];
 
 // References that are listed by falling atom.
 const FALLING: [Row; 5] = [
@@ -193,14 +193,6 @@ const FALLING: [Row; 5] = [
 
 const FALLING_ORDER: [(u64, &[u32]); 4] = [(0, &[4]), (4, &[]), (8, &[2, 3]), (16, &[0, 1])];
 
-// Whether references stand at some places of their file's list.
-fn are(spots: &[Spot], wanted: &[u32]) -> bool {
-    spots
-        .iter()
-        .map(|spot| spot.index)
-        .eq(wanted.iter().copied())
-}
-
 fn references_are_found_by_their_atoms(
     alloc: Global,
     rows: &[Row],
@@ -210,9 +202,8 @@ fn references_are_found_by_their_atoms(
     let order = ref_order(alloc, &refs)?;
     let mut next = 0;
     for (offset, wanted) in wanted {
-        let found = spots_of_atom(order.as_slice(), 1, *offset);
-        let behind = next_spots(order.as_slice(), &mut next, 1, *offset);
-        if !are(found, wanted) || !are(behind, wanted) {
+        let found = next_spots(&refs, order.as_slice(), &mut next, 1, *offset);
+        if found != *wanted {
             return Ok(false);
         }
     }
@@ -225,7 +216,7 @@ fn least_undefined_name_is_told(rt: HostRuntime) -> Result<(), Fail> {
     for case in &CASES {
         assert!(rt; tells(alloc, &FILES, case)?);
     }
-    assert!(rt; references_are_found_by_their_atoms(alloc, &SPOTS, &ORDER)?);
+    assert!(rt; references_are_found_by_their_atoms(alloc, &MIXED, &MIXED_ORDER)?);
     assert!(rt; references_are_found_by_their_atoms(alloc, &FALLING, &FALLING_ORDER)?);
     Ok(())
 }

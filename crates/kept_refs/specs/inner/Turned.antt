@@ -3,7 +3,7 @@ use Rattle.std.specs.Prelude.{ℕ, ◌≡◌, ◌+◌, ◌<◌, ◌≤◌, List,
 use Rattle.std.specs.List.{filter}
 use Rattle.std.specs.List.Sorted.{IsSorted}
 use Rattle.kept_refs.specs.declared.order.Spot.{Spot}
-use Rattle.kept_refs.specs.Order.{compare_spots, is_of, place}
+use Rattle.kept_refs.specs.inner.Spots.{compare_spots, is_of, place}
 
 -- no reference has an atom behind that of the one before it
 abbrev pub IsFalling : List Spot → Type 0

@@ -2,7 +2,7 @@ use Rattle.std.proofs.Common.{rules, not}
 use Rattle.std.specs.Ordering.{is_lt}
 use Rattle.std.proofs.lemmas.Fn.{always_returns_same}
 use Rattle.kept_refs.specs.declared.order.Spot.{Spot}
-use Rattle.kept_refs.specs.Order.{compare_spots}
+use Rattle.kept_refs.specs.inner.Spots.{compare_spots}
 use Rattle.kept_refs.proofs.TurnLemmas.{rising_of}
 use Rattle.kept_refs.proofs.order.never_fall.Goals as goal
 

@@ -2,9 +2,8 @@ use Rattle.std.proofs.Common.{rules}
 use Rattle.std.specs.Ordering.{is_lt}
 use Rattle.std.proofs.lemmas.List.Sorted.{ranks_by, answers_always}
 use Rattle.kept_refs.specs.declared.order.Spot.{Spot}
-use Rattle.kept_refs.specs.Order.{compare_spots}
-use Rattle.kept_refs.proofs.RunLemmas.{spots_total}
-use Rattle.kept_refs.proofs.StableLemmas.{listed}
+use Rattle.kept_refs.specs.inner.Spots.{compare_spots}
+use Rattle.kept_refs.proofs.StableLemmas.{listed, spots_total}
 use Rattle.kept_refs.proofs.order.put_in_order.Goals as goal
 
 pub returns-clause-sorted : goal.returns-clause-sorted

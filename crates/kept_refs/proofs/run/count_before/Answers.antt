@@ -1,10 +1,10 @@
 use Rattle.std.proofs.Common.{rules, nat_lt}
 use Rattle.std.proofs.lemmas.List.Sorted.{IsPartitionPoint-from_clause, IsPartitionedBy-ltb}
-use Rattle.kept_refs.specs.Order.{place}
+use Rattle.kept_refs.specs.Order.{place_at}
 use Rattle.kept_refs.proofs.RunLemmas.{places_rise}
 use Rattle.kept_refs.proofs.run.count_before.Goals as goal
 
 pub returns-clause-point : goal.returns-clause-point
 returns-clause-point c =
-    IsPartitionPoint-from_clause (λ spot. nat_lt (place spot) c.args.at) _ _ c.partition_point.ensures.partitioned
-    (IsPartitionedBy-ltb place c.args.order.now c.args.at (places_rise c.args.order.now c.requires)) (λ a r q k. search rules)
+    IsPartitionPoint-from_clause (λ index. nat_lt (place_at c.args.refs.now index) c.args.at) _ _ c.partition_point.ensures.partitioned
+    (IsPartitionedBy-ltb (place_at c.args.refs.now) c.args.order.now c.args.at (places_rise c.args.refs.now c.args.order.now c.requires)) (λ a r q k. search rules)
