@@ -77,9 +77,9 @@ pub fn make_image<R: Threads + Sync, G: Gate + Sync>(
         scheme.flags,
         scheme.entry,
     )?;
-    let blank = blank_image(alloc, &layout, front)?;
     let work = work_of(alloc, &kept, &layout)?;
     drop(kept);
+    let blank = blank_image(alloc, &layout, front)?;
     let meets = Meets::of(
         alloc,
         scheme.loaded,
