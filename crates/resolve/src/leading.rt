@@ -455,7 +455,8 @@ fn with_supports_at(
 /// references lead: where one of these is kept, so is the atom. File by file, by the goals of each file's symbols, as
 /// `goal_table` gives them; no name is looked up. Edges that end in a root, and supports that begin in one, are left out:
 /// they add nothing to what is kept. In which atom a goal stands and whether that is a root is asked at most twice for each
-/// goal of the pool; where all are roots, only the references of files are gone through that lead straight to atoms.
+/// goal of the pool; where all are roots, references are gone through of those files alone that have one which leads straight
+/// to an atom.
 pub fn edges(
     alloc: Global,
     loaded: &Loaded,
