@@ -40,7 +40,7 @@ kind_of number true length false kind a b c = omega arith
 kind_of number false length true kind a b c = omega arith
 kind_of number false length false kind a b c = omega arith
 
-bit_test : (b : Bool) → nat_eq (bit b) 1 ≡ b
+pub bit_test : (b : Bool) → nat_eq (bit b) 1 ≡ b
 bit_test true = refl
 bit_test false = refl
 
