@@ -93,7 +93,7 @@ fn limits_are_named(alloc: Global) -> Result<bool, AllocError> {
         Which::Atoms,
         Which::Libraries,
         Which::Personalities,
-        Which::NamePool,
+        Which::Imports,
         Which::Sections,
     ] {
         if !is_named(alloc, &cause, cause.as_str())? {
@@ -111,7 +111,6 @@ fn ranges_are_named(alloc: Global) -> Result<bool, AllocError> {
         RangeKind::LowBits,
         RangeKind::Diff32,
         RangeKind::GotDelta,
-        RangeKind::BindAddend,
         RangeKind::RebaseTarget,
         RangeKind::FixupPlace,
     ] {

@@ -73,7 +73,7 @@ which_text which.Names = codes "names"
 which_text which.Atoms = codes "atoms"
 which_text which.Libraries = codes "libraries"
 which_text which.Personalities = codes "personalities"
-which_text which.NamePool = codes "namepool"
+which_text which.Imports = codes "imports"
 which_text which.Sections = codes "sections"
 
 abbrev pub range_kind_text : RangeKind → List ℕ
@@ -83,7 +83,6 @@ range_kind_text range_kind.Page = codes "page"
 range_kind_text range_kind.LowBits = codes "lowbits"
 range_kind_text range_kind.Diff32 = codes "diff32"
 range_kind_text range_kind.GotDelta = codes "gotdelta"
-range_kind_text range_kind.BindAddend = codes "bindaddend"
 range_kind_text range_kind.RebaseTarget = codes "rebasetarget"
 range_kind_text range_kind.FixupPlace = codes "fixupplace"
 

@@ -197,8 +197,8 @@ pub enum Which {
     Libraries,
     /// Four personality functions.
     Personalities,
-    /// 2^23 bytes of imported names.
-    NamePool,
+    /// 2^24 imports of the image.
+    Imports,
     /// 256 sections in the image.
     Sections,
 }
@@ -217,7 +217,7 @@ impl Which {
             Which::Atoms => "atoms",
             Which::Libraries => "libraries",
             Which::Personalities => "personalities",
-            Which::NamePool => "namepool",
+            Which::Imports => "imports",
             Which::Sections => "sections",
         }
     }
@@ -238,8 +238,6 @@ pub enum RangeKind {
     Diff32,
     /// A distance to a slot that has no 32 bits.
     GotDelta,
-    /// An import's addend.
-    BindAddend,
     /// The image offset of a pointer's target.
     RebaseTarget,
     /// The image offset of a pointer where no fixup may be.
@@ -258,7 +256,6 @@ impl RangeKind {
             RangeKind::LowBits => "lowbits",
             RangeKind::Diff32 => "diff32",
             RangeKind::GotDelta => "gotdelta",
-            RangeKind::BindAddend => "bindaddend",
             RangeKind::RebaseTarget => "rebasetarget",
             RangeKind::FixupPlace => "fixupplace",
         }

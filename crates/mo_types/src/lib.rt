@@ -1,4 +1,15 @@
 //! The types that the crates of atomld share, and the words in which their definitions speak.
+//!
+//! This crate has the types that all crates share. A contract sees `Bytes` as the list of its bytes, though it is a
+//! part of bytes that it shares with others; `RefList` as the list of its references, of which it keeps most in 32
+//! bytes, and it tells whether one leads straight to an atom (`has_local`); `Arg` as the bytes of its word; and
+//! `Items` as the list of its elements, made from a vector and given back without memory. The orders of files and of
+//! atoms are definitions, which the derived ones are. `Status::code` is the exit status. The line of each answer is a
+//! table, `line_of`. `kind_of` tells what a file is by its first bytes, on all bytes and without memory.
+//! `IsWholeLoaded` says what the objects of a link are, with their atoms and references. Which of their symbols are
+//! candidates for the definition of a name, and the word of each, is said by `Object::is_candidate` and
+//! `FileId::word_of`; to which section of the image a section's atoms go by `Section::destination_segment` and its
+//! kin.
 #![tactic(auto)]
 
 mod answer;
