@@ -1,8 +1,10 @@
 //! The immediate fields of the arm64 instructions that a linker patches, written and read.
 //!
-//! A word is an instruction as a number, and bit 0 is its lowest bit. The fields are named as in the
-//! Arm Architecture Reference Manual. No call looks at an opcode but `put_low12` and `low12_of`, which
-//! take the size of a load or store from it.
+//! This crate writes and reads the immediate fields that a linker patches in arm64 instructions, named as in the Arm
+//! Architecture Reference Manual. `put_branch`, `put_page` and `put_low12` give `None` exactly where the field can't
+//! hold the number; each leaves every bit outside its field as it was, what it wrote is read back by `branch_of`,
+//! `page_of` and `low12_of`, and of two writes the last counts. What is read from any word can be written back
+//! unchanged where it is in form. No call takes memory or loops.
 #![tactic(auto)]
 
 ghost use Rattle.std.specs.Prelude.{◌≡◌, ◌%◌, ◌^◌, ◌<◌, ◌≤◌, ◌==◌, ℕ, ℤ, Some, IfSome};

@@ -1,4 +1,11 @@
 //! The atoms of an object: the pieces into which its linked sections are cut, each placed as a whole.
+//!
+//! This crate cuts an object into its atoms: `cut` gives exactly the atoms of the definition, for every object that
+//! was read whole. A linked section is cut at each literal, after each string, or at the symbols that may cut. Its
+//! laws say that atoms follow each other from the section's start to its end, lose no byte, and have rising keys, and
+//! that an offset belongs to the atom with the greatest cut not above it. `bytes_of` gives an atom's part of its
+//! section's bytes, of which it copies none: as many as the atom's size, or none where the section is zerofill
+//! (`atoms_have_their_bytes`).
 #![tactic(auto)]
 
 mod contents;

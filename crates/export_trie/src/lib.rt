@@ -1,4 +1,9 @@
 //! The export trie of a Mach-O image: written for a list of exports, and searched for a name.
+//!
+//! This crate writes the trie of a list of exports, in which the loader looks names up, and searches any bytes as a
+//! trie. `find` is the walk of the definition, on all bytes and without memory. `write_trie` gives the one trie:
+//! nodes in preorder, edges as long as they can be, each node at the least place that agrees with the sizes of those
+//! before. In it `find` gives each export its flags and address, and every other name is absent.
 #![tactic(auto)]
 
 mod export;

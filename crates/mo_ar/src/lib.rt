@@ -1,4 +1,12 @@
 //! Reads universal files (`mach-o/fat.h`) and archives (ar(5), `ar.h`, `mach-o/ranlib.h`).
+//!
+//! This crate finds the slice for arm64 in universal files and reads archives. `slice_of` answers exactly the
+//! definition's slice or first fault, without memory: the slice of the first entry for arm64, within the file
+//! (`slice_of_the_first_entry`). `read_archive` answers exactly the definition's archive or first fault (`exact`):
+//! the members on the one chain that headers make up (`one_chain`), and the pairs of the table of contents, each with
+//! the member whose header stands at its place (`an_archive_is_a_chain`). `first_offer` gives the least-numbered
+//! member that the table gives to a name, by an index. No contract speaks of time; reading is linear in members,
+//! pairs and strings but for what is slow yet.
 #![tactic(auto)]
 
 mod archive;

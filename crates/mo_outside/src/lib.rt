@@ -1,6 +1,16 @@
 //! What the linker needs of the outside: files to read, an output to write, a place for messages, and a
 //! gate that workers pass. Each of the first three has an optional meaning, what it holds where it tells,
 //! and a count of faults, which never falls. For tests each of them stands in memory.
+//!
+//! This crate states what the linker needs of its surroundings: files to read, an output to write, a place for
+//! messages, and a gate that workers pass, each of the first three with what it holds, where it tells, and a count of
+//! faults, which rises at each call that fails and stands still at all others. Files may tell what was asked of them,
+//! an output which calls were made on it; a write is never handed nothing. Each fetch shows what it answered
+//! (`answers`), also of files that tell nothing else, so that a chain of fetches says which answers were given, in
+//! order. The objects in memory meet these: `SureFiles` and its kin never fail, `MemFiles` and its kin fail exactly
+//! where they are told to, or where something doesn't fit their room. `FreeGate` holds nobody. `MeetGate` holds the
+//! workers 0 and 1 before their first jobs until both have come, or until one has looked for the other so many times:
+//! the test of its marks is proved, that two threads meet there is tested.
 #![tactic(auto)]
 
 mod asked;

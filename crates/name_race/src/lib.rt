@@ -1,6 +1,11 @@
 //! The running race of names, for racers in threads of their own.
 //!
-//! Each name has a word, and racers offer words. At each moment the words are those that the offers so far leave, the least of each name's; no call waits.
+//! This crate is the same race for racers in threads of their own. Between any two atomic steps the words are those
+//! that the offers of all racers leave. `offer` (one fetch-min) and `least` (one load) answer a word at most the
+//! start and at most everything that the racer knew for the name; `split` and `join` move passes, offers and
+//! knowledge exactly; `settle` writes exactly what `race_core` gives for all offers. After `begin` no call waits,
+//! takes memory or refuses. Nothing is claimed of speed, of order between racers, or that a racer sees an offer it
+//! wasn't told of.
 #![tactic(auto)]
 
 ghost use Rattle.std.specs.Prelude.{◌≡◌, ℕ, ◌+◌, ◌-◌, ◌<◌, ◌≤◌, [], ◌∷◌, ◌++◌, length, slice_index, Contains, IfOk};

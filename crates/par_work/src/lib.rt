@@ -1,7 +1,14 @@
 //! Jobs that are shared out among workers in threads of their own.
 //!
-//! Each worker draws its next job from one counter, so that a slow job doesn't hold up the others. The pieces
-//! come back in the order of the jobs.
+//! This crate shares jobs out among workers in threads of their own. `fan` runs each job once, at one seat: the runs
+//! of all seats together are, in some order, the pieces with the numbers of their jobs, each seat ends where its own
+//! runs led it (`fanned`), piece j is one that job j gave at a seat that fits (`gives`), and the seats still fit
+//! (`fits`). Workers draw jobs from one counter, `Claims`: `draw` (one fetch-add) answers none of the drawer's
+//! earlier numbers, `split` and `join` move passes and draws exactly, and `close` tells that the numbers below its
+//! answer were drawn, each once. After `begin` no call waits, takes memory or refuses. `share` gives even shares,
+//! which follow each other from 0 to the number of jobs and differ by one job at most. No lock is taken, no worker
+//! can panic, and a gate's pass always returns, so `fan` does. Nothing is claimed of speed, or that two workers ran
+//! at once.
 #![tactic(auto)]
 
 mod blocks;
@@ -13,8 +20,10 @@ mod rule;
 mod shares;
 mod task;
 mod worker;
+mod workers;
 
 pub use claims::{Claims, Drawer};
 pub use fanning::fan;
 pub use shares::{share, shares_are_even, shares_follow};
 pub use task::Task;
+pub use workers::Workers;

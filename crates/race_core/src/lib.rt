@@ -1,5 +1,9 @@
 //! The core of the race of names. Each name has a word, and an event offers one of the names a word.
 //! Of the words that a name has at the start and is offered, the least stands in the end, in whatever order the offers come and whoever makes them.
+//!
+//! This crate is the race of names without threads: after `replay` each word is the least of itself and of the words
+//! offered for its name. The words don't depend on the order of the events, on who made them or on repetition;
+//! running two lists one after the other is running both; no word rises.
 #![tactic(auto)]
 
 ghost use Rattle.std.specs.Prelude.{◌≡◌, ◌<◌, length, All};

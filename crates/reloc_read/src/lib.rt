@@ -1,4 +1,12 @@
 //! The references of an object: what its relocations say, after the rules that they keep.
+//!
+//! This crate reads what the relocations of such an object say: `refs_of` gives exactly the references of the
+//! definition, one for each row of the table of relocations, each with its atom, place, kind, target and addend. Or
+//! it answers the first of the rules Pair, Shape, Place and Target that fails, at the least place at which it does,
+//! or the first relocation feature that the linker doesn't have. `read` gives that feature beside the references,
+//! where no rule fails (`feature`, `refs`, `fault`); it goes through the rows once for the rules and the references.
+//! The rules know of no walk: that fields don't overlap, say, is a statement on two rows, which the code decides by
+//! the order of the rows where fields rise or fall all the way, or else by sorting where fields begin and end.
 #![tactic(auto)]
 
 ghost use Rattle.std.specs.Prelude.{◌≡◌, Err, IfErr, IfOk, Ok};

@@ -1,5 +1,12 @@
 //! The slots of an image: which goals have one in the global offset table, a stub, or one for thread-local
 //! variables, in which order, and the place of each.
+//!
+//! This crate lists the slots of an image: the goals in the global offset table, those with stubs, and those with
+//! slots for thread-local variables. `slots` gives in each list each goal that is needed so and no other (`got`,
+//! `stubs`, `tlv`), in the order of goals, which is total (`goals_are_in_order`), each once (`a_goal_stands_once`),
+//! and no other list is that (`slots_are_one_list`); what has a stub has a slot that the stub loads
+//! (`stubs_have_slots`). `place_of` is a goal's place in a list, or `None` exactly where it isn't there, by binary
+//! search and without memory.
 #![tactic(auto)]
 
 mod few;
