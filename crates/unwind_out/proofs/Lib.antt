@@ -1,0 +1,9 @@
+pub mod Places
+pub mod Loops
+pub mod Uses
+pub mod Cutting
+pub mod Spelling
+pub mod Answering
+pub mod Reading
+pub mod Whole
+pub mod Law

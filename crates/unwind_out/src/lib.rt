@@ -1,0 +1,22 @@
+//! The section `__unwind_info` of compact unwind: written for the functions of an image, and searched for a place.
+//!
+//! `specs/Table.antt` has the rows of the section: one for each function, and one with encoding 0 where a gap
+//! begins. `specs/Pages.antt` cuts them into pages and spells the section: a compressed page has the most rows that
+//! it can hold, and where these are few the page is a regular one. `specs/Lookup.antt` says what any bytes say of a
+//! place, by the rows that lie whole in them.
+//!
+//! Laws: what is written has a row for each function, so that a look-up in a function's range finds it, its
+//! encoding and its language-specific data, and elsewhere nothing or encoding 0.
+#![tactic(auto)]
+
+mod cut;
+mod lookup;
+mod numbers;
+mod pages;
+mod row;
+mod table;
+mod write;
+
+pub use lookup::{UnwindHit, find_pc};
+pub use row::{UnwindLimit, UnwindRow, UnwindRows};
+pub use write::write_unwind;
