@@ -1,0 +1,6 @@
+pub mod AnswerLemmas
+pub mod GoodLemmas
+pub mod PageLemmas
+pub mod SizeLemmas
+pub mod StandingLemmas
+pub mod UuidLemmas
