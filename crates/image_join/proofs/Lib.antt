@@ -1,4 +1,5 @@
 pub mod HalfLemmas
 pub mod JoinedLemmas
 pub mod OneLemmas
+pub mod SealLemmas
 pub mod WritingLemmas

@@ -20,3 +20,18 @@ pub struct Parts {
     /// The parts, by rising place.
     pub parts: PartList,
 }
+
+/// What the UUID and the signature of an image need.
+#[derive(Debug, Drop)]
+pub struct Seal {
+    /// Where the 16 bytes of the UUID stand in the file.
+    pub uuid_at: u64,
+    /// Where the signature stands in the file, behind all else.
+    pub signature_at: u64,
+    /// How many bytes of the file `__TEXT` has.
+    pub text_size: u64,
+    /// The name of the image in its signature.
+    pub identifier: Bytes,
+    /// Whether the image is a program.
+    pub main: bool,
+}
