@@ -1,0 +1,15 @@
+pub mod Appends
+pub mod BytesLemmas
+pub mod CallLemmas
+pub mod ChunkLemmas
+pub mod DrawLemmas
+pub mod EntryLemmas
+pub mod FilterLemmas
+pub mod LawLemmas
+pub mod Lists
+pub mod NumberLemmas
+pub mod OutsideLemmas
+pub mod PlacedLemmas
+pub mod StepLemmas
+pub mod TableLemmas
+pub mod WeakLemmas

@@ -1,0 +1,11 @@
+pub mod Calls
+pub mod Draws
+pub mod Generated
+pub mod InOrder
+pub mod Laws
+pub mod Names
+pub mod Numbers
+pub mod Parts
+pub mod Placed
+pub mod Symbols
+pub mod Tables
