@@ -1,7 +1,5 @@
-pub mod Inserted
 pub mod Members
+pub mod Inserted
 pub mod Places
 pub mod Rising
 pub mod Ties
-pub mod Growing
-pub mod Picking

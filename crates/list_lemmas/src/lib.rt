@@ -1,4 +1,3 @@
 //! Lemmas of more than one crate, in `proofs/`: on the members of a list, on keys that are inserted each once, on a list
-//! from a place on, on lists that rise in an order, on lists that grow by what the elements of another one give, and on ties of
-//! orders.
+//! from a place on, on lists that rise in an order, and on ties of orders.
 #![tactic(auto)]

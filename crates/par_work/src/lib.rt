@@ -20,10 +20,8 @@ mod rule;
 mod shares;
 mod task;
 mod worker;
-mod workers;
 
 pub use claims::{Claims, Drawer};
 pub use fanning::fan;
 pub use shares::{share, shares_are_even, shares_follow};
 pub use task::Task;
-pub use workers::Workers;
