@@ -7,6 +7,7 @@ use std::test::Fail;
 
 // Each row ends in the words of a command line, with a space between any two.
 
+// By the rows of options that a link has today.
 const LINKED: &str = "\
     0 noinput\t\n\
     2 novalue\ta.o -o\n\
@@ -15,8 +16,15 @@ const LINKED: &str = "\
     1 unknown\t-frob a.o\n\
     0 noinput\t-o a\n\
     to a.out _main a.out path:a.o path:b.o\ta.o b.o\n\
+    to a _main a L:d library:x path:a.o path+forced:p.a\t-o a -Ld -lx a.o -force_load p.a\n\
     1 unknown\t-dylib a.o\n\
-    3 unknown\t-o a -lx a.o\n\
+    1 unknown\t-reexport-lx a.o\n\
+    1 unknown\t-exported_symbol n a.o\n\
+    3 unknown\t-o a -dead_strip a.o\n\
+    2 unknown\ta.o -branch_reach 4096\n\
+    2 unknown\ta.o -generate 1\n\
+    2 unknown\ta.o -no_fixup_chains\n\
+    2 unknown\ta.o -icf all\n\
     3 unknown\ta.o -o b\0c\n\
     1 unknown\t a.o\n\
 ";
@@ -386,7 +394,7 @@ fn all_tell(alloc: Global, told: Told, words: &ArgList, expected: &str) -> bool 
 }
 
 fn link_tells(alloc: Global, told: Told, words: &ArgList, expected: &str) -> bool {
-    let read = read_words(alloc, Rows::Objects, words);
+    let read = read_words(alloc, Rows::Libraries, words);
     tells(alloc, told, &read, expected)
 }
 
