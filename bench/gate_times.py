@@ -1,5 +1,5 @@
 #!/usr/bin/env python3
-"""Times the gate from nothing, as a table for docs/ARCHITECTURE.md: `bench/gate_times.py [--here] [CRATE..]`.
+"""Times the gate from nothing, as a table for docs/MEASURES.md: `bench/gate_times.py [--here] [CRATE..]`.
 
 Runs `rt ci --anew` over a fresh clone of what is committed, with names only for these crates and those below them, and
 looks at its processes twice a second. With `--here` it runs `rt ci` in this checkout, prints what that says, and ends
