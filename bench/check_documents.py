@@ -143,7 +143,7 @@ def check_names(words):
                     fault(document, number, f"no file {linked}")
             for quoted in QUOTED.findall(line):
                 if PATH.match(quoted):
-                    if not is_there(quoted, document.parent):
+                    if "NAME" not in quoted and not is_there(quoted, document.parent):
                         fault(document, number, f"no file {quoted}")
                     continue
                 found = NAME.match(quoted.split("(")[0].split("<")[0])
