@@ -47,6 +47,7 @@ OUTSIDE = re.compile(
 CALL = re.compile(r"`([a-z]\w*)((?:::\w+)+)`((?:(?:: |, | and )`\w+`)*)")
 FUNCTION = re.compile(r"^[ \t]*(pub(?:\([a-z]+\))? )?(?:const )?fn (\w+)", re.MULTILINE)
 BODY = re.compile(r"^[ \t]*\{(\})?[ \t]*$|;[ \t]*$", re.MULTILINE)
+EXPORTS = re.compile(r"^pub (?:use [^;]*;|(?:fn|struct|enum|trait|mod) \w+)", re.MULTILINE)
 CLAUSE = re.compile(r"\bensures\s+(\w+)\s*\{")
 TYPE = re.compile(r"^(?:pub )?(?:struct|enum|trait|type) (\w+)|^impl(?:<[^{]*?>)? (?:[\w<>', ]+ for )?(\w+)", re.MULTILINE)
 
@@ -69,12 +70,20 @@ def crates():
     return sorted(path.name for path in (TOP / "crates").iterdir() if (path / "src").is_dir())
 
 
+def exported_by(text):
+    """The names that the root of a library offers."""
+    return {word for names in EXPORTS.findall(text) for word in WORD.findall(names)}
+
+
 class Crate:
     """What a crate's sources have: its words, its types, and the functions with their clauses."""
 
     def __init__(self, name):
         self.words, self.types, self.functions, self.laws = {name}, set(), {}, set()
         folder = TOP / "crates" / name
+        library = folder / "src/lib.rt"
+        # what other crates may name, or None of a program
+        self.exported = exported_by(library.read_text()) if library.exists() else None
         for path in [*folder.rglob("*.rt"), *folder.rglob("*.antt")]:
             if "out" in path.parts:
                 continue
@@ -165,8 +174,11 @@ def check_calls(sources):
                 path = path.split("::")[1:]
                 clauses = sources[crate].clauses_of(path)
                 shown = "::".join([crate, *path])
+                exported = sources[crate].exported
                 if clauses is None and not sources[crate].has(path):
                     fault(document, number, f"{crate} has no {shown}")
+                elif exported is not None and path[0] not in exported:
+                    fault(document, number, f"{crate} doesn't offer {shown}")
                 for clause in QUOTED.findall(listed):
                     if clauses is None or clause not in clauses:
                         fault(document, number, f"{shown} has no clause {clause}")
