@@ -51,6 +51,8 @@ EXPORTS = re.compile(r"^pub (?:use [^;]*;|(?:fn|struct|enum|trait|mod) \w+)", re
 CLAUSE = re.compile(r"\bensures\s+(\w+)\s*\{")
 TYPE = re.compile(r"^(?:pub )?(?:struct|enum|trait|type) (\w+)|^impl(?:<[^{]*?>)? (?:[\w<>', ]+ for )?(\w+)", re.MULTILINE)
 
+# Options whose values stand attached.
+ATTACHED = ("-L", "-F", "-l", "-weak-l")
 # What crates tell, but no link yet.
 NO_LINK = {"wildcard", "gotdelta"}
 
@@ -235,27 +237,25 @@ def check_options():
     manual = MANUAL.read_text()
     options = manual[manual.index(".Sh OPTIONS") : manual.index(".Sh FILES")]
     shown = set()
-    for line in re.findall(r"^\.It (?:Fl .*|Xo\n(?:.*\n)*?\.Xc)$", options, re.MULTILINE):
-        for line in line.splitlines():
-            # a list of options stands behind one `Fl`, else each has its own
-            shown.update(f"-{name}" for name in re.findall(r"\bFl ([A-Za-z_-]+)", line))
-            shown.update(f"-{name}" for name in re.findall(r", ([a-z_]+)", line))
-    table = "\n".join(line for line in README.read_text().splitlines() if line.startswith("| `-"))
-    told = {re.split(r"[ ‹]", word)[0] for line in table.splitlines() for word in QUOTED.findall(line.split("|")[1])}
+    for item in re.findall(r"^\.It (?:Fl .*|Xo\n(?:.*\n)*?\.Xc)$", options, re.MULTILINE):
+        # a list of options stands behind one `Fl`, else each has its own
+        shown.update(f"-{name}" for name in re.findall(r"\bFl ([A-Za-z_-]+)|, ([a-z_]+)", item) for name in name if name)
+    rows = [line for line in README.read_text().splitlines() if line.startswith("| `-")]
+    told = {word.split(" ")[0] for row in rows for word in QUOTED.findall(row.split("|")[1])}
     for document, words in ((MANUAL, shown), (README, told)):
-        stems = {word for word in words if word in every} | {
-            stem for word in words if word not in every for stem in ("-L", "-F", "-l", "-weak-l") if word.startswith(stem)}
-        for word in sorted(linked - stems):
+        # a value may stand attached
+        words = {word if word in every else next((stem for stem in ATTACHED if word.startswith(stem)), word) for word in words}
+        for word in sorted(linked - words):
             fault(document, 1, f"the option {word} isn't there")
-        for word in sorted(stems - linked):
+        for word in sorted(words - linked):
             fault(document, 1, f"the link doesn't have the option {word}")
 
 
 def check_manual():
     manual = MANUAL.read_text()
     words = set(re.findall(r"[a-z][a-z0-9]+", manual))
-    code = "\n".join(path.read_text() for path in (TOP / "crates").rglob("src/**/*.rt")
-                     if "_tests" not in str(path) and path.parts[-3] not in {"mo_types"} and "out" not in path.parts)
+    code = "\n".join(path.read_text() for crate in crates() if crate != "mo_types" and not crate.endswith("_tests")
+                     for path in (TOP / "crates" / crate / "src").rglob("*.rt"))
     shows = re.findall(r"(\w+)::(\w+) => \"(\w+)\",", (TOP / "crates/mo_types/src/cause.rt").read_text())
     for kind, variant, text in shows:
         is_told = re.search(rf"\b{kind}::{variant}\b", code) and text not in NO_LINK
@@ -299,11 +299,7 @@ def run_sessions(program):
         for start, lines in sessions():
             at = 0
             while at < len(lines):
-                line, at = at + start, at + 1
-                command = lines[at - 1][2:]
-                while command.endswith("\\"):
-                    command, at = command + "\n" + lines[at].removeprefix("> "), at + 1
-                wanted = []
+                command, line, wanted, at = lines[at].removeprefix("$ "), start + at, [], at + 1
                 while at < len(lines) and not lines[at].startswith("$ "):
                     wanted, at = wanted + [lines[at]], at + 1
                 ran = subprocess.run(["bash", "-c", command], cwd=folder, env=known, text=True,
