@@ -21,15 +21,15 @@ use Rattle.sect_place.specs.OutSections.{out_sections}
 use Rattle.sect_place.specs.declared.island.IslandPlan.{IslandPlan}
 use Rattle.sect_place.specs.declared.layout.Placed.{Placed}
 use Rattle.slot_plan.specs.declared.list.Slots.{Slots}
-use Rattle.atom_work.specs.Atoms.{atom_of}
-use Rattle.atom_work.specs.declared.kept.KeptAtom.{KeptAtom}
+use Rattle.image_make.specs.Atoms.{atom_of}
+use Rattle.image_make.specs.declared.kept.KeptAtom.{KeptAtom}
 use Rattle.image_make.specs.Made.{IsFilledImage, no_parts, plan_with, sizes_of}
 use Rattle.mo_types.specs.declared.key.AtomKey.{AtomKey}
 use Rattle.patch.specs.declared.met.RangeFault.{RangeFault}
 use Rattle.patch.specs.Range.{AreStanding, AreWork, HasFields, IsLeastFault, IsPlaced, IsSameBeside}
 use Rattle.patch.specs.declared.met.Met.{Met}
 use Rattle.patch.specs.declared.range.PlacedWork.{PlacedWork}
-use Rattle.atom_work.specs.Addresses.{AreOnce}
+use Rattle.image_make.specs.Addresses.{AreOnce}
 
 less_not_equal : Less ≡ Equal → ⊥
 less_not_equal e = cc

@@ -1,1 +1,9 @@
 mod LaidLemmas
+pub mod AddressLemmas
+pub mod GrowLemmas
+pub mod KeptLemmas
+pub mod KeptListLemmas
+pub mod ListLemmas
+pub mod ListedLemmas
+pub mod OrderLemmas
+pub mod ToldLemmas

@@ -1,2 +1,7 @@
 pub mod Made
 pub mod inner
+pub mod Addresses
+pub mod Atoms
+pub mod AtomReferences
+pub mod Mets
+pub mod Rows

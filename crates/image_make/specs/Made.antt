@@ -1,10 +1,10 @@
 -- The image of the atoms that are kept (`loader.h`).
 use Rattle.std.specs.Prelude.{ℕ, ◌+◌, ◌-◌, ◌<◌, ◌^◌, false, List, [], ◌∷◌, length, map, slice_get, All, Result, Ok, Err}
 use Rattle.std.specs.Option.{option_map_or}
-use Rattle.atom_work.specs.Addresses.{Scene, goal_address}
-use Rattle.atom_work.specs.Atoms.{atom_of, kept_atoms}
-use Rattle.atom_work.specs.Rows.{kept_mets, rows}
-use Rattle.atom_work.specs.declared.kept.KeptAtom.{KeptAtom}
+use Rattle.image_make.specs.Addresses.{Addressing, goal_address}
+use Rattle.image_make.specs.Atoms.{atom_of, kept_atoms}
+use Rattle.image_make.specs.Rows.{kept_mets, rows}
+use Rattle.image_make.specs.declared.kept.KeptAtom.{KeptAtom}
 use Rattle.image_join.specs.Joined.{joined}
 use Rattle.lib_bind.specs.declared.library.LibraryGraph.{LibraryGraph}
 use Rattle.load_cmds.specs.Commands.{commands_of}
@@ -19,7 +19,7 @@ use Rattle.mo_types.specs.declared.loaded.LoadedFile.{LoadedFile}
 use Rattle.patch.specs.declared.met.Met.{Met}
 use Rattle.patch.specs.declared.range.PlacedWork.{PlacedWork}
 use Rattle.patch.specs.Range.{AreWork, IsLeastFault, IsPlaced, IsSameBeside}
-use Rattle.resolve.specs.declared.representative.Representative.{Representative}
+use Rattle.literal_merge.specs.declared.representative.Representative.{Representative}
 use Rattle.sect_place.specs.Layout.{IsLayoutOf, IsTooLarge, Plan, base_of, image_size, plan_of}
 use Rattle.sect_place.specs.OutSections.{out_sections}
 use Rattle.sect_place.specs.declared.island.IslandPlan.{IslandPlan}
@@ -33,7 +33,7 @@ use Rattle.image_make.specs.declared.fault.MakeFault.TheVariants.{Place, Range, 
 -- What an image is made of: the command and its libraries, the loaded files with the goals of their symbols, what stands for
 -- each literal, the keys of the atoms that are kept, the header's flags, where the program begins, and the slots and islands
 -- that it has.
-pub record Making : Type 0 where
+pub record ImageInputs : Type 0 where
   pub command : Command
   pub libs : LibraryGraph
   pub files : List LoadedFile
@@ -49,7 +49,7 @@ pub record Making : Type 0 where
 abbrev pub no_parts : PartKinds
 no_parts = record { fixups = false; trie = false; symbols = false; uuid = false; signature = false }
 
-abbrev pub kept_of : Making → List KeptAtom
+abbrev pub kept_of : ImageInputs → List KeptAtom
 kept_of m = kept_atoms m.literals m.keys m.files
 
 abbrev pub sizes_of : Command → LibraryGraph → PlaceSizes
@@ -60,7 +60,7 @@ unfoldable pub plan_with : Command → LibraryGraph → List LoadedFile → List
 plan_with command libs files kept slots islands =
     plan_of (map atom_of kept) (out_sections files (map atom_of kept)) slots islands (sizes_of command libs) command
 
-abbrev pub plan_for : Making → Plan
+abbrev pub plan_for : ImageInputs → Plan
 plan_for m = plan_with m.command m.libs m.files (kept_of m) m.slots m.islands
 
 -- what is planned is too large
@@ -70,12 +70,12 @@ IsSizeFault plan (Range key fault) = ⊥
 IsSizeFault plan OutOfMemory = Unit {0}
 
 -- a layout of it, which has fewer than 2^32 bytes before `__LINKEDIT`
-pub record IsLaid (m : Making) (layout : Layout) : Type 0 where
+pub record IsLaid (m : ImageInputs) (layout : Layout) : Type 0 where
   pub layout_of : IsLayoutOf m.command (plan_for m) layout
   pub small : image_size (plan_for m) < 2 ^ 32
 
 -- the offset of the first instruction from the start of `__TEXT`
-abbrev pub entry_offset : Making → Layout → ℕ
+abbrev pub entry_offset : ImageInputs → Layout → ℕ
 entry_offset m layout = goal_address (base_of m.command) layout.placed m.entry - base_of m.command
 
 abbrev pub no_place : PartPlace
@@ -105,21 +105,21 @@ file_end segments = option_map_or (λ segment. segment.file_offset + segment.fil
 unfoldable pub blank_of : List ℕ → Layout → List ℕ
 blank_of front layout = joined (record { size = file_end layout.segments; parts = record { from = 0; bytes = front } ∷ [] })
 
-abbrev pub front_of : Making → Layout → List ℕ
+abbrev pub front_of : ImageInputs → Layout → List ℕ
 front_of m layout = commands_of layout (parts_of m.flags (entry_offset m layout)) m.command m.libs
 
-abbrev pub blank : Making → Layout → List ℕ
+abbrev pub blank : ImageInputs → Layout → List ℕ
 blank m layout = blank_of (front_of m layout) layout
 
-abbrev pub scene_of : Making → Layout → Scene
+abbrev pub scene_of : ImageInputs → Layout → Addressing
 scene_of m layout = record { literals = m.literals; base = base_of m.command; placed = layout.placed }
 
 -- the atoms that have bytes, with their places
-abbrev pub rows_of : Making → Layout → List PlacedWork
+abbrev pub rows_of : ImageInputs → Layout → List PlacedWork
 rows_of m layout = rows layout.placed (kept_of m) layout.sections
 
 -- the references of an atom
-abbrev pub mets_of : Making → Layout → PlacedWork → List Met
+abbrev pub mets_of : ImageInputs → Layout → PlacedWork → List Met
 mets_of m layout = kept_mets (scene_of m layout) m.files m.goals
 
 -- an image is a blank one with its atoms, which stand apart, each with its fields, and no other change
@@ -130,7 +130,7 @@ pub record IsFilledImage (files : List LoadedFile) (mets : PlacedWork → List M
   pub bytes : All (λ byte. byte < 256) image
 
 -- an image, or why there is none; want of memory is left to the code
-abbrev pub IsMade : Making → Result (List ℕ) MakeFault → Type 0
+abbrev pub IsMade : ImageInputs → Result (List ℕ) MakeFault → Type 0
 IsMade m (Ok image) = (layout : Layout) × IsLaid m layout × IsFilledImage m.files (mets_of m layout) (rows_of m layout) (blank m layout) image
 IsMade m (Err (Place fault)) = IsTooLarge (image_size (plan_for m)) fault
 IsMade m (Err (Range key fault)) =

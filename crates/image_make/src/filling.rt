@@ -1,11 +1,11 @@
 //! A blank image, filled with its atoms.
 ghost use Rattle.std.specs.Prelude.{◌≡◌, ◌<◌, All, IfOk};
-ghost use Rattle.atom_work.specs.Meets.{IsReady, met_by};
+ghost use Rattle.image_make.specs.AtomReferences.{IsReady, met_by};
 ghost use Rattle.image_make.specs.Made as spec;
 ghost use Rattle.image_make.specs.inner.Filled.{IsFilled};
 
 use crate::fault::MakeFault;
-use atom_work::Meets;
+use crate::meeting::AtomReferences;
 use image_join::{Part, PartList, Parts, fill, join};
 use mo_outside::Gate;
 use mo_types::{Bytes, Loaded, OutOfMemory};
@@ -66,7 +66,7 @@ pub(crate) fn fill_image<R: Threads + Sync, G: Gate + Sync>(
     workers: u32,
     loaded: &Loaded,
     work: &[PlacedWork],
-    meets: &Meets,
+    meets: &AtomReferences,
     blank: Vec<u8>,
 ) -> Result<Bytes, MakeFault>
     requires ready { IsReady meets.now }

@@ -1,13 +1,13 @@
 //! The header of an image with its load commands.
 ghost use Rattle.std.specs.Prelude.{◌≡◌, ◌-◌, IfOk};
-ghost use Rattle.atom_work.specs.Addresses.{AreOnce, goal_address};
+ghost use Rattle.image_make.specs.Addresses.{AreOnce, goal_address};
 ghost use Rattle.load_cmds.specs.Commands.{commands_of};
 ghost use Rattle.sect_place.specs.Layout.{base_of};
 ghost use Rattle.sect_place.specs.Whole.{IsWholeLayout};
 ghost use Rattle.image_make.specs.Made as spec;
 
+use crate::addresses::goal_address;
 use crate::laying::NO_PARTS;
-use atom_work::goal_address;
 use lib_bind::Libraries;
 use load_cmds::{PartPlace, PartSizes, commands};
 use mo_cmd::Command;

@@ -3,8 +3,8 @@ ghost use Rattle.std.specs.Prelude.{◌≡◌, ◌≤◌, ◌<◌, ◌^◌, All,
 ghost use Rattle.std.specs.List.{AllPairs};
 ghost use Rattle.std.specs.List.Sorted.{IsStrictlySortedBy};
 ghost use Rattle.std.specs.Ordering.{on};
-ghost use Rattle.atom_work.specs.Addresses.{AreOnce};
-ghost use Rattle.atom_work.specs.declared.kept.KeptAtom.{KeptAtom};
+ghost use Rattle.image_make.specs.Addresses.{AreOnce};
+ghost use Rattle.image_make.specs.declared.kept.KeptAtom.{KeptAtom};
 ghost use Rattle.mo_types.specs.Keys.{compare_keys};
 ghost use Rattle.mo_types.specs.Loaded.{IsBefore};
 ghost use Rattle.mo_types.specs.declared.loaded.LoadedFile.{LoadedFile};
@@ -13,7 +13,7 @@ ghost use Rattle.sect_place.specs.Whole.{IsWholeLayout};
 ghost use Rattle.image_make.specs.Made as spec;
 
 use crate::fault::MakeFault;
-use atom_work::KeptList;
+use crate::kept::KeptList;
 use lib_bind::Libraries;
 use load_cmds::{PartKinds, other_size};
 use mo_cmd::Command;

@@ -2,9 +2,9 @@
 ghost use Rattle.std.specs.Prelude.{◌≡◌, ◌≤◌, All};
 ghost use Rattle.std.specs.List.Sorted.{IsStrictlySortedBy};
 ghost use Rattle.std.specs.Ordering.{on};
-ghost use Rattle.atom_work.specs.Atoms.{kept_atoms};
-ghost use Rattle.atom_work.specs.declared.kept.KeptAtom.{KeptAtom};
-ghost use Rattle.goal_table.specs.Table.{goals_of};
+ghost use Rattle.image_make.specs.Atoms.{kept_atoms};
+ghost use Rattle.image_make.specs.declared.kept.KeptAtom.{KeptAtom};
+ghost use Rattle.resolve.specs.Table.{goals_of};
 ghost use Rattle.mo_types.specs.Keys.{compare_keys};
 ghost use Rattle.mo_types.specs.Loaded.{IsWholeLoaded};
 ghost use Rattle.image_make.specs.Made.{IsMade};
@@ -12,22 +12,24 @@ ghost use Rattle.image_make.specs.Made.{IsMade};
 use crate::fault::MakeFault;
 use crate::filling::{blank_image, fill_image};
 use crate::front::{base_of, front_of};
+use crate::kept::kept_atoms;
 use crate::laying::lay_out;
-use atom_work::{Meets, kept_atoms, work_of};
-use goal_table::GoalTable;
+use crate::meeting::AtomReferences;
+use crate::rows::work_of;
 use lib_bind::Libraries;
 use mo_cmd::Command;
 use mo_outside::Gate;
 use mo_types::{Bytes, Goal, KeyList, Loaded};
-use resolve::Winners;
+use resolve::GoalTable;
 use sect_place::IslandPlan;
 use slot_plan::Slots;
 use std::alloc::Global;
 use std::thread::Threads;
+use symbol_winners::Winners;
 
 /// What an image is made of.
 #[derive(Clone, Copy)]
-pub struct Scheme<'a> {
+pub struct ImageInputs<'a> {
     pub command: &'a Command,
     pub libs: &'a Libraries,
     pub loaded: &'a Loaded,
@@ -51,7 +53,7 @@ pub fn make_image<R: Threads + Sync, G: Gate + Sync>(
     rt: &R,
     alloc: Global,
     gate: &G,
-    scheme: &Scheme,
+    scheme: &ImageInputs,
 ) -> Result<Bytes, MakeFault>
     requires whole { IsWholeLoaded scheme.now.loaded.now }
     requires keys { IsStrictlySortedBy compare_keys scheme.now.keys.now }
@@ -80,7 +82,7 @@ pub fn make_image<R: Threads + Sync, G: Gate + Sync>(
     let work = work_of(alloc, &kept, &layout)?;
     drop(kept);
     let blank = blank_image(alloc, &layout, front)?;
-    let meets = Meets::of(
+    let meets = AtomReferences::of(
         alloc,
         scheme.loaded,
         scheme.winners,

@@ -11,10 +11,10 @@ use Rattle.mo_types.specs.Loaded.{IsWholeFile}
 use Rattle.mo_types.specs.declared.loaded.LoadedFile.{LoadedFile}
 use Rattle.lib_bind.specs.Named.{are_named, is_next}
 use Rattle.lib_bind.specs.declared.named.NamedStub.{NamedStub}
-use Rattle.member_rounds.specs.Sources.{AreInOrder, AreObjects, inputs_of, object_reads}
-use Rattle.member_rounds.specs.declared.fault.RoundFault.{RoundFault}
-use Rattle.member_rounds.specs.declared.input.Input.{Input}
-use Rattle.member_rounds.proofs.StateLemmas.{all_from, all_has}
+use Rattle.input_files.specs.Sources.{AreInOrder, AreObjects, inputs_of, object_reads}
+use Rattle.input_files.specs.declared.fault.LoadFault.{LoadFault}
+use Rattle.input_files.specs.declared.input.Input.{Input}
+use Rattle.input_files.proofs.EachLemmas.{all_from, all_has}
 use Rattle.input_read.specs.Opened.{Contents, contents_as, contents_in, contents_of, input_in, object_in, openings_of, stubs_in}
 use Rattle.input_read.specs.Opening.{opening_of}
 use Rattle.input_read.specs.Sound.{IsSound}
@@ -35,11 +35,11 @@ record IsRead (input : Input) (inputs : List Input) (openings : List Opening) : 
 read_both : (input : Input) (inputs : List Input) (openings : List Opening) → openings_of (input ∷ inputs) ≡ Ok openings → IsRead input inputs openings
 read_both input inputs openings is = by (opening_of input) refl is
   where
-    both : (one : Opening) → opening_of input ≡ Ok one → (q : Result (List Opening) RoundFault) → openings_of inputs ≡ q → (q >>= λ os. Ok (one ∷ os)) ≡ Ok openings → IsRead input inputs openings
+    both : (one : Opening) → opening_of input ≡ Ok one → (q : Result (List Opening) LoadFault) → openings_of inputs ≡ q → (q >>= λ os. Ok (one ∷ os)) ≡ Ok openings → IsRead input inputs openings
     both one first (Err e) q h = absurd (let s : Err e ≡ Ok openings = h in cc)
     both one first (Ok os) q h = record { one = one; more = os; first = first; others = q; are = (let s : Ok (one ∷ os) ≡ Ok openings = h in let same : one ∷ os ≡ openings = cc in sym same) }
 
-    by : (r : Result Opening RoundFault) → opening_of input ≡ r → (r >>= λ one. openings_of inputs >>= λ os. Ok (one ∷ os)) ≡ Ok openings → IsRead input inputs openings
+    by : (r : Result Opening LoadFault) → opening_of input ≡ r → (r >>= λ one. openings_of inputs >>= λ os. Ok (one ∷ os)) ≡ Ok openings → IsRead input inputs openings
     by (Err e) r h = absurd (let s : Err e ≡ Ok openings = h in cc)
     by (Ok one) r h = both one r (openings_of inputs) refl h
 
@@ -96,7 +96,7 @@ contents_read : (inputs : List Input) (contents : Contents) → contents_of inpu
 unfolding contents_of
 contents_read inputs contents is = by (openings_of inputs) refl is
   where
-    by : (r : Result (List Opening) RoundFault) → openings_of inputs ≡ r → (r >>= λ openings. Ok (contents_in openings)) ≡ Ok contents → (openings : List Opening) × (openings_of inputs ≡ Ok openings) × (contents_in openings ≡ contents)
+    by : (r : Result (List Opening) LoadFault) → openings_of inputs ≡ r → (r >>= λ openings. Ok (contents_in openings)) ≡ Ok contents → (openings : List Opening) × (openings_of inputs ≡ Ok openings) × (contents_in openings ≡ contents)
     by (Err e) r h = absurd (let s : Err e ≡ Ok contents = h in cc)
     by (Ok openings) r h = (openings, r, (let s : Ok (contents_in openings) ≡ Ok contents = h in cc))
 
@@ -173,7 +173,7 @@ pub opened_exact : (inputs : List Input) (openings : List Opening) (opened : Ope
 unfolding contents_of
 opened_exact inputs openings opened read is = rw read (ap Ok (sym is))
 
-pub opened_fails : (inputs : List Input) (fault : RoundFault) → openings_of inputs ≡ Err fault → contents_of inputs ≡ Err fault
+pub opened_fails : (inputs : List Input) (fault : LoadFault) → openings_of inputs ≡ Err fault → contents_of inputs ≡ Err fault
 unfolding contents_of
 opened_fails inputs fault read = rw read refl
 

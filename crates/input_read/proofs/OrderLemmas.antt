@@ -6,8 +6,8 @@ use Rattle.std.specs.Ordering.{nat_cmp}
 use Rattle.std.proofs.Math.Facts.{Fits-lt-pow, Fits-of_lt}
 use Rattle.std.proofs.lemmas.List.{get_or-map, get_or_default, length-map}
 use Rattle.std.proofs.lemmas.Map.Keys.{IsStrictlyIncreasing-from_sorted, sorted_from_strictly_increasing}
-use Rattle.member_rounds.specs.Sources.{AreInOrder}
-use Rattle.member_rounds.specs.declared.input.Input.{Input}
+use Rattle.input_files.specs.Sources.{AreInOrder}
+use Rattle.input_files.specs.declared.input.Input.{Input}
 
 abbrev pub IsBelow : Input → Input → Type 0
 IsBelow a b = a.position < b.position

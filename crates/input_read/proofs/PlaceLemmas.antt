@@ -29,10 +29,10 @@ use Rattle.tbd_doc.specs.declared.fault.StubFault.{StubFault}
 use Rattle.tbd_doc.specs.declared.fault.StubFault.TheVariants as stub
 use Rattle.tbd_doc.specs.declared.stub.StubFile.{StubFile}
 use Rattle.lib_bind.specs.Reexported.{IsFileFault, of_stub, of_text, stub_text, stubs_of, text_of, told}
-use Rattle.member_rounds.specs.Files.{archive_in as archive_held, IsRoundFault, id_at, in_form, object_read, read_as, read_by}
-use Rattle.member_rounds.specs.Form.{is_later}
-use Rattle.member_rounds.specs.declared.fault.RoundFault.{RoundFault}
-use Rattle.member_rounds.specs.declared.input.Input.{Input}
+use Rattle.input_files.specs.Files.{archive_in as archive_held, IsLoadFault, id_at, in_form, object_read, read_as, read_by}
+use Rattle.input_files.specs.Form.{is_later}
+use Rattle.input_files.specs.declared.fault.LoadFault.{LoadFault}
+use Rattle.input_files.specs.declared.input.Input.{Input}
 use Rattle.input_read.specs.Opening.{archive_in, object_in, opened_archive, opened_by, opened_object, opened_slice, opening_of, slice_by, slice_in, stubs_in, universal_in}
 use Rattle.input_read.specs.declared.opening.Opening.{Opening}
 use Rattle.input_read.specs.declared.opening.Opening.TheVariants as opening
@@ -54,20 +54,20 @@ IsKnown (opening.Archive input archive) = archive_held input ≡ Some archive
 IsKnown (opening.Stubs named) = Unit {0}
 
 -- an answer for an input at a position
-abbrev Fine : ℕ → Result Opening RoundFault → Type 0
+abbrev Fine : ℕ → Result Opening LoadFault → Type 0
 Fine position (Ok opening) = (place_of opening ≡ position) × IsKnown opening
-Fine position (Err why) = IsRoundFault why
+Fine position (Err why) = IsLoadFault why
 
 -- ---- objects
 
-of_object : (id : FileId) (label : List ℕ) (r : Result Object ObjFault) → IfErr r IsObjFault → IfErr (object_read id label r) IsRoundFault
+of_object : (id : FileId) (label : List ℕ) (r : Result Object ObjFault) → IfErr r IsObjFault → IfErr (object_read id label r) IsLoadFault
 of_object id label (Ok object) is = tt
 of_object id label (Err (fault.Malformed place rule)) is = tt
 of_object id label (Err (fault.Unsupported feature)) is = tt
 of_object id label (Err (fault.Limit which)) is = tt
 of_object id label (Err fault.OutOfMemory) is = absurd is
 
-by_feature : (id : FileId) (label bytes : List ℕ) (what : Feature) → IfErr (read_by (kind.Refused what) id label bytes) IsRoundFault
+by_feature : (id : FileId) (label bytes : List ℕ) (what : Feature) → IfErr (read_by (kind.Refused what) id label bytes) IsLoadFault
 by_feature id label bytes feature.SectionType = tt
 by_feature id label bytes feature.ObjcSection = tt
 by_feature id label bytes feature.Alignment = tt
@@ -89,7 +89,7 @@ by_feature id label bytes feature.Wildcard = tt
 by_feature id label bytes feature.EhFrame = tt
 by_feature id label bytes feature.Later = tt
 
-by_kind : (id : FileId) (label bytes : List ℕ) (k : Kind) → IfErr (read_by k id label bytes) IsRoundFault
+by_kind : (id : FileId) (label bytes : List ℕ) (k : Kind) → IfErr (read_by k id label bytes) IsLoadFault
 by_kind id label bytes kind.MachO = of_object id label (object_of bytes) (object_faulty bytes)
 by_kind id label bytes kind.Archive = tt
 by_kind id label bytes kind.Universal = tt
@@ -97,15 +97,15 @@ by_kind id label bytes kind.Stub = tt
 by_kind id label bytes kind.NotAnInput = tt
 by_kind id label bytes (kind.Refused what) = by_feature id label bytes what
 
-pub read_faulty : (id : FileId) (label bytes : List ℕ) → IfErr (read_as id label bytes) IsRoundFault
+pub read_faulty : (id : FileId) (label bytes : List ℕ) → IfErr (read_as id label bytes) IsLoadFault
 unfolding read_as
-read_faulty id label bytes = then_real IsRoundFault (read_by (kind_of bytes) id label bytes) in_form (by_kind id label bytes (kind_of bytes)) (λ file. either IsRoundFault (is_later file) _ (Ok file) tt tt)
+read_faulty id label bytes = then_real IsLoadFault (read_by (kind_of bytes) id label bytes) in_form (by_kind id label bytes (kind_of bytes)) (λ file. either IsLoadFault (is_later file) _ (Ok file) tt tt)
 
 object_fine : (input : Input) → kind_of input.bytes ≡ kind.MachO → Fine input.position (opened_object input)
 unfolding opened_object
 object_fine input told = by (read_as (id_at input 0) input.label input.bytes) refl (read_faulty (id_at input 0) input.label input.bytes)
   where
-    by : (r : Result LoadedFile RoundFault) → read_as (id_at input 0) input.label input.bytes ≡ r → IfErr r IsRoundFault → Fine input.position (object_in input r)
+    by : (r : Result LoadedFile LoadFault) → read_as (id_at input 0) input.label input.bytes ≡ r → IfErr r IsLoadFault → Fine input.position (object_in input r)
     by (Ok file) e is = (refl, (no_archive input told, e))
     by (Err why) e is = is
 
@@ -200,7 +200,7 @@ kind_fine input kind.Stub e = stubs_fine input (stub_text input.bytes) (stub_fau
 kind_fine input kind.NotAnInput e = tt
 kind_fine input (kind.Refused what) e = tt
 
-fine_either : (position : ℕ) (test : Bool) (a b : Result Opening RoundFault) → Fine position a → Fine position b → Fine position (if test then a else b)
+fine_either : (position : ℕ) (test : Bool) (a b : Result Opening LoadFault) → Fine position a → Fine position b → Fine position (if test then a else b)
 fine_either position true a b one other = one
 fine_either position false a b one other = other
 
@@ -219,9 +219,9 @@ pub opening_known : (input : Input) (opening : Opening) → opening_of input ≡
 opening_known input opening is = (opened_fine input opening is).1
 
 -- no input lacks memory
-pub input_faulty : (input : Input) → IfErr (opening_of input) IsRoundFault
+pub input_faulty : (input : Input) → IfErr (opening_of input) IsLoadFault
 input_faulty input = by (opening_of input) (fine input)
   where
-    by : (r : Result Opening RoundFault) → Fine input.position r → IfErr r IsRoundFault
+    by : (r : Result Opening LoadFault) → Fine input.position r → IfErr r IsLoadFault
     by (Ok opening) is = tt
     by (Err why) is = is

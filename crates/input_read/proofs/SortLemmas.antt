@@ -6,10 +6,10 @@ use Rattle.std.specs.List.{filter_map}
 use Rattle.mo_types.specs.declared.loaded.LoadedFile.{LoadedFile}
 use Rattle.mo_ar.specs.declared.archive.Archive.{Archive}
 use Rattle.lib_bind.specs.declared.named.NamedStub.{NamedStub}
-use Rattle.member_rounds.specs.Files.{archive_in}
-use Rattle.member_rounds.specs.Sources.{inputs_of}
-use Rattle.member_rounds.specs.declared.input.Input.{Input}
-use Rattle.member_rounds.specs.declared.sources.Source.{Source}
+use Rattle.input_files.specs.Files.{archive_in}
+use Rattle.input_files.specs.Sources.{inputs_of}
+use Rattle.input_files.specs.declared.input.Input.{Input}
+use Rattle.input_files.specs.declared.sources.Source.{Source}
 use Rattle.input_read.specs.Opened.{contents_as, contents_in, input_in, object_in, stubs_in}
 use Rattle.input_read.specs.Sound.{IsObjectOf, IsSound}
 use Rattle.input_read.specs.declared.opened.Opened.{Opened}

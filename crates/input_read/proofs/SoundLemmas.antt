@@ -10,8 +10,8 @@ use Rattle.mo_ar.specs.declared.archive.Archive.{Archive}
 use Rattle.tbd_doc.specs.declared.stub.StubFile.{StubFile}
 use Rattle.lib_bind.specs.Reexported.{reexported, stub_text}
 use Rattle.lib_bind.proofs.TextLemmas.{HasDocument, reexported_has}
-use Rattle.member_rounds.specs.Files.{archive_in, id_at, read_as}
-use Rattle.member_rounds.specs.declared.input.Input.{Input}
+use Rattle.input_files.specs.Files.{archive_in, id_at, read_as}
+use Rattle.input_files.specs.declared.input.Input.{Input}
 use Rattle.input_read.specs.Sound.{IsObjectOf}
 
 pub no_archive : (input : Input) → kind_of input.bytes ≡ kind.MachO → archive_in input ≡ None

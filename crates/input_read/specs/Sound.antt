@@ -2,8 +2,8 @@
 use Rattle.std.specs.Prelude.{◌≡◌, ◌<◌, length, None, Some, Ok}
 use Rattle.mo_types.specs.Loaded.{IsWholeFile}
 use Rattle.mo_types.specs.declared.loaded.LoadedFile.{LoadedFile}
-use Rattle.member_rounds.specs.Files.{archive_in, id_at, read_as}
-use Rattle.member_rounds.specs.declared.input.Input.{Input}
+use Rattle.input_files.specs.Files.{archive_in, id_at, read_as}
+use Rattle.input_files.specs.declared.input.Input.{Input}
 use Rattle.input_read.specs.declared.opening.Opening.{Opening}
 use Rattle.input_read.specs.declared.opening.Opening.TheVariants as opening
 

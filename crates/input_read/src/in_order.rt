@@ -1,8 +1,8 @@
 //! Inputs by rising positions.
 ghost use Rattle.std.specs.Prelude.{◌↔◌, IsTrue};
-ghost use Rattle.member_rounds.specs.Sources.{AreInOrder};
+ghost use Rattle.input_files.specs.Sources.{AreInOrder};
 
-use member_rounds::Input;
+use input_files::Input;
 
 /// Whether inputs stand by rising positions.
 pub fn are_in_order(inputs: &[Input]) -> bool

@@ -2,10 +2,10 @@
 ghost use Rattle.std.specs.Prelude.{◌≡◌, ◌↔◌, ℕ, ◌<◌, List, length, map, slice_index_or, IfErr, Err, Ok, Some};
 ghost use Rattle.std.specs.Result.{result_err};
 ghost use Rattle.mo_types.specs.Scan.{first_some};
-ghost use Rattle.member_rounds.specs.Files.{IsRoundFault};
-ghost use Rattle.member_rounds.specs.Sources.{AreInOrder, object_reads};
-ghost use Rattle.member_rounds.specs.declared.fault.RoundFault.{RoundFault};
-ghost use Rattle.member_rounds.specs.declared.input.Input.{Input};
+ghost use Rattle.input_files.specs.Files.{IsLoadFault};
+ghost use Rattle.input_files.specs.Sources.{AreInOrder, object_reads};
+ghost use Rattle.input_files.specs.declared.fault.LoadFault.{LoadFault};
+ghost use Rattle.input_files.specs.declared.input.Input.{Input};
 ghost use Rattle.input_read.specs.Opened.{Contents, contents_of, openings_of};
 ghost use Rattle.input_read.specs.Opening.{opening_of};
 ghost use Rattle.input_read.specs.declared.opening.Opening.{Opening};
@@ -18,7 +18,7 @@ pub fn each_input_is_opened()
 
 /// A fault is told exactly where an input has one, and is that of the first such input.
 pub fn the_first_fault_is_told()
-    ensures { (inputs : List Input) (fault : RoundFault) → (contents_of inputs ≡ Err fault) ↔ (first_some (λ input. result_err (opening_of input)) inputs ≡ Some fault) }
+    ensures { (inputs : List Input) (fault : LoadFault) → (contents_of inputs ≡ Err fault) ↔ (first_some (λ input. result_err (opening_of input)) inputs ≡ Some fault) }
 {}
 
 /// The objects and archives stand in the order of the inputs.
@@ -33,5 +33,5 @@ pub fn objects_are_those_of_the_inputs()
 
 /// An input that isn't read has a fault of its own.
 pub fn a_fault_is_told()
-    ensures { (input : Input) → IfErr (opening_of input) IsRoundFault }
+    ensures { (input : Input) → IfErr (opening_of input) IsLoadFault }
 {}

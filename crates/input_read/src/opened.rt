@@ -1,5 +1,5 @@
+use input_files::Source;
 use lib_bind::StubFileList;
-use member_rounds::Source;
 use mo_types::{Items, LoadedList};
 
 /// Inputs of which files are loaded, each with the archive that it is, if it is one.

@@ -5,13 +5,13 @@ ghost use Rattle.mo_types.specs.Kind as kinds;
 ghost use Rattle.mo_types.specs.declared.kind.Kind.TheVariants as kind;
 ghost use Rattle.mo_ar.specs.Slice as slices;
 ghost use Rattle.lib_bind.specs.Reexported.{stub_text};
-ghost use Rattle.member_rounds.specs.Files as files;
-ghost use Rattle.member_rounds.specs.Files.{IsRoundFault};
+ghost use Rattle.input_files.specs.Files as files;
+ghost use Rattle.input_files.specs.Files.{IsLoadFault};
 ghost use Rattle.input_read.specs.Opening as spec;
 ghost use Rattle.input_read.specs.Sound.{IsSound};
 
+use input_files::{Input, LoadFault, read_file};
 use lib_bind::{NamedStub, read_stub_text};
-use member_rounds::{Input, RoundFault, read_file};
 use mo_ar::{Archive, SliceFault, read_archive, slice_of};
 use mo_types::{
     Bytes, Feature, FileId, Kind, LoadedFile, ObjFault, OutOfMemory, Refusal, Rule, Which, kind_of,
@@ -32,46 +32,46 @@ pub enum Opening {
 // The most bytes that a file may have, and one.
 const TOO_MANY_BYTES: usize = 1 << 30;
 
-fn malformed(input: Input, place: u64, rule: Rule) -> Result<Opening, RoundFault>
+fn malformed(input: Input, place: u64, rule: Rule) -> Result<Opening, LoadFault>
     ensures exact { result ≡ spec.malformed input place rule }
     ensures sound { IfOk result IsSound }
 {
     let Input { label, .. } = input;
-    Err(RoundFault::Refused(Refusal::Malformed {
+    Err(LoadFault::Refused(Refusal::Malformed {
         file: label,
         place,
         rule,
     }))
 }
 
-fn unsupported(input: Input, feature: Feature) -> Result<Opening, RoundFault>
+fn unsupported(input: Input, feature: Feature) -> Result<Opening, LoadFault>
     ensures exact { result ≡ spec.unsupported input feature }
     ensures sound { IfOk result IsSound }
 {
     let Input { label, .. } = input;
-    Err(RoundFault::Refused(Refusal::Unsupported {
+    Err(LoadFault::Refused(Refusal::Unsupported {
         file: label,
         feature,
     }))
 }
 
 // The answer for an input that has a fault.
-fn fault_of(input: Input, fault: ObjFault) -> RoundFault
+fn fault_of(input: Input, fault: ObjFault) -> LoadFault
     ensures { result ≡ files.fault_of input.label fault }
 {
     let Input { label, .. } = input;
     match fault {
-        ObjFault::Malformed { place, rule } => RoundFault::Refused(Refusal::Malformed {
+        ObjFault::Malformed { place, rule } => LoadFault::Refused(Refusal::Malformed {
             file: label,
             place,
             rule,
         }),
-        ObjFault::Unsupported(feature) => RoundFault::Refused(Refusal::Unsupported {
+        ObjFault::Unsupported(feature) => LoadFault::Refused(Refusal::Unsupported {
             file: label,
             feature,
         }),
-        ObjFault::Limit(which) => RoundFault::Refused(Refusal::Limit { which }),
-        ObjFault::OutOfMemory => RoundFault::OutOfMemory,
+        ObjFault::Limit(which) => LoadFault::Refused(Refusal::Limit { which }),
+        ObjFault::OutOfMemory => LoadFault::OutOfMemory,
     }
 }
 
@@ -84,9 +84,9 @@ fn label_of(input: &Input) -> Result<Bytes, OutOfMemory>
 
 // Reads an input that is an object.
 #[tactic(auto, using(crate::proofs::SoundLemmas::objects), unfolding(crate::specs::Opening::opened_object))]
-fn open_object(alloc: Global, input: Input) -> Result<Opening, RoundFault>
+fn open_object(alloc: Global, input: Input) -> Result<Opening, LoadFault>
     requires kind { kinds.kind_of input.bytes ≡ kind.MachO }
-    ensures exact { Gives IsRoundFault result (spec.opened_object input) }
+    ensures exact { Gives IsLoadFault result (spec.opened_object input) }
     ensures sound { IfOk result IsSound }
 {
     let id = FileId {
@@ -100,9 +100,9 @@ fn open_object(alloc: Global, input: Input) -> Result<Opening, RoundFault>
 
 // Reads an input that is an archive.
 #[tactic(auto, using(crate::proofs::SoundLemmas::archives), unfolding(crate::specs::Opening::opened_archive))]
-fn open_archive(alloc: Global, input: Input) -> Result<Opening, RoundFault>
+fn open_archive(alloc: Global, input: Input) -> Result<Opening, LoadFault>
     requires kind { kinds.kind_of input.bytes ≡ kind.Archive }
-    ensures exact { Gives IsRoundFault result (spec.opened_archive input) }
+    ensures exact { Gives IsLoadFault result (spec.opened_archive input) }
     ensures sound { IfOk result IsSound }
 {
     match read_archive(alloc, &input.bytes) {
@@ -132,8 +132,8 @@ fn slice_in(input: Input, from: usize, size: usize) -> Result<Input, OutOfMemory
 }
 
 // Reads a slice of a universal file.
-fn open_slice(alloc: Global, input: Input) -> Result<Opening, RoundFault>
-    ensures exact { Gives IsRoundFault result (spec.opened_slice input) }
+fn open_slice(alloc: Global, input: Input) -> Result<Opening, LoadFault>
+    ensures exact { Gives IsLoadFault result (spec.opened_slice input) }
     ensures sound { IfOk result IsSound }
 {
     match kind_of(input.bytes.as_slice()) {
@@ -146,9 +146,9 @@ fn open_slice(alloc: Global, input: Input) -> Result<Opening, RoundFault>
 
 // Reads the slice for arm64 of an input that is a universal file.
 #[tactic(auto, using(crate::proofs::ArchiveLemmas::slices))]
-fn open_universal(alloc: Global, input: Input) -> Result<Opening, RoundFault>
+fn open_universal(alloc: Global, input: Input) -> Result<Opening, LoadFault>
     requires kind { kinds.kind_of input.bytes ≡ kind.Universal }
-    ensures exact { Gives IsRoundFault result (spec.universal_in input (slices.slice_of input.bytes)) }
+    ensures exact { Gives IsLoadFault result (spec.universal_in input (slices.slice_of input.bytes)) }
     ensures sound { IfOk result IsSound }
 {
     match slice_of(input.bytes.as_slice()) {
@@ -162,10 +162,10 @@ fn open_universal(alloc: Global, input: Input) -> Result<Opening, RoundFault>
 
 // Reads an input that is the text of stub libraries.
 #[tactic(auto, using(crate::proofs::SoundLemmas::stubs))]
-fn open_stubs(alloc: Global, input: Input) -> Result<Opening, RoundFault>
+fn open_stubs(alloc: Global, input: Input) -> Result<Opening, LoadFault>
     requires kind { kinds.kind_of input.bytes ≡ kind.Stub }
     requires few { length input.bytes < 2 ^ 30 }
-    ensures exact { Gives IsRoundFault result (spec.stubs_in input (stub_text input.bytes)) }
+    ensures exact { Gives IsLoadFault result (spec.stubs_in input (stub_text input.bytes)) }
     ensures sound { IfOk result IsSound }
 {
     match read_stub_text(alloc, &input.bytes) {
@@ -186,9 +186,9 @@ fn open_stubs(alloc: Global, input: Input) -> Result<Opening, RoundFault>
 }
 
 // Reads an input as what its first bytes tell.
-fn open_kind(alloc: Global, input: Input) -> Result<Opening, RoundFault>
+fn open_kind(alloc: Global, input: Input) -> Result<Opening, LoadFault>
     requires few { length input.bytes < 2 ^ 30 }
-    ensures exact { Gives IsRoundFault result (spec.opened_by (kinds.kind_of input.bytes) input) }
+    ensures exact { Gives IsLoadFault result (spec.opened_by (kinds.kind_of input.bytes) input) }
     ensures sound { IfOk result IsSound }
 {
     match kind_of(input.bytes.as_slice()) {
@@ -218,12 +218,12 @@ fn shared(input: &Input) -> Result<Input, OutOfMemory>
 /// that stands: 2^30 bytes or more; bytes of no kind that is linked; a fault of what the input is, whose place is one in the
 /// slice of a universal file. No bytes are copied.
 #[tactic(auto, unfolding(crate::specs::Opening::opening_of))]
-pub fn open_input(alloc: Global, input: &Input) -> Result<Opening, RoundFault>
-    ensures exact { Gives IsRoundFault result (spec.opening_of input.now) }
+pub fn open_input(alloc: Global, input: &Input) -> Result<Opening, LoadFault>
+    ensures exact { Gives IsLoadFault result (spec.opening_of input.now) }
     ensures sound { IfOk result IsSound }
 {
     if input.bytes.len() >= TOO_MANY_BYTES {
-        return Err(RoundFault::Refused(Refusal::Limit {
+        return Err(LoadFault::Refused(Refusal::Limit {
             which: Which::FileBytes,
         }));
     }

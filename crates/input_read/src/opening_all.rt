@@ -2,8 +2,8 @@
 ghost use Rattle.std.specs.Prelude.{◌≡◌, ℕ, ◌<◌, ◌≤◌, true, length, All, IfOk};
 ghost use Rattle.mo_types.specs.Gives.{Gives};
 ghost use Rattle.lib_bind.specs.Named.{are_named};
-ghost use Rattle.member_rounds.specs.Files.{IsRoundFault};
-ghost use Rattle.member_rounds.specs.Sources.{AreInOrder, AreObjects, inputs_of};
+ghost use Rattle.input_files.specs.Files.{IsLoadFault};
+ghost use Rattle.input_files.specs.Sources.{AreInOrder, AreObjects, inputs_of};
 ghost use Rattle.input_read.specs.Opened as spec;
 ghost use Rattle.input_read.specs.Opened.{Opens};
 ghost use Rattle.input_read.specs.inner.Pieces.{ArePieces};
@@ -12,7 +12,7 @@ ghost use Rattle.input_read.specs.Sound.{IsSound};
 use crate::opened::Opened;
 use crate::opening::{Opening, open_input};
 use crate::sorting::sort;
-use member_rounds::{Input, RoundFault, collect};
+use input_files::{Input, LoadFault, collect};
 use mo_outside::Gate;
 use mo_types::{Items, OutOfMemory};
 use par_work::{Task, fan};
@@ -32,7 +32,7 @@ impl<'a> Task for Reading<'a> {
 
     type Seat = u32;
 
-    type Piece = Result<Opening, RoundFault>;
+    type Piece = Result<Opening, LoadFault>;
 
     ghost jobs = { λ t. length t.inputs.now };
 
@@ -40,7 +40,7 @@ impl<'a> Task for Reading<'a> {
 
     ghost ran = { λ t _ job piece _. IsReadOf (slice_index_or t.inputs.now job no_input) piece };
 
-    fn run(&self, _seat: &mut u32, job: u32) -> Result<Opening, RoundFault> {
+    fn run(&self, _seat: &mut u32, job: u32) -> Result<Opening, LoadFault> {
         open_input(self.alloc, &self.inputs[job as usize])
     }
 }
@@ -64,7 +64,7 @@ fn pieces_of<R: Threads + Sync, G: Gate + Sync>(
     gate: &G,
     workers: u32,
     inputs: &[Input],
-) -> Result<Vec<Result<Opening, RoundFault>>, OutOfMemory>
+) -> Result<Vec<Result<Opening, LoadFault>>, OutOfMemory>
     requires { AreInOrder inputs.now }
     ensures { IfOk result (λ pieces. ArePieces inputs.now pieces.items) }
 {
@@ -83,9 +83,9 @@ fn openings_of<R: Threads + Sync, G: Gate + Sync>(
     gate: &G,
     workers: u32,
     inputs: &[Input],
-) -> Result<Items<Opening>, RoundFault>
+) -> Result<Items<Opening>, LoadFault>
     requires { AreInOrder inputs.now }
-    ensures exact { Gives IsRoundFault result (spec.openings_of inputs.now) }
+    ensures exact { Gives IsLoadFault result (spec.openings_of inputs.now) }
     ensures sound { IfOk result (λ openings. All IsSound openings) }
 {
     let pieces = pieces_of(rt, alloc, gate, workers, inputs)?;
@@ -102,9 +102,9 @@ pub fn open_inputs<R: Threads + Sync, G: Gate + Sync>(
     gate: &G,
     workers: u32,
     inputs: &[Input],
-) -> Result<Opened, RoundFault>
+) -> Result<Opened, LoadFault>
     requires order { AreInOrder inputs.now }
-    ensures exact { Opens IsRoundFault result (spec.contents_of inputs.now) }
+    ensures exact { Opens IsLoadFault result (spec.contents_of inputs.now) }
     ensures order { IfOk result (λ opened. AreInOrder (inputs_of opened.sources)) }
     ensures objects { IfOk result (λ opened. AreObjects (inputs_of opened.sources) opened.objects) }
     ensures named { IfOk result (λ opened. (count : ℕ) → All (λ input. input.position < count) inputs.now → are_named count 0 opened.stubs ≡ true) }

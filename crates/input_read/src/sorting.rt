@@ -5,7 +5,7 @@ ghost use Rattle.input_read.specs.Sound.{IsSound};
 
 use crate::opened::Opened;
 use crate::opening::Opening;
-use member_rounds::Source;
+use input_files::Source;
 use mo_types::{Items, OutOfMemory};
 use std::alloc::Global;
 

@@ -20,11 +20,11 @@ use Rattle.link_files.proofs.CauseLemmas.{cause_refuses, refusal_cause}
 use Rattle.link_files.specs.Linked.{IsLinked}
 use Rattle.link_files.specs.Names.{wanted}
 use Rattle.link_files.specs.Steps.{Then}
-use Rattle.member_rounds.specs.Files.{IsRoundFault, all_ids, content_of as file_content, file_of}
+use Rattle.input_files.specs.Files.{IsLoadFault, all_ids, content_of as file_content, file_of}
 use Rattle.member_rounds.specs.Rounds.{files_of, loaded_ids, loaded_of, names_fault, new_ids, round, round_fault}
-use Rattle.member_rounds.specs.declared.fault.RoundFault.{RoundFault}
-use Rattle.member_rounds.specs.declared.fault.RoundFault.TheVariants as rounds
-use Rattle.member_rounds.specs.declared.input.Input.{Input}
+use Rattle.input_files.specs.declared.fault.LoadFault.{LoadFault}
+use Rattle.input_files.specs.declared.fault.LoadFault.TheVariants as rounds
+use Rattle.input_files.specs.declared.input.Input.{Input}
 use Rattle.name_ids.specs.Names.{external_names, numbered}
 use Rattle.mo_cmd.specs.Command.{command_by}
 use Rattle.mo_cmd.specs.declared.command.Command.{Command}
@@ -101,59 +101,59 @@ contents_real (paths ∷ places) answers =
     then_real IsReal (content_of (first_of paths) paths answers) _ (content_real (first_of paths) paths answers) (λ found.
     then_real IsReal (contents_of places found.1) _ (contents_real places found.1) (λ more. tt))
 
-first_real : {A : Type 0} (f : A → Option RoundFault) (xs : List A) (why : RoundFault) → ((x : A) → f x ≡ Some why → IsRoundFault why) → first_some f xs ≡ Some why → IsRoundFault why
+first_real : {A : Type 0} (f : A → Option LoadFault) (xs : List A) (why : LoadFault) → ((x : A) → f x ≡ Some why → IsLoadFault why) → first_some f xs ≡ Some why → IsLoadFault why
 first_real f [] why each e = absurd cc
 first_real f (x ∷ xs) why each e = by (first_real f xs why each) (f x) refl
   where
-    by : (first_some f xs ≡ Some why → IsRoundFault why) → (o : Option RoundFault) → f x ≡ o → IsRoundFault why
+    by : (first_some f xs ≡ Some why → IsLoadFault why) → (o : Option LoadFault) → f x ≡ o → IsLoadFault why
     by rest None o = rest (rw o at e)
     by rest (Some other) o = let same : Some other ≡ Some why = rw o at e in each x (o ∙ same)
 
-real_err : {A : Type 0} (r : Result A RoundFault) (why : RoundFault) → IfErr r IsRoundFault → result_err r ≡ Some why → IsRoundFault why
+real_err : {A : Type 0} (r : Result A LoadFault) (why : LoadFault) → IfErr r IsLoadFault → result_err r ≡ Some why → IsLoadFault why
 real_err (Ok x) why real e = absurd cc
-real_err (Err other) why real e = let same : other ≡ why = cc in subst IsRoundFault same real
+real_err (Err other) why real e = let same : other ≡ why = cc in subst IsLoadFault same real
 
-opened_real : (inputs : List Input) (why : RoundFault) → opened.contents_of inputs ≡ Err why → IsRoundFault why
+opened_real : (inputs : List Input) (why : LoadFault) → opened.contents_of inputs ≡ Err why → IsLoadFault why
 opened_real inputs why e = first_real (λ input. result_err (opening_of input)) inputs why (λ input is. real_err (opening_of input) why (input_faulty input) is) ((told_first inputs why).0 e)
 
-file_real : (inputs : List Input) (id : FileId) → IfErr (file_of inputs id) IsRoundFault
+file_real : (inputs : List Input) (id : FileId) → IfErr (file_of inputs id) IsLoadFault
 unfolding file_of
 file_real inputs id = read_faulty id (file_content inputs id).label (file_content inputs id).bytes
 
-either_real : (a b : Option RoundFault) (why : RoundFault) → (a ≡ Some why → IsRoundFault why) → (b ≡ Some why → IsRoundFault why) → option_or_else a b ≡ Some why → IsRoundFault why
+either_real : (a b : Option LoadFault) (why : LoadFault) → (a ≡ Some why → IsLoadFault why) → (b ≡ Some why → IsLoadFault why) → option_or_else a b ≡ Some why → IsLoadFault why
 either_real (Some x) b why p q e = p e
 either_real None b why p q e = q e
 
-names_real : (files : List LoadedFile) (names : List (List ℕ)) (why : RoundFault) → names_fault files names ≡ Some why → IsRoundFault why
+names_real : (files : List LoadedFile) (names : List (List ℕ)) (why : LoadFault) → names_fault files names ≡ Some why → IsLoadFault why
 names_real files names why e = by (nat_lt (length (numbered (external_names files ++ names))) (2 ^ 24)) e
   where
-    by : (b : Bool) → (if b then None else Some (rounds.Refused (refusal.Limit Names))) ≡ Some why → IsRoundFault why
+    by : (b : Bool) → (if b then None else Some (rounds.Refused (refusal.Limit Names))) ≡ Some why → IsLoadFault why
     by true h = absurd (let s : None ≡ Some why = h in cc)
-    by false h = let same : Some (rounds.Refused (refusal.Limit Names)) ≡ Some why = h in let t : rounds.Refused (refusal.Limit Names) ≡ why = cc in subst IsRoundFault t tt
+    by false h = let same : Some (rounds.Refused (refusal.Limit Names)) ≡ Some why = h in let t : rounds.Refused (refusal.Limit Names) ≡ why = cc in subst IsLoadFault t tt
 
-round_real : (inputs : List Input) (libs : LibraryGraph) (names : List (List ℕ)) (k : ℕ) (why : RoundFault) → round_fault inputs libs names k ≡ Some why → IsRoundFault why
+round_real : (inputs : List Input) (libs : LibraryGraph) (names : List (List ℕ)) (k : ℕ) (why : LoadFault) → round_fault inputs libs names k ≡ Some why → IsLoadFault why
 unfolding round_fault
 round_real inputs libs names k why e =
     either_real _ _ why
     (λ f. first_real (λ id. result_err (file_of inputs id)) (new_ids inputs libs names k) why (λ id is. real_err (file_of inputs id) why (file_real inputs id) is) f)
     (names_real (files_of inputs (round inputs libs names k)) names why) e
 
-abbrev fault_in : List Input → LibraryGraph → List (List ℕ) → Option RoundFault
+abbrev fault_in : List Input → LibraryGraph → List (List ℕ) → Option LoadFault
 fault_in inputs libs names = first_some (round_fault inputs libs names) (range_with_len 0 (length (all_ids inputs) + 1))
 
-loaded_fault : (inputs : List Input) (libs : LibraryGraph) (names : List (List ℕ)) (why : RoundFault) → loaded_of inputs libs names ≡ Err why → fault_in inputs libs names ≡ Some why
+loaded_fault : (inputs : List Input) (libs : LibraryGraph) (names : List (List ℕ)) (why : LoadFault) → loaded_of inputs libs names ≡ Err why → fault_in inputs libs names ≡ Some why
 unfolding loaded_of
 loaded_fault inputs libs names why e = by (fault_in inputs libs names) refl
   where
-    by : (o : Option RoundFault) → fault_in inputs libs names ≡ o → fault_in inputs libs names ≡ Some why
+    by : (o : Option LoadFault) → fault_in inputs libs names ≡ o → fault_in inputs libs names ≡ Some why
     by None o = absurd (let s : Ok (record { files = files_of inputs (loaded_ids inputs libs names) }) ≡ Err why = rw o at e in cc)
-    by (Some other) o = let s : ◌≡◌ {A = Result Loaded RoundFault} (Err other) (Err why) = rw o at e in let same : other ≡ why = cc in o ∙ ap Some same
+    by (Some other) o = let s : ◌≡◌ {A = Result Loaded LoadFault} (Err other) (Err why) = rw o at e in let same : other ≡ why = cc in o ∙ ap Some same
 
-fault_loaded : (inputs : List Input) (libs : LibraryGraph) (names : List (List ℕ)) (why : RoundFault) → fault_in inputs libs names ≡ Some why → loaded_of inputs libs names ≡ Err why
+fault_loaded : (inputs : List Input) (libs : LibraryGraph) (names : List (List ℕ)) (why : LoadFault) → fault_in inputs libs names ≡ Some why → loaded_of inputs libs names ≡ Err why
 unfolding loaded_of
 fault_loaded inputs libs names why e = rw e refl
 
-loaded_real : (inputs : List Input) (libs : LibraryGraph) (names : List (List ℕ)) (why : RoundFault) → loaded_of inputs libs names ≡ Err why → IsRoundFault why
+loaded_real : (inputs : List Input) (libs : LibraryGraph) (names : List (List ℕ)) (why : LoadFault) → loaded_of inputs libs names ≡ Err why → IsLoadFault why
 loaded_real inputs libs names why e = first_real (round_fault inputs libs names) (range_with_len 0 (length (all_ids inputs) + 1)) why (λ k is. round_real inputs libs names k why is) (loaded_fault inputs libs names why e)
 
 -- ---- what a step refused
@@ -168,7 +168,7 @@ fetch_refused (fetch.Missing path) why real e = (path, refl, (let same : refusal
 fetch_refused fetch.OutOfMemory why real e = absurd real
 
 -- one of reading or of the rounds is theirs
-round_refused : (other : RoundFault) (why : Refusal) → IsRoundFault other → round_stop other ≡ stop.Refused why → other ≡ rounds.Refused why
+round_refused : (other : LoadFault) (why : Refusal) → IsLoadFault other → round_stop other ≡ stop.Refused why → other ≡ rounds.Refused why
 round_refused (rounds.Refused refusal) why real e = let same : refusal ≡ why = cc in ap rounds.Refused same
 round_refused rounds.OutOfMemory why real e = absurd real
 
@@ -188,7 +188,7 @@ module _ (words : List (List ℕ)) (told : Told) (why : Refusal) where
   with_libraries : (at : AreOpen words told) (libs : LibraryGraph) → IsBound told.look at.inputs.command at.contents.stubs told.more (Ok libs) → AsBound at.inputs.command at.contents.inputs libs refused → Cause words told why
   with_libraries at libs bound next = by (loaded_of at.contents.inputs libs (wanted at.inputs.command)) refl next
     where
-      by : (r : Result Loaded RoundFault) → loaded_of at.contents.inputs libs (wanted at.inputs.command) ≡ r → Then (stopped round_stop r) refused (λ loaded. AsLoaded at.inputs.command libs loaded.files refused) → Cause words told why
+      by : (r : Result Loaded LoadFault) → loaded_of at.contents.inputs libs (wanted at.inputs.command) ≡ r → Then (stopped round_stop r) refused (λ loaded. AsLoaded at.inputs.command libs loaded.files refused) → Cause words told why
       by (Ok loaded) f n = inr (inr (inr (inr (inr (record { are_bound = record { are_open = at; libs = libs; bound = bound }; files = loaded.files; loaded = f; cause = refusal_cause at.inputs.command libs loaded.files why (linked_cause at.inputs.command libs loaded.files why n) })))))
       by (Err other) f n =
           let same : other ≡ rounds.Refused why = round_refused other why (loaded_real at.contents.inputs libs (wanted at.inputs.command) other f) (sym (same_stop (stop.Refused why) (round_stop other) n)) in
@@ -209,7 +209,7 @@ module _ (words : List (List ℕ)) (told : Told) (why : Refusal) where
   with_found : (inputs : AreThere words told) → AsFetched inputs.command inputs.found told.look told.more refused → Cause words told why
   with_found inputs is = by (opened.contents_of (inputs_with inputs.command inputs.found)) refl is
     where
-      by : (r : Result Contents RoundFault) → opened.contents_of (inputs_with inputs.command inputs.found) ≡ r → Early (stopped round_stop r) told.more refused (λ contents. AsOpened inputs.command contents told.look told.more refused) → Cause words told why
+      by : (r : Result Contents LoadFault) → opened.contents_of (inputs_with inputs.command inputs.found) ≡ r → Early (stopped round_stop r) told.more refused (λ contents. AsOpened inputs.command contents told.look told.more refused) → Cause words told why
       by (Ok contents) f n = with_contents (record { inputs = inputs; contents = contents; opened_are = f }) n
       by (Err other) f n =
           let same : other ≡ rounds.Refused why = round_refused other why (opened_real (inputs_with inputs.command inputs.found) other f) (sym (same_stop (stop.Refused why) (round_stop other) n.0)) in

@@ -9,9 +9,9 @@ use Rattle.std.proofs.lemmas.List.{append-nil, drop_all}
 use Rattle.list_lemmas.proofs.Members.{In}
 use Rattle.list_lemmas.proofs.Places.{from_here}
 use Rattle.input_fetch.specs.declared.content.Content.{Content}
-use Rattle.member_rounds.specs.Sources.{AreInOrder}
-use Rattle.member_rounds.specs.declared.input.Input.{Input}
-use Rattle.member_rounds.proofs.StateLemmas.{all_from}
+use Rattle.input_files.specs.Sources.{AreInOrder}
+use Rattle.input_files.specs.declared.input.Input.{Input}
+use Rattle.input_files.proofs.EachLemmas.{all_from}
 use Rattle.mo_cmd.specs.declared.command.Command.{Command}
 use Rattle.mo_cmd.specs.declared.command.CommandInput.{CommandInput}
 use Rattle.link_engine.specs.Input.{input_at, inputs_from, inputs_with}

@@ -17,16 +17,16 @@ use Rattle.link_files.proofs.KeptLemmas.{IsCut}
 use Rattle.link_files.proofs.OneLemmas.{link_one, then_one}
 use Rattle.link_files.specs.Names.{wanted}
 use Rattle.link_files.specs.Steps.{Then}
-use Rattle.member_rounds.specs.Files.{file_of}
+use Rattle.input_files.specs.Files.{file_of}
 use Rattle.member_rounds.specs.Rounds.{loaded_of}
-use Rattle.member_rounds.specs.Sources.{AreInOrder}
-use Rattle.member_rounds.specs.declared.fault.RoundFault.{RoundFault}
-use Rattle.member_rounds.specs.declared.fault.RoundFault.TheVariants as rounds
-use Rattle.member_rounds.specs.declared.input.Input.{Input}
+use Rattle.input_files.specs.Sources.{AreInOrder}
+use Rattle.input_files.specs.declared.fault.LoadFault.{LoadFault}
+use Rattle.input_files.specs.declared.fault.LoadFault.TheVariants as rounds
+use Rattle.input_files.specs.declared.input.Input.{Input}
 use Rattle.member_rounds.proofs.AnswerLemmas.{loaded_only}
 use Rattle.member_rounds.proofs.LowLemmas.{object_at}
 use Rattle.member_rounds.proofs.RiseLemmas.{loaded_rises}
-use Rattle.member_rounds.proofs.StateLemmas.{all_from}
+use Rattle.input_files.proofs.EachLemmas.{all_from}
 use Rattle.list_lemmas.proofs.Members.{Contains_from_in}
 use Rattle.mo_cmd.specs.declared.command.Command.{Command}
 use Rattle.mo_outside.specs.Answers.{Answer}
@@ -52,7 +52,7 @@ all_cut inputs libs names loaded is = all_from IsCut loaded.files (λ one there.
     let from = loaded_only inputs libs names loaded one is (Contains_from_in loaded.files one there) in
     subst IsCut (sym (object_at inputs from.0 one from.2).is) refl)
 
-pub was_loaded : {A : Type 0} (given : Result A RoundFault) (x : A) → stopped round_stop given ≡ Ok x → given ≡ Ok x
+pub was_loaded : {A : Type 0} (given : Result A LoadFault) (x : A) → stopped round_stop given ≡ Ok x → given ≡ Ok x
 was_loaded (Ok other) x e = let same : other ≡ x = cc in ap Ok same
 was_loaded (Err why) x e = absurd cc
 

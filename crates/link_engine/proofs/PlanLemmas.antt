@@ -18,7 +18,7 @@ use Rattle.lib_bind.specs.declared.bind_fault.BindFault.{BindFault}
 use Rattle.lib_bind.specs.declared.bind_fault.BindFault.TheVariants as bind
 use Rattle.lib_bind.specs.declared.library.LibraryGraph.{LibraryGraph}
 use Rattle.lib_bind.specs.declared.named.NamedStub.{NamedStub}
-use Rattle.member_rounds.specs.declared.input.Input.{Input}
+use Rattle.input_files.specs.declared.input.Input.{Input}
 use Rattle.mo_cmd.specs.declared.command.Command.{Command}
 use Rattle.mo_outside.specs.Answers.{Answer, Asked, Chain}
 use Rattle.mo_outside.specs.Files.{FileMap}

@@ -8,11 +8,11 @@ use Rattle.lib_bind.specs.declared.library.LibraryGraph.{LibraryGraph}
 use Rattle.link_files.specs.Linked.{IsLinked}
 use Rattle.link_files.specs.Names.{wanted}
 use Rattle.link_files.specs.Steps.{Answers as LinkAnswers, Then}
-use Rattle.member_rounds.specs.Files.{IsRoundFault}
+use Rattle.input_files.specs.Files.{IsLoadFault}
 use Rattle.member_rounds.specs.Rounds.{loaded_of}
-use Rattle.member_rounds.specs.declared.fault.RoundFault.{RoundFault}
-use Rattle.member_rounds.specs.declared.fault.RoundFault.TheVariants as rounds
-use Rattle.member_rounds.specs.declared.input.Input.{Input}
+use Rattle.input_files.specs.declared.fault.LoadFault.{LoadFault}
+use Rattle.input_files.specs.declared.fault.LoadFault.TheVariants as rounds
+use Rattle.input_files.specs.declared.input.Input.{Input}
 use Rattle.mo_cmd.specs.declared.command.Command.{Command}
 use Rattle.mo_types.specs.Gives.{Gives}
 use Rattle.mo_types.specs.declared.loaded.Loaded.{Loaded}
@@ -53,7 +53,7 @@ passed_meets {A = A} is end returned passes meets =
 
 -- ---- the files that are loaded
 
-pub load_fails : (command : Command) (inputs : List Input) (libs : LibraryGraph) (names : List (List ℕ)) (end : RoundFault) (returned : Result Plan StepFault) → returned ≡ Err (fault_for end) → names ≡ wanted command → (IsRoundFault end → loaded_of inputs libs names ≡ Err end) → Meets (AsBound command inputs libs) returned
+pub load_fails : (command : Command) (inputs : List Input) (libs : LibraryGraph) (names : List (List ℕ)) (end : LoadFault) (returned : Result Plan StepFault) → returned ≡ Err (fault_for end) → names ≡ wanted command → (IsLoadFault end → loaded_of inputs libs names ≡ Err end) → Meets (AsBound command inputs libs) returned
 load_fails command inputs libs names (rounds.Refused why) returned same are is =
     let failed : loaded_of inputs libs (wanted command) ≡ Err (rounds.Refused why) = subst (λ (ns : List (List ℕ)). loaded_of inputs libs ns ≡ Err (rounds.Refused why)) are (is tt) in
     rw same (rw failed refl)
@@ -69,7 +69,7 @@ loads_on command inputs libs names loaded returned are is meets =
 pub linked_plan : (command : Command) (libs : LibraryGraph) (files : List LoadedFile) (image : List ℕ) (plan : Plan) → LinkAnswers (IsLinked command libs files) (Ok image) → plan ≡ plan_of command image → AsLoaded command libs files (Ok plan)
 linked_plan command libs files image plan is same = record { linked = Ok image; is_linked = is; told = ap Ok same }
 
-pub linked_fault : (command : Command) (libs : LibraryGraph) (files : List LoadedFile) (end : RoundFault) (returned : Result Plan StepFault) → returned ≡ Err (fault_for end) → LinkAnswers {A = List ℕ} (IsLinked command libs files) (Err end) → Meets (AsLoaded command libs files) returned
+pub linked_fault : (command : Command) (libs : LibraryGraph) (files : List LoadedFile) (end : LoadFault) (returned : Result Plan StepFault) → returned ≡ Err (fault_for end) → LinkAnswers {A = List ℕ} (IsLinked command libs files) (Err end) → Meets (AsLoaded command libs files) returned
 linked_fault command libs files (rounds.Refused why) returned same is = rw same (record { linked = Err why; is_linked = is; told = refl })
 linked_fault command libs files rounds.OutOfMemory returned same is = rw same tt
 

@@ -13,9 +13,9 @@ use Rattle.lib_bind.specs.declared.bind_fault.BindFault.TheVariants as bind
 use Rattle.lib_bind.specs.declared.library.LibraryGraph.{LibraryGraph}
 use Rattle.link_files.specs.Causes.{LinkCause}
 use Rattle.link_files.specs.Names.{wanted}
-use Rattle.member_rounds.specs.Files.{all_ids}
+use Rattle.input_files.specs.Files.{all_ids}
 use Rattle.member_rounds.specs.Rounds.{loaded_of, round_fault}
-use Rattle.member_rounds.specs.declared.fault.RoundFault.TheVariants as rounds
+use Rattle.input_files.specs.declared.fault.LoadFault.TheVariants as rounds
 use Rattle.mo_cmd.specs.Command.{command_by}
 use Rattle.mo_cmd.specs.declared.command.Command.{Command}
 use Rattle.mo_types.specs.Scan.{first_some}

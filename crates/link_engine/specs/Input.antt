@@ -1,7 +1,7 @@
 -- The inputs of a command with the bytes that were found.
 use Rattle.std.specs.Prelude.{ℕ, ◌+◌, ◌||◌, Bool, List, [], ◌∷◌}
 use Rattle.input_fetch.specs.declared.content.Content.{Content}
-use Rattle.member_rounds.specs.declared.input.Input.{Input}
+use Rattle.input_files.specs.declared.input.Input.{Input}
 use Rattle.mo_cmd.specs.declared.command.Command.{Command}
 use Rattle.mo_cmd.specs.declared.command.CommandInput.{CommandInput}
 

@@ -4,8 +4,8 @@ use Rattle.input_fetch.specs.declared.stop.FetchStop.{FetchStop}
 use Rattle.input_fetch.specs.declared.stop.FetchStop.TheVariants as fetch
 use Rattle.lib_bind.specs.declared.bind_fault.BindFault.{BindFault}
 use Rattle.lib_bind.specs.declared.bind_fault.BindFault.TheVariants as bind
-use Rattle.member_rounds.specs.declared.fault.RoundFault.{RoundFault}
-use Rattle.member_rounds.specs.declared.fault.RoundFault.TheVariants as rounds
+use Rattle.input_files.specs.declared.fault.LoadFault.{LoadFault}
+use Rattle.input_files.specs.declared.fault.LoadFault.TheVariants as rounds
 use Rattle.mo_types.specs.declared.answer.Refusal.{Refusal}
 use Rattle.mo_types.specs.declared.answer.Refusal.TheVariants as refusal
 use Rattle.mo_types.specs.declared.answer.Status.{Status}
@@ -30,7 +30,7 @@ abbrev pub refused_for : Refusal → StepFault
 refused_for refusal = fault.Stop (Refused refusal)
 
 -- the fault of files that aren't loaded or linked
-abbrev pub fault_for : RoundFault → StepFault
+abbrev pub fault_for : LoadFault → StepFault
 fault_for (rounds.Refused refusal) = refused_for refusal
 fault_for rounds.OutOfMemory = fault.OutOfMemory
 

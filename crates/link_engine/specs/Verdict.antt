@@ -17,9 +17,9 @@ use Rattle.link_files.specs.Linked.{IsLinked}
 use Rattle.link_files.specs.Names.{wanted}
 use Rattle.link_files.specs.Steps.{Then}
 use Rattle.member_rounds.specs.Rounds.{loaded_of}
-use Rattle.member_rounds.specs.declared.fault.RoundFault.{RoundFault}
-use Rattle.member_rounds.specs.declared.fault.RoundFault.TheVariants as rounds
-use Rattle.member_rounds.specs.declared.input.Input.{Input}
+use Rattle.input_files.specs.declared.fault.LoadFault.{LoadFault}
+use Rattle.input_files.specs.declared.fault.LoadFault.TheVariants as rounds
+use Rattle.input_files.specs.declared.input.Input.{Input}
 use Rattle.mo_cmd.specs.declared.command.Command.{Command}
 use Rattle.mo_outside.specs.Answers.{Answer}
 use Rattle.mo_outside.specs.Files.{FileMap}
@@ -46,7 +46,7 @@ fetch_stop (fetch.ReadFault path) = ReadFault path
 fetch_stop (fetch.Missing path) = Refused (refusal.Missing path)
 fetch_stop fetch.OutOfMemory = no_memory
 
-abbrev pub round_stop : RoundFault → Stop
+abbrev pub round_stop : LoadFault → Stop
 round_stop (rounds.Refused why) = Refused why
 round_stop rounds.OutOfMemory = no_memory
 

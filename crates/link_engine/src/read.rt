@@ -2,7 +2,7 @@
 ghost use Rattle.std.specs.Prelude.{◌≡◌, ◌<◌, ◌^◌, ℕ, length, true, All, IfErr, IfOk};
 ghost use Rattle.input_read.specs.Opened.{contents_as, contents_of};
 ghost use Rattle.lib_bind.specs.Named.{are_named};
-ghost use Rattle.member_rounds.specs.Sources.{AreInOrder, AreObjects, inputs_of as opened_inputs};
+ghost use Rattle.input_files.specs.Sources.{AreInOrder, AreObjects, inputs_of as opened_inputs};
 ghost use Rattle.link_engine.specs.Input as spec;
 ghost use Rattle.link_engine.specs.Steps.{IsRefusal};
 ghost use Rattle.link_engine.specs.Stop.{Shows};
@@ -10,8 +10,8 @@ ghost use Rattle.link_engine.specs.Verdict.{round_stop, stopped};
 
 use crate::stop::{StepFault, fault_of};
 use input_fetch::Content;
+use input_files::{Input, InputList};
 use input_read::{Opened, open_inputs};
-use member_rounds::{Input, InputList};
 use mo_cmd::{Command, CommandInput};
 use mo_outside::Gate;
 use mo_types::OutOfMemory;

@@ -5,8 +5,8 @@ ghost use Rattle.mo_types.specs.declared.answer.Refusal.{Refusal};
 ghost use Rattle.link_engine.specs.Stop.{bind_fault_for, fault_for, fetch_fault_for, refused_for, status_for};
 
 use input_fetch::FetchStop;
+use input_files::LoadFault;
 use lib_bind::BindFault;
-use member_rounds::RoundFault;
 use mo_types::{Bytes, OutOfMemory, Refusal, Status, UsageRule};
 use std::alloc::{AllocError, AllocFailed};
 
@@ -52,12 +52,12 @@ pub fn refused(refusal: Refusal) -> StepFault
 }
 
 /// The fault of files that aren't loaded or linked.
-pub fn fault_of(fault: RoundFault) -> StepFault
+pub fn fault_of(fault: LoadFault) -> StepFault
     ensures { result ≡ fault_for fault }
 {
     match fault {
-        RoundFault::Refused(refusal) => refused(refusal),
-        RoundFault::OutOfMemory => StepFault::OutOfMemory,
+        LoadFault::Refused(refusal) => refused(refusal),
+        LoadFault::OutOfMemory => StepFault::OutOfMemory,
     }
 }
 

@@ -8,11 +8,11 @@ use Rattle.std.specs.declared.cmp.Ordering.TheVariants.{Equal, Greater, Less}
 use Rattle.std.proofs.lemmas.List.Kept.{AllPairs-cons}
 use Rattle.std.proofs.lemmas.List.Elements.{All-from_recursion}
 use Rattle.list_lemmas.proofs.Members.{In, all_from_in, find_some, in_map}
-use Rattle.atom_work.specs.Addresses.{address_in}
-use Rattle.atom_work.specs.Atoms.{atom_of, kept_at}
-use Rattle.atom_work.specs.Rows.{has_bytes, row_at, row_of, rows, section_rows}
-use Rattle.atom_work.specs.declared.kept.KeptAtom.{KeptAtom}
-use Rattle.image_make.specs.Made.{IsLaid, Making, kept_of, plan_for, plan_with, rows_of}
+use Rattle.image_make.specs.Addresses.{address_in}
+use Rattle.image_make.specs.Atoms.{atom_of, kept_at}
+use Rattle.image_make.specs.Rows.{has_bytes, row_at, row_of, rows, section_rows}
+use Rattle.image_make.specs.declared.kept.KeptAtom.{KeptAtom}
+use Rattle.image_make.specs.Made.{IsLaid, ImageInputs, kept_of, plan_for, plan_with, rows_of}
 use Rattle.mo_types.specs.Keys.{compare_keys}
 use Rattle.mo_types.specs.declared.atom.Atom.{Atom}
 use Rattle.mo_types.specs.declared.key.AtomKey.{AtomKey}
@@ -49,7 +49,7 @@ groups_listed atoms at file lead (group ∷ groups) =
     flat_join (λ (section : PlacedSection). section.section.atoms) (parts_sections atoms at file (at + lead) group.parts) (groups_sections atoms (page_up (group_end atoms at lead group)) (file + file_bytes atoms at lead group) 0 groups)
     ∙ ap₂ (λ (xs ys : List AtomKey). xs ++ ys) (parts_listed atoms at file (at + lead) group.parts) (groups_listed atoms (page_up (group_end atoms at lead group)) (file + file_bytes atoms at lead group) 0 groups)
 
-layout_apart : (m : Making) (layout : Layout) → IsStrictlySortedBy (on (λ (atom : Atom). atom.key) compare_keys) (map atom_of (kept_of m)) → IsLayoutOf m.command (plan_for m) layout → Apart (section_keys layout.sections)
+layout_apart : (m : ImageInputs) (layout : Layout) → IsStrictlySortedBy (on (λ (atom : Atom). atom.key) compare_keys) (map atom_of (kept_of m)) → IsLayoutOf m.command (plan_for m) layout → Apart (section_keys layout.sections)
 unfolding plan_with plan_of image_sections
 layout_apart m layout rising is =
     let sections : List OutSection = out_sections m.files (map atom_of (kept_of m)) in
@@ -159,7 +159,7 @@ row_pairs (row ∷ rows) apart =
     (All-from_recursion (λ (b : PlacedWork). row_key row ≢ row_key b) rows (all_from_in (λ (b : PlacedWork). row_key row ≢ row_key b) rows (λ b h e. apart.0 (subst (λ (k : AtomKey). In k (map row_key rows)) (sym e) (in_map row_key rows b h)))))
     (row_pairs rows apart.1)
 
-pub work_apart : (m : Making) (layout : Layout) → IsStrictlySortedBy (on (λ (atom : Atom). atom.key) compare_keys) (map atom_of (kept_of m)) → IsLaid m layout → AllPairs (λ a b. a.atom.key ≢ b.atom.key) (rows_of m layout)
+pub work_apart : (m : ImageInputs) (layout : Layout) → IsStrictlySortedBy (on (λ (atom : Atom). atom.key) compare_keys) (map atom_of (kept_of m)) → IsLaid m layout → AllPairs (λ a b. a.atom.key ≢ b.atom.key) (rows_of m layout)
 unfolding rows
 work_apart m layout rising laid =
     row_pairs (rows_of m layout)

@@ -5,7 +5,7 @@ use Rattle.std.proofs.lemmas.Bool.{ltb-false, ltb-true, lt-ltb}
 use Rattle.image_make.specs.Made.{IsMade}
 use Rattle.image_make.specs.declared.fault.MakeFault.{MakeFault}
 use Rattle.image_make.specs.declared.fault.MakeFault.TheVariants as make
-use Rattle.kept_refs.specs.Undefined.{undefined}
+use Rattle.liveness.specs.Undefined.{undefined}
 use Rattle.lib_bind.specs.declared.library.LibraryGraph.{LibraryGraph}
 use Rattle.mo_cmd.specs.declared.command.Command.{Command}
 use Rattle.mo_types.specs.Scan.{option_or_else}
@@ -21,7 +21,7 @@ use Rattle.mo_types.specs.declared.key.FileId.{FileId}
 use Rattle.mo_types.specs.declared.loaded.LoadedFile.{LoadedFile}
 use Rattle.name_ids.specs.Names.{gathered}
 use Rattle.patch.specs.declared.met.RangeFault.{RangeFault}
-use Rattle.resolve.specs.Duplicates.{IsDuplicate, IsLeastDuplicate}
+use Rattle.symbol_winners.specs.Duplicates.{IsDuplicate, IsLeastDuplicate}
 use Rattle.resolve.specs.Goals.{goal_table}
 use Rattle.sect_place.specs.declared.size.PlaceFault.TheVariants as place
 use Rattle.link_files.specs.Causes.{AreFew, AreFound, AreInside, AreKept, IsLimited, IsLookedUp, IsLost, IsTwice, IsUnfit, LinkCause, all_names}

@@ -1,7 +1,7 @@
 -- The image of the atoms that are kept.
 use Rattle.std.proofs.Common.{◌≡◌, ℕ, List, [], ◌∷◌, Ok, Err, Contains, refl, ap, subst, ◌∙◌, inl}
 use Rattle.list_lemmas.proofs.Members.{Contains_from_in, in_from_Contains}
-use Rattle.image_make.specs.Made.{IsMade, Making}
+use Rattle.image_make.specs.Made.{IsMade, ImageInputs}
 use Rattle.image_make.specs.declared.fault.MakeFault.{MakeFault}
 use Rattle.lib_bind.specs.declared.library.LibraryGraph.{LibraryGraph}
 use Rattle.mo_cmd.specs.declared.command.Command.{Command}
@@ -10,8 +10,8 @@ use Rattle.mo_types.specs.declared.goal.Goal.{Goal}
 use Rattle.mo_types.specs.declared.key.AtomKey.{AtomKey}
 use Rattle.mo_types.specs.declared.loaded.LoadedFile.{LoadedFile}
 use Rattle.resolve.specs.Goals.{goal_of_name, goal_table}
-use Rattle.resolve.specs.Representatives.{representatives_of}
-use Rattle.resolve.specs.declared.representative.Representative.{Representative}
+use Rattle.literal_merge.specs.Representatives.{representatives_of}
+use Rattle.literal_merge.specs.declared.representative.Representative.{Representative}
 use Rattle.sect_place.specs.declared.island.IslandPlan.{IslandPlan}
 use Rattle.slot_plan.specs.Slots.{AreSlots, needed, in_got, in_stubs, in_tlv}
 use Rattle.slot_plan.specs.declared.list.Slots.{Slots}
@@ -54,7 +54,7 @@ pub image_made : (command : Command) (libs : LibraryGraph) (files : List LoadedF
     → AsMade command libs files flags keys (Ok image)
 image_made command libs files flags keys goals literals entry slots islands image g l e s i made = record {
   made = Ok image;
-  is_made = subst (λ (m : Making). IsMade m (Ok image)) (same_making command libs files flags keys goals literals entry slots islands g l e s i) made;
+  is_made = subst (λ (m : ImageInputs). IsMade m (Ok image)) (same_making command libs files flags keys goals literals entry slots islands g l e s i) made;
   answer = tt;
   told = refl;
 }
@@ -66,7 +66,7 @@ pub fault_made : (command : Command) (libs : LibraryGraph) (files : List LoadedF
     → AsMade command libs files flags keys (Err refusal)
 fault_made command libs files flags keys goals literals entry slots islands why refusal g l e s i made real told = record {
   made = Err why;
-  is_made = subst (λ (m : Making). IsMade m (Err why)) (same_making command libs files flags keys goals literals entry slots islands g l e s i) made;
+  is_made = subst (λ (m : ImageInputs). IsMade m (Err why)) (same_making command libs files flags keys goals literals entry slots islands g l e s i) made;
   answer = real;
   told = ap Err told;
 }

@@ -20,11 +20,11 @@ use Rattle.mo_types.specs.Keys.{compare_files, compare_keys}
 use Rattle.mo_types.specs.Loaded.{IsBefore, IsWholeLoaded}
 use Rattle.atom_cut.specs.Laws as cut_laws
 use Rattle.atom_cut.proofs.KeyLemmas.{atoms_rise}
-use Rattle.atom_work.specs.Atoms.{kept_as, kept_atoms, kept_in, raised}
-use Rattle.atom_work.specs.declared.kept.KeptAtom.{KeptAtom}
-use Rattle.resolve.specs.Representatives.{Literal, greatest_align, is_same, literals, literals_in, representative_among, representative_of, representatives_of}
-use Rattle.resolve.specs.declared.representative.Representative.{Representative}
-use Rattle.resolve.proofs.RepresentativeLemmas.{atoms_of_file, keys_before, literal_of, pairs_head, pairs_tail}
+use Rattle.image_make.specs.Atoms.{kept_as, kept_atoms, kept_in, raised}
+use Rattle.image_make.specs.declared.kept.KeptAtom.{KeptAtom}
+use Rattle.literal_merge.specs.Representatives.{Literal, greatest_align, is_same, literals, literals_in, representative_among, representative_of, representatives_of}
+use Rattle.literal_merge.specs.declared.representative.Representative.{Representative}
+use Rattle.literal_merge.proofs.RepresentativeLemmas.{atoms_of_file, keys_before, literal_of, pairs_head, pairs_tail}
 use Rattle.link_files.specs.Linked.{AreLow}
 
 -- a file whose pieces are those of its object

@@ -5,9 +5,9 @@ use Rattle.std.specs.List.{enumerate_from, list_any}
 use Rattle.std.specs.Option.{option_map, option_map_or}
 use Rattle.std.proofs.lemmas.List.FromFn.{get_or-enumerate_from, length-enumerate_from}
 use Rattle.std.proofs.lemmas.Option.{get_or_from_slice_get, slice_get-map, slice_get_within}
-use Rattle.goal_table.specs.Table.{AreWithin, Tabled, goals_in, goals_of}
-use Rattle.goal_table.proofs.PlaceLemmas.{fails, none_passes}
-use Rattle.kept_refs.specs.Undefined.{targets_of}
+use Rattle.resolve.specs.Table.{AreWithin, Tabled, goals_in, goals_of}
+use Rattle.resolve.proofs.PlaceLemmas.{fails, none_passes}
+use Rattle.liveness.specs.Undefined.{targets_of}
 use Rattle.mo_types.proofs.Scanning.{IsScanning, scan_ends, scan_finds, scan_goes_on, scan_starts}
 use Rattle.mo_types.specs.Scan.{first_some}
 use Rattle.mo_types.specs.declared.goal.Goal.{Goal}

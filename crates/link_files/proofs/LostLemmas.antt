@@ -4,9 +4,9 @@ use Rattle.std.specs.List.{filter}
 use Rattle.std.specs.Option.{option_map}
 use Rattle.std.proofs.lemmas.List.{append-nil, drop_all}
 use Rattle.list_lemmas.proofs.Places.{from_here}
-use Rattle.kept_refs.specs.Undefined.{is_nobody, undefined}
-use Rattle.kept_refs.specs.declared.lost.Lost.{Lost}
-use Rattle.kept_refs.specs.inner.Lost.{held}
+use Rattle.liveness.specs.Undefined.{is_nobody, undefined}
+use Rattle.liveness.specs.declared.lost.Lost.{Lost}
+use Rattle.liveness.specs.inner.Lost.{held}
 use Rattle.lib_bind.specs.declared.library.LibraryGraph.{LibraryGraph}
 use Rattle.mo_cmd.specs.declared.command.Command.{Command}
 use Rattle.mo_types.specs.declared.answer.Refusal.{Refusal}

@@ -5,10 +5,10 @@ use Rattle.std.specs.List.{AllPairs, flat_map}
 use Rattle.std.specs.List.Sorted.{IsStrictlySortedBy}
 use Rattle.std.specs.Ordering.{on}
 use Rattle.std.proofs.lemmas.Bool.{ltb-true}
-use Rattle.atom_work.specs.Atoms.{atom_of, kept_atoms}
+use Rattle.image_make.specs.Atoms.{atom_of, kept_atoms}
 use Rattle.image_join.proofs.OneLemmas.{not_filled, one_fault, one_image}
-use Rattle.atom_work.proofs.KeptListLemmas.{rising_atoms}
-use Rattle.image_make.specs.Made.{IsFilledImage, IsLaid, IsMade, Making, blank, kept_of, mets_of, plan_for, plan_with, rows_of, sizes_of}
+use Rattle.image_make.proofs.KeptListLemmas.{rising_atoms}
+use Rattle.image_make.specs.Made.{IsFilledImage, IsLaid, IsMade, ImageInputs, blank, kept_of, mets_of, plan_for, plan_with, rows_of, sizes_of}
 use Rattle.image_make.specs.declared.fault.MakeFault.{MakeFault}
 use Rattle.image_make.specs.declared.fault.MakeFault.TheVariants as make
 use Rattle.lib_bind.specs.declared.library.LibraryGraph.{LibraryGraph}
@@ -27,13 +27,13 @@ use Rattle.name_ids.specs.Names.{IsNumbering, external_names, gathered, numbered
 use Rattle.name_ids.specs.declared.fault.GatherFault.{GatherFault}
 use Rattle.patch.specs.Range.{IsLeastFault}
 use Rattle.patch.specs.declared.met.RangeFault.{RangeFault}
-use Rattle.resolve.proofs.OneListLemmas.{one_duplicate, winners_are_one}
-use Rattle.resolve.specs.Edges.{edges, supports}
-use Rattle.resolve.specs.Known.{AreKnown, Known}
-use Rattle.resolve.specs.Representatives.{representatives_of}
-use Rattle.resolve.specs.Roots.{exported_root, exported_roots, kept_roots, marked_root, name_root, plain_roots, roots, wanted_roots}
-use Rattle.resolve.specs.declared.representative.Representative.{Representative}
-use Rattle.resolve.specs.declared.winner.Winner.{Winner}
+use Rattle.symbol_winners.proofs.OneListLemmas.{one_duplicate, winners_are_one}
+use Rattle.liveness.specs.Edges.{edges, supports}
+use Rattle.symbol_winners.specs.Known.{AreKnown, Known}
+use Rattle.literal_merge.specs.Representatives.{representatives_of}
+use Rattle.liveness.specs.Roots.{exported_root, exported_roots, kept_roots, marked_root, name_root, plain_roots, roots, wanted_roots}
+use Rattle.literal_merge.specs.declared.representative.Representative.{Representative}
+use Rattle.symbol_winners.specs.declared.winner.Winner.{Winner}
 use Rattle.sect_place.proofs.Once.{listed_once}
 use Rattle.sect_place.proofs.Single.{layouts_same}
 use Rattle.sect_place.specs.Layout.{image_size}
@@ -123,31 +123,31 @@ flags_one command libs files known other a b p q same =
 
 -- ---- the image
 
-layout_one : (m : Making) (a b : Layout) → IsStrictlySortedBy (on (λ (atom : Atom). atom.key) compare_keys) (map atom_of (kept_of m)) → IsLaid m a → IsLaid m b → a ≡ b
+layout_one : (m : ImageInputs) (a b : Layout) → IsStrictlySortedBy (on (λ (atom : Atom). atom.key) compare_keys) (map atom_of (kept_of m)) → IsLaid m a → IsLaid m b → a ≡ b
 unfolding plan_with
 layout_one m a b rising p q =
     layouts_same (map atom_of (kept_of m)) (out_sections m.files (map atom_of (kept_of m))) m.slots m.islands (sizes_of m.command m.libs) m.command a b
     (listed_once m.files (map atom_of (kept_of m)) rising) p.layout_of q.layout_of
 
-image_one : (m : Making) (a b : List ℕ) → IsStrictlySortedBy (on (λ (atom : Atom). atom.key) compare_keys) (map atom_of (kept_of m)) → IsMade m (Ok a) → IsMade m (Ok b) → a ≡ b
+image_one : (m : ImageInputs) (a b : List ℕ) → IsStrictlySortedBy (on (λ (atom : Atom). atom.key) compare_keys) (map atom_of (kept_of m)) → IsMade m (Ok a) → IsMade m (Ok b) → a ≡ b
 image_one m a b rising (lay, laid, filled) (other, also, again) =
     let same : other ≡ lay = layout_one m other lay rising also laid in
     let here : IsFilledImage m.files (mets_of m lay) (rows_of m lay) (blank m lay) b = subst (λ (l : Layout). IsFilledImage m.files (mets_of m l) (rows_of m l) (blank m l) b) same again in
     one_image m.files (mets_of m lay) 0 (rows_of m lay) (blank m lay) a b filled.work.stand filled.bytes here.bytes filled.beside filled.placed here.beside here.placed
 
-image_or_fault : (m : Making) (image : List ℕ) (key : AtomKey) (fault : RangeFault) → IsStrictlySortedBy (on (λ (atom : Atom). atom.key) compare_keys) (map atom_of (kept_of m)) → IsMade m (Ok image) → IsMade m (Err (make.Range key fault)) → ⊥
+image_or_fault : (m : ImageInputs) (image : List ℕ) (key : AtomKey) (fault : RangeFault) → IsStrictlySortedBy (on (λ (atom : Atom). atom.key) compare_keys) (map atom_of (kept_of m)) → IsMade m (Ok image) → IsMade m (Err (make.Range key fault)) → ⊥
 image_or_fault m image key fault rising (lay, laid, filled) (other, also, work, least) =
     let same : other ≡ lay = layout_one m other lay rising also laid in
     not_filled m.files (mets_of m lay) 0 (rows_of m lay) key fault image (subst (λ (l : Layout). IsLeastFault m.files (mets_of m l) (rows_of m l) key fault) same least) filled.placed
 
-fault_one : (m : Making) (key other_key : AtomKey) (fault other_fault : RangeFault) → IsStrictlySortedBy (on (λ (atom : Atom). atom.key) compare_keys) (map atom_of (kept_of m))
+fault_one : (m : ImageInputs) (key other_key : AtomKey) (fault other_fault : RangeFault) → IsStrictlySortedBy (on (λ (atom : Atom). atom.key) compare_keys) (map atom_of (kept_of m))
     → IsMade m (Err (make.Range key fault)) → IsMade m (Err (make.Range other_key other_fault)) → ◌≡◌ {A = AtomKey × RangeFault} (key, fault) (other_key, other_fault)
 fault_one m key other_key fault other_fault rising (lay, laid, work, least) (other, also, again, more) =
     let same : other ≡ lay = layout_one m other lay rising also laid in
     one_fault m.files (mets_of m lay) (rows_of m lay) (key, fault) (other_key, other_fault) work.fields (work_apart m lay rising laid) least
     (subst (λ (l : Layout). IsLeastFault m.files (mets_of m l) (rows_of m l) other_key other_fault) same more)
 
-made_one : (m : Making) (a b : Result (List ℕ) MakeFault) → IsStrictlySortedBy (on (λ (atom : Atom). atom.key) compare_keys) (map atom_of (kept_of m)) → IsAnswer a → IsAnswer b → IsMade m a → IsMade m b → a ≡ b
+made_one : (m : ImageInputs) (a b : Result (List ℕ) MakeFault) → IsStrictlySortedBy (on (λ (atom : Atom). atom.key) compare_keys) (map atom_of (kept_of m)) → IsAnswer a → IsAnswer b → IsMade m a → IsMade m b → a ≡ b
 made_one m (Ok a) (Ok b) rising p q x y = ap Ok (image_one m a b rising x y)
 made_one m (Ok a) (Err (make.Place (place.ImageSize value))) rising p q (lay, laid, filled) y = let small : image_size (plan_for m) < 2 ^ 32 = laid.small in let large : 2 ^ 32 ≤ image_size (plan_for m) = y.0 in absurd (omega (arith, small, large))
 made_one m (Ok a) (Err (make.Place place.OutOfMemory)) rising p q x y = absurd q

@@ -9,9 +9,9 @@ use Rattle.mo_types.specs.declared.loaded.LoadedFile.{LoadedFile}
 use Rattle.name_ids.specs.Names.{external_names, gathered, numbered}
 use Rattle.race_core.specs.Run.{run}
 use Rattle.race_core.proofs.Runs.{length-run}
-use Rattle.member_rounds.proofs.LeastLemmas.{every_least}
-use Rattle.member_rounds.specs.Offers.{bids_of}
-use Rattle.resolve.specs.Winners.{AreLeast}
+use Rattle.name_offers.proofs.LeastLemmas.{every_least}
+use Rattle.name_offers.specs.Offers.{bids_of}
+use Rattle.symbol_winners.specs.Winners.{AreLeast}
 
 -- gathered names are numbered ones
 pub names_are : (files : List LoadedFile) (extra names : List (List ℕ)) → gathered files extra ≡ Ok names → names ≡ numbered (external_names files ++ extra)

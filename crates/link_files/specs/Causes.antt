@@ -2,7 +2,7 @@
 use Rattle.std.specs.Prelude.{ℕ, ◌≡◌, ◌<◌, ◌≤◌, ◌^◌, ◌++◌, ◌⊎◌, ℤ, List, length, Some, None, Err}
 use Rattle.image_make.specs.Made.{IsMade}
 use Rattle.image_make.specs.declared.fault.MakeFault.TheVariants as make
-use Rattle.kept_refs.specs.Undefined.{undefined}
+use Rattle.liveness.specs.Undefined.{undefined}
 use Rattle.lib_bind.specs.declared.library.LibraryGraph.{LibraryGraph}
 use Rattle.mark_core.specs.Kept.{IsKept}
 use Rattle.mo_cmd.specs.declared.command.Command.{Command}
@@ -19,11 +19,11 @@ use Rattle.mo_types.specs.declared.key.FileId.{FileId}
 use Rattle.mo_types.specs.declared.loaded.LoadedFile.{LoadedFile}
 use Rattle.name_ids.specs.Names.{external_names, numbered}
 use Rattle.patch.specs.declared.met.RangeFault.{RangeFault}
-use Rattle.resolve.specs.Duplicates.{IsLeastDuplicate, duplicate_of}
-use Rattle.resolve.specs.Edges.{edges, supports}
+use Rattle.symbol_winners.specs.Duplicates.{IsLeastDuplicate, duplicate_of}
+use Rattle.liveness.specs.Edges.{edges, supports}
 use Rattle.resolve.specs.Goals.{goal_table}
-use Rattle.resolve.specs.Known.{AreKnown, Known}
-use Rattle.resolve.specs.Roots.{roots}
+use Rattle.symbol_winners.specs.Known.{AreKnown, Known}
+use Rattle.liveness.specs.Roots.{roots}
 use Rattle.sect_place.specs.declared.size.PlaceFault.TheVariants as place
 use Rattle.link_files.specs.Flags.{header_flags}
 use Rattle.link_files.specs.Later.{later_entry, later_file}

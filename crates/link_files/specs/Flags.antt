@@ -6,9 +6,9 @@ use Rattle.mark_core.specs.Kept.{has}
 use Rattle.mo_cmd.specs.declared.command.Command.{Command}
 use Rattle.mo_format.specs.declared.loader.TheConstants.{MH_DYLDLINK, MH_NOUNDEFS, MH_NO_REEXPORTED_DYLIBS, MH_PIE, MH_TWOLEVEL, MH_WEAK_DEFINES}
 use Rattle.mo_types.specs.declared.key.AtomKey.{AtomKey}
-use Rattle.resolve.specs.Roots.{winner_atom}
-use Rattle.resolve.specs.declared.representative.Representative.{Representative}
-use Rattle.resolve.specs.declared.winner.Winner.{Winner}
+use Rattle.liveness.specs.Roots.{winner_atom}
+use Rattle.literal_merge.specs.declared.representative.Representative.{Representative}
+use Rattle.symbol_winners.specs.declared.winner.Winner.{Winner}
 
 -- a weak definition that other images see, whose atom is kept
 unfoldable pub is_weak_export : List Representative → List AtomKey → Winner → Bool

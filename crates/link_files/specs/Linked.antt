@@ -1,6 +1,6 @@
 -- What loaded files link to: an image, or the first refusal in the order of the steps.
 use Rattle.std.specs.Prelude.{ℕ, ◌≡◌, ◌≤◌, List, [], All, Option, Result, Ok, Err}
-use Rattle.image_make.specs.Made.{IsMade, Making}
+use Rattle.image_make.specs.Made.{IsMade, ImageInputs}
 use Rattle.image_make.specs.declared.fault.MakeFault.{MakeFault}
 use Rattle.image_make.specs.declared.fault.MakeFault.TheVariants as make
 use Rattle.lib_bind.specs.declared.library.LibraryGraph.{LibraryGraph}
@@ -10,12 +10,12 @@ use Rattle.mo_types.specs.declared.answer.Refusal.{Refusal}
 use Rattle.mo_types.specs.declared.key.AtomKey.{AtomKey}
 use Rattle.mo_types.specs.declared.key.FileId.{FileId}
 use Rattle.mo_types.specs.declared.loaded.LoadedFile.{LoadedFile}
-use Rattle.resolve.specs.Duplicates.{IsDuplicate}
-use Rattle.resolve.specs.Edges.{edges, supports}
+use Rattle.symbol_winners.specs.Duplicates.{IsDuplicate}
+use Rattle.liveness.specs.Edges.{edges, supports}
 use Rattle.resolve.specs.Goals.{goal_of_name, goal_table}
-use Rattle.resolve.specs.Known.{AreKnown, Known}
-use Rattle.resolve.specs.Representatives.{representatives_of}
-use Rattle.resolve.specs.Roots.{roots}
+use Rattle.symbol_winners.specs.Known.{AreKnown, Known}
+use Rattle.literal_merge.specs.Representatives.{representatives_of}
+use Rattle.liveness.specs.Roots.{roots}
 use Rattle.sect_place.specs.declared.island.IslandPlan.{IslandPlan}
 use Rattle.sect_place.specs.declared.size.PlaceFault.TheVariants as place
 use Rattle.slot_plan.specs.declared.list.Slots.{Slots}
@@ -38,7 +38,7 @@ abbrev pub no_islands : IslandPlan
 no_islands = record { areas = []; ways = [] }
 
 -- what the image is made of
-unfoldable pub making : Command → LibraryGraph → List LoadedFile → ℕ → List AtomKey → Making
+unfoldable pub making : Command → LibraryGraph → List LoadedFile → ℕ → List AtomKey → ImageInputs
 making command libs files flags keys = record {
   command = command;
   libs = libs;

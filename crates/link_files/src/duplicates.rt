@@ -2,15 +2,15 @@
 ghost use Rattle.std.specs.Prelude.{◌≡◌, ◌<◌, length, slice_get, unwrap_or, [], IfOk};
 ghost use Rattle.mo_types.specs.Loaded.{IsWholeLoaded};
 ghost use Rattle.name_ids.specs.Names.{numbers_of};
-ghost use Rattle.resolve.specs.Found.{AreNamed};
+ghost use Rattle.symbol_winners.specs.Found.{AreNamed};
 ghost use Rattle.link_files.specs.Refusals as spec;
 ghost use Rattle.link_files.specs.inner.Found.{IsTold};
 
 use crate::labels::label_of;
 use mo_types::{Bytes, FileId, Items, Loaded, OutOfMemory, Refusal};
 use name_ids::{NameTable, NumberList};
-use resolve::duplicate;
 use std::alloc::Global;
+use symbol_winners::duplicate;
 
 // The name of a number, or nothing where there is none.
 fn name_at(alloc: Global, names: &NameTable, id: u32) -> Result<Bytes, OutOfMemory>

@@ -12,7 +12,7 @@ use mo_format::loader::{
     MH_DYLDLINK, MH_NO_REEXPORTED_DYLIBS, MH_NOUNDEFS, MH_PIE, MH_TWOLEVEL, MH_WEAK_DEFINES,
 };
 use mo_types::AtomKey;
-use resolve::{Winner, Winners};
+use symbol_winners::{Winner, Winners};
 
 #[tactic(auto, unfolding(crate::specs::Flags::is_weak_export))]
 fn is_weak_export(winners: &Winners, keys: &[AtomKey], winner: &Winner) -> bool

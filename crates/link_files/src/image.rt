@@ -1,28 +1,28 @@
 //! The image of the atoms that are kept.
 ghost use Rattle.std.specs.Prelude.{◌≡◌, ℕ, List, Err, IfOk};
 ghost use Rattle.std.specs.List.Sorted.{IsStrictlySortedBy};
-ghost use Rattle.goal_table.specs.Table.{goals_of};
+ghost use Rattle.resolve.specs.Table.{goals_of};
 ghost use Rattle.mo_types.specs.Keys.{compare_keys};
 ghost use Rattle.mo_types.specs.Loaded.{IsWholeLoaded};
 ghost use Rattle.resolve.specs.Goals.{goal_of_name, goal_table};
-ghost use Rattle.resolve.specs.Representatives.{representatives_of};
+ghost use Rattle.literal_merge.specs.Representatives.{representatives_of};
 ghost use Rattle.link_files.specs.Linked.{AreLow, AsMade, IsAnswer, no_islands, no_slots};
 ghost use Rattle.link_files.specs.Refusals as refusals;
 ghost use Rattle.link_files.specs.Steps.{Answers};
 
 use crate::labels::label_of;
-use goal_table::GoalTable;
-use image_make::{MakeFault, Scheme, make_image};
+use image_make::{ImageInputs, MakeFault, make_image};
+use input_files::LoadFault;
 use lib_bind::Libraries;
-use member_rounds::RoundFault;
 use mo_cmd::Command;
 use mo_outside::Gate;
 use mo_types::{Bytes, Goal, KeyList, Loaded, OutOfMemory, RangeKind, Refusal};
-use resolve::Winners;
+use resolve::GoalTable;
 use sect_place::{AreaList, IslandPlan, PlaceFault, WayList};
 use slot_plan::{NeedList, Slots, slots};
 use std::alloc::Global;
 use std::thread::Threads;
+use symbol_winners::Winners;
 
 // No slots: they come with a later version.
 #[tactic(auto, using(crate::proofs::ImageLemmas::empties))]
@@ -78,7 +78,7 @@ pub(crate) fn image_of<R: Threads + Sync, G: Gate + Sync>(
     keys: &KeyList,
     flags: u32,
     entry: &Goal,
-) -> Result<Bytes, RoundFault>
+) -> Result<Bytes, LoadFault>
     requires whole { IsWholeLoaded loaded.now }
     requires low { AreLow loaded.now.files }
     requires literals { winners.now.literals ≡ representatives_of loaded.now.files }
@@ -89,7 +89,7 @@ pub(crate) fn image_of<R: Threads + Sync, G: Gate + Sync>(
 {
     let slots = no_slots(alloc)?;
     let islands = no_islands(alloc);
-    let scheme = Scheme {
+    let scheme = ImageInputs {
         command,
         libs,
         loaded,
@@ -103,6 +103,6 @@ pub(crate) fn image_of<R: Threads + Sync, G: Gate + Sync>(
     };
     match make_image(rt, alloc, gate, &scheme) {
         Ok(image) => Ok(image),
-        Err(fault) => Err(RoundFault::Refused(refusal_of(command, loaded, fault)?)),
+        Err(fault) => Err(LoadFault::Refused(refusal_of(command, loaded, fault)?)),
     }
 }

@@ -1,20 +1,21 @@
 //! The atoms that a link keeps.
 ghost use Rattle.std.specs.Prelude.{◌≡◌, IfOk};
-ghost use Rattle.goal_table.specs.Table.{goals_of};
+ghost use Rattle.resolve.specs.Table.{goals_of};
 ghost use Rattle.mark_core.specs.Kept.{IsKept};
 ghost use Rattle.mo_types.specs.Loaded.{IsWholeLoaded};
 ghost use Rattle.name_ids.specs.Names.{numbers_of};
-ghost use Rattle.resolve.specs.Edges.{edges_by, supports_by};
-ghost use Rattle.resolve.specs.Representatives.{representatives_of};
-ghost use Rattle.resolve.specs.Roots.{roots};
+ghost use Rattle.liveness.specs.Edges.{edges_by, supports_by};
+ghost use Rattle.literal_merge.specs.Representatives.{representatives_of};
+ghost use Rattle.liveness.specs.Roots.{roots};
 
-use goal_table::GoalTable;
+use liveness::{edges, roots};
 use mark_core::{KeySet, kept_from};
 use mo_cmd::Command;
 use mo_types::{Items, KeyList, Loaded, OutOfMemory};
 use name_ids::NumberList;
-use resolve::{Winners, edges, roots};
+use resolve::GoalTable;
 use std::alloc::Global;
+use symbol_winners::Winners;
 
 /// The keys of the atoms that are kept, in order: those that are reached from the roots.
 pub(crate) fn kept_keys(

@@ -3,12 +3,11 @@ ghost use Rattle.std.specs.Prelude.{◌≡◌, false, slice_get, IfOk};
 ghost use Rattle.std.specs.List.{list_any};
 ghost use Rattle.std.specs.List.Sorted.{IsStrictlySortedBy};
 ghost use Rattle.std.specs.Option.{option_copied, option_map_or};
-ghost use Rattle.goal_table.specs.Table.{goals_in, goals_of};
+ghost use Rattle.resolve.specs.Table.{goals_in, goals_of};
 ghost use Rattle.mo_types.specs.Keys.{compare_keys};
 ghost use Rattle.resolve.specs.Goals.{goal_of_name, goal_table};
 ghost use Rattle.link_files.specs.Later as spec;
 
-use goal_table::{FileGoals, GoalTable};
 use lib_bind::Libraries;
 use mark_core::is_kept;
 use mo_cmd::Command;
@@ -16,6 +15,7 @@ use mo_types::{
     AtomKey, Bytes, Feature, Goal, KeyList, Loaded, LoadedFile, OutOfMemory, Ref, RefList, Refusal,
     Target,
 };
+use resolve::{FileGoals, GoalTable};
 
 fn is_outer(goal: &Goal) -> bool
     ensures { result ≡ spec.is_outer goal.now }
@@ -74,7 +74,7 @@ fn is_later_at(keys: &[AtomKey], goals: &FileGoals, refs: &RefList, at: usize) -
     }
 }
 
-#[tactic(auto, using(member_rounds::proofs::FormLemmas::looks))]
+#[tactic(auto, using(input_files::proofs::FormLemmas::looks))]
 fn any_later(keys: &[AtomKey], goals: &FileGoals, refs: &RefList) -> bool
     requires { IsStrictlySortedBy compare_keys keys.now }
     ensures { result ≡ list_any (spec.is_kept_later keys.now (goals_in goals.now.pool goals.now.places)) refs.now }

@@ -2,7 +2,7 @@
 ghost use Rattle.std.specs.Prelude.{◌≡◌, Ok};
 ghost use Rattle.mo_types.specs.Loaded.{IsWholeLoaded};
 ghost use Rattle.name_ids.specs.Names.{gathered, numbers_of};
-ghost use Rattle.resolve.specs.Known.{AreKnown};
+ghost use Rattle.symbol_winners.specs.Known.{AreKnown};
 ghost use Rattle.link_files.specs.Linked.{AreLow, AsKept, AsNamed, IsLinked};
 ghost use Rattle.link_files.specs.Names as spec;
 ghost use Rattle.link_files.specs.Steps.{Answers};
@@ -15,15 +15,16 @@ use crate::later::later_refusal;
 use crate::lost::undefined_refusal;
 use crate::names::{atoms_refusal, names_of, wanted_names};
 use crate::racing::raced_words;
+use input_files::LoadFault;
 use lib_bind::Libraries;
-use member_rounds::RoundFault;
 use mo_cmd::Command;
 use mo_outside::Gate;
 use mo_types::{Bytes, Items, Loaded, NameList};
 use name_ids::{NameTable, NumberList};
-use resolve::{Winners, goal_of_name, goal_table, winners};
+use resolve::{goal_of_name, goal_table};
 use std::alloc::Global;
 use std::thread::Threads;
+use symbol_winners::{Winners, winners};
 
 // With the winners of all names: the atoms that are kept, what they lead to, and the image of them.
 fn link_kept<R: Threads + Sync, G: Gate + Sync>(
@@ -37,7 +38,7 @@ fn link_kept<R: Threads + Sync, G: Gate + Sync>(
     names: &NameTable,
     numbers: &Items<NumberList>,
     winners: &Winners,
-) -> Result<Bytes, RoundFault>
+) -> Result<Bytes, LoadFault>
     requires whole { IsWholeLoaded loaded.now }
     requires low { AreLow loaded.now.files }
     requires wanted { wanted.now ≡ spec.wanted command.now }
@@ -50,12 +51,12 @@ fn link_kept<R: Threads + Sync, G: Gate + Sync>(
     let keys = kept_keys(alloc, loaded, winners, numbers, &goals, command)?;
     let lost = undefined_refusal(alloc, winners, libs, loaded, command, &goals, &keys, wanted)?;
     if let Some(refusal) = lost {
-        return Err(RoundFault::Refused(refusal));
+        return Err(LoadFault::Refused(refusal));
     }
     let name = command.entry.as_slice();
     let entry = goal_of_name(alloc, winners, libs, loaded, command, name)?;
     if let Some(refusal) = later_refusal(loaded, libs, command, &goals, &keys, &entry)? {
-        return Err(RoundFault::Refused(refusal));
+        return Err(LoadFault::Refused(refusal));
     }
     let flags = header_flags(command, libs, winners, keys.as_slice());
     image_of(
@@ -74,7 +75,7 @@ fn link_named<R: Threads + Sync, G: Gate + Sync>(
     wanted: &NameList,
     names: &NameTable,
     numbers: &Items<NumberList>,
-) -> Result<Bytes, RoundFault>
+) -> Result<Bytes, LoadFault>
     requires whole { IsWholeLoaded loaded.now }
     requires low { AreLow loaded.now.files }
     requires wanted { wanted.now ≡ spec.wanted command.now }
@@ -83,7 +84,7 @@ fn link_named<R: Threads + Sync, G: Gate + Sync>(
     ensures { Answers (AsNamed command.now libs.now loaded.now.files names.now) result }
 {
     if let Some(refusal) = duplicate_refusal(alloc, loaded, names, numbers)? {
-        return Err(RoundFault::Refused(refusal));
+        return Err(LoadFault::Refused(refusal));
     }
     let workers = command.threads;
     let words = raced_words(rt, alloc, gate, workers, loaded, wanted, names, numbers)?;
@@ -104,7 +105,7 @@ pub fn link_files<R: Threads + Sync, G: Gate + Sync>(
     command: &Command,
     libs: &Libraries,
     loaded: &Loaded,
-) -> Result<Bytes, RoundFault>
+) -> Result<Bytes, LoadFault>
     requires whole { IsWholeLoaded loaded.now }
     requires low { AreLow loaded.now.files }
     ensures { Answers (IsLinked command.now libs.now loaded.now.files) result }
@@ -115,7 +116,7 @@ pub fn link_files<R: Threads + Sync, G: Gate + Sync>(
         Err(fault) => return Err(fault),
     };
     if let Some(refusal) = atoms_refusal(loaded.files.as_slice()) {
-        return Err(RoundFault::Refused(refusal));
+        return Err(LoadFault::Refused(refusal));
     }
     link_named(
         rt,

@@ -2,22 +2,22 @@
 ghost use Rattle.std.specs.Prelude.{◌≡◌, ◌++◌, IfOk};
 ghost use Rattle.std.specs.List.{filter};
 ghost use Rattle.std.specs.List.Sorted.{IsStrictlySortedBy};
-ghost use Rattle.goal_table.specs.Table.{goals_of};
-ghost use Rattle.kept_refs.specs.Undefined.{is_nobody};
+ghost use Rattle.resolve.specs.Table.{goals_of};
+ghost use Rattle.liveness.specs.Undefined.{is_nobody};
 ghost use Rattle.mo_types.specs.Keys.{compare_keys};
 ghost use Rattle.mo_types.specs.declared.answer.Refusal.TheVariants.{Undefined};
 ghost use Rattle.resolve.specs.Goals.{goal_of_name, goal_table};
-ghost use Rattle.resolve.specs.Known.{AreKnown};
+ghost use Rattle.symbol_winners.specs.Known.{AreKnown};
 ghost use Rattle.link_files.specs.Lost as spec;
 ghost use Rattle.link_files.specs.Names as names;
 
-use goal_table::GoalTable;
-use kept_refs::{Lost, undefined};
 use lib_bind::Libraries;
+use liveness::{Lost, undefined};
 use mo_cmd::Command;
 use mo_types::{Bytes, Goal, KeyList, Loaded, NameList, OutOfMemory, Refusal};
-use resolve::{Winners, goal_of_name};
+use resolve::{GoalTable, goal_of_name};
 use std::alloc::Global;
+use symbol_winners::Winners;
 
 // Whether a name leads nowhere.
 fn is_lost(

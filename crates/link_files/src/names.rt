@@ -4,7 +4,7 @@ ghost use Rattle.name_ids.specs.Names.{gathered, numbers_of};
 ghost use Rattle.link_files.specs.Names as spec;
 ghost use Rattle.link_files.specs.Steps.{Yields};
 
-use member_rounds::RoundFault;
+use input_files::LoadFault;
 use mo_cmd::Command;
 use mo_types::{Bytes, Loaded, LoadedFile, NameList, OutOfMemory, Refusal, Which};
 use name_ids::{GatherFault, Numbered, gather};
@@ -43,7 +43,7 @@ pub(crate) fn names_of<'a>(
     command: &Command,
     loaded: &'a Loaded,
     wanted: &'a NameList,
-) -> Result<Numbered<'a>, RoundFault>
+) -> Result<Numbered<'a>, LoadFault>
     requires { wanted.now ≡ spec.wanted command.now }
     ensures gathered { IfOk result (λ it. gathered loaded.now.files wanted.now ≡ Ok it.names) }
     ensures numbers { IfOk result (λ it. it.numbers ≡ numbers_of it.names loaded.now.files) }
@@ -53,10 +53,10 @@ pub(crate) fn names_of<'a>(
     let _command = command;
     match gather(alloc, loaded, wanted) {
         Ok(numbered) => Ok(numbered),
-        Err(GatherFault::Names) => Err(RoundFault::Refused(Refusal::Limit {
+        Err(GatherFault::Names) => Err(LoadFault::Refused(Refusal::Limit {
             which: Which::Names,
         })),
-        Err(GatherFault::OutOfMemory) => Err(RoundFault::OutOfMemory),
+        Err(GatherFault::OutOfMemory) => Err(LoadFault::OutOfMemory),
     }
 }
 

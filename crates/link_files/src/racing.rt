@@ -2,12 +2,12 @@
 ghost use Rattle.std.specs.Prelude.{◌≡◌, Ok, IfOk};
 ghost use Rattle.mo_types.specs.Loaded.{IsWholeLoaded};
 ghost use Rattle.name_ids.specs.Names.{gathered, numbers_of};
-ghost use Rattle.resolve.specs.Winners.{AreLeast};
+ghost use Rattle.symbol_winners.specs.Winners.{AreLeast};
 
-use member_rounds::race_words;
 use mo_outside::Gate;
 use mo_types::{Items, Loaded, NameList, OutOfMemory};
 use name_ids::{NameTable, NumberList};
+use name_offers::race_words;
 use std::alloc::Global;
 use std::thread::Threads;
 

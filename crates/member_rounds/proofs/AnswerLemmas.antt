@@ -10,10 +10,10 @@ use Rattle.mo_types.specs.declared.loaded.Loaded.{Loaded}
 use Rattle.mo_types.specs.declared.loaded.LoadedFile.{LoadedFile}
 use Rattle.lib_bind.specs.declared.library.LibraryGraph.{LibraryGraph}
 use Rattle.member_rounds.specs.Growth.{is_in}
-use Rattle.member_rounds.specs.Files.{all_ids, file_of}
-use Rattle.member_rounds.specs.Rounds.{asks, files_of, is_first, loaded_ids, loaded_of, new_ids, round, round_fault}
-use Rattle.member_rounds.specs.declared.fault.RoundFault.{RoundFault}
-use Rattle.member_rounds.specs.declared.input.Input.{Input}
+use Rattle.input_files.specs.Files.{all_ids, file_of, is_first}
+use Rattle.member_rounds.specs.Rounds.{asks, files_of, loaded_ids, loaded_of, new_ids, round, round_fault}
+use Rattle.input_files.specs.declared.fault.LoadFault.{LoadFault}
+use Rattle.input_files.specs.declared.input.Input.{Input}
 use Rattle.member_rounds.proofs.GrowthLemmas.{in_from_has, round_ends}
 
 none_at : {A B : Type 0} (f : A → Option B) (xs : List A) (x : A) → first_some f xs ≡ None → In x xs → f x ≡ None
@@ -37,7 +37,7 @@ module _ (inputs : List Input) (libs : LibraryGraph) (wanted : List (List ℕ)) 
   unfolding loaded_of
   faultless loaded is = by (first_some (round_fault inputs libs wanted) (range_with_len 0 (length (all_ids inputs) + 1))) refl
     where
-      by : (o : Option RoundFault) → first_some (round_fault inputs libs wanted) (range_with_len 0 (length (all_ids inputs) + 1)) ≡ o → (first_some (round_fault inputs libs wanted) (range_with_len 0 (length (all_ids inputs) + 1)) ≡ None) × (loaded.files ≡ files_of inputs (loaded_ids inputs libs wanted))
+      by : (o : Option LoadFault) → first_some (round_fault inputs libs wanted) (range_with_len 0 (length (all_ids inputs) + 1)) ≡ o → (first_some (round_fault inputs libs wanted) (range_with_len 0 (length (all_ids inputs) + 1)) ≡ None) × (loaded.files ≡ files_of inputs (loaded_ids inputs libs wanted))
       by (Some fault) o = absurd (let s : Err fault ≡ Ok loaded = rw o at is in cc)
       by None o =
           let s : Ok (record { files = files_of inputs (loaded_ids inputs libs wanted) }) ≡ Ok loaded = rw o at is in
@@ -47,7 +47,7 @@ module _ (inputs : List Input) (libs : LibraryGraph) (wanted : List (List ℕ)) 
   unfolding round_fault
   no_fault_in k id none there = by (first_some (λ (i : FileId). result_err (file_of inputs i)) (new_ids inputs libs wanted k)) refl
     where
-      by : (o : Option RoundFault) → first_some (λ (i : FileId). result_err (file_of inputs i)) (new_ids inputs libs wanted k) ≡ o → result_err (file_of inputs id) ≡ None
+      by : (o : Option LoadFault) → first_some (λ (i : FileId). result_err (file_of inputs i)) (new_ids inputs libs wanted k) ≡ o → result_err (file_of inputs id) ≡ None
       by (Some fault) o = absurd (let s : Some fault ≡ None = rw o at none in cc)
       by None o = none_at (λ (i : FileId). result_err (file_of inputs i)) (new_ids inputs libs wanted k) id o there
 
@@ -60,14 +60,14 @@ module _ (inputs : List Input) (libs : LibraryGraph) (wanted : List (List ℕ)) 
       by earlier true e = let r = earlier (in_from_has (round inputs libs wanted k) id e) in (r.0, omega (arith, r.1), r.2)
       by earlier false e = (suc k, le_refl (suc k), in_filter (λ (i : FileId). not (is_in (round inputs libs wanted k) i)) (round inputs libs wanted (suc k)) id there (ap not e))
 
-read_then : (r : Result LoadedFile RoundFault) → result_err r ≡ None → (file : LoadedFile) × (r ≡ Ok file)
+read_then : (r : Result LoadedFile LoadFault) → result_err r ≡ None → (file : LoadedFile) × (r ≡ Ok file)
 read_then (Ok file) none = (file, refl)
 read_then (Err fault) none = absurd (let s : Some fault ≡ None = none in cc)
 
-result_ok_is : (r : Result LoadedFile RoundFault) (file : LoadedFile) → r ≡ Ok file → result_ok r ≡ Some file
+result_ok_is : (r : Result LoadedFile LoadFault) (file : LoadedFile) → r ≡ Ok file → result_ok r ≡ Some file
 result_ok_is r file is = ap result_ok is
 
-pub ok_back : (r : Result LoadedFile RoundFault) (file : LoadedFile) → result_ok r ≡ Some file → r ≡ Ok file
+pub ok_back : (r : Result LoadedFile LoadFault) (file : LoadedFile) → result_ok r ≡ Some file → r ≡ Ok file
 ok_back (Ok other) file is = let s : Some other ≡ Some file = is in cc
 ok_back (Err fault) file is = absurd (let s : None ≡ Some file = is in cc)
 

@@ -6,7 +6,7 @@ use Rattle.lib_bind.specs.declared.library.LibraryGraph.{LibraryGraph}
 use Rattle.lib_bind.specs.declared.provider.Offer.{Offer}
 use Rattle.member_rounds.specs.Rounds.{asked_by, is_header, offer_in, unless_before}
 use Rattle.mo_types.specs.Scan.{first_some}
-use Rattle.member_rounds.specs.declared.input.Input.{Input}
+use Rattle.input_files.specs.declared.input.Input.{Input}
 
 pub header_asks : (inputs : List Input) (libs : LibraryGraph) (name : List ℕ) → is_header name ≡ true → None ≡ asked_by inputs libs name
 unfolding asked_by

@@ -17,7 +17,7 @@ use Rattle.name_ids.specs.Names.{external_names, external_of, gathered, numbered
 use Rattle.name_ids.specs.declared.fault.GatherFault.TheVariants.{Names}
 use Rattle.name_ids.proofs.Once.{distinct}
 use Rattle.member_rounds.specs.Rounds.{names_fault}
-use Rattle.member_rounds.specs.declared.fault.RoundFault.TheVariants.{Refused}
+use Rattle.input_files.specs.declared.fault.LoadFault.TheVariants.{Refused}
 use Rattle.member_rounds.proofs.StateLemmas.{in_numbered, named_in}
 
 few_pass : {X : Type 0} (p : X → Bool) (xs : List X) → length (filter p xs) ≤ length xs

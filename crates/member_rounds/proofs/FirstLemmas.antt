@@ -19,17 +19,18 @@ use Rattle.mo_types.specs.Scan.{first_some, option_or_else}
 use Rattle.mo_types.specs.declared.key.FileId.{FileId}
 use Rattle.mo_types.specs.declared.loaded.LoadedFile.{LoadedFile}
 use Rattle.mo_ar.specs.declared.archive.Archive.{Archive}
-use Rattle.member_rounds.specs.Files.{all_ids, archive_in, content_in, content_of, file_of, id_at, ids_as, ids_in, read_as}
-use Rattle.member_rounds.specs.Rounds.{files_of, is_first}
-use Rattle.member_rounds.specs.Sources.{AreInOrder, AreObjects, inputs_of, object_as, object_reads}
-use Rattle.member_rounds.specs.declared.fault.RoundFault.{RoundFault}
-use Rattle.member_rounds.specs.declared.input.Input.{Input}
-use Rattle.member_rounds.specs.declared.sources.Source.{Source}
-use Rattle.member_rounds.specs.inner.Holding.{AreReadable}
+use Rattle.input_files.specs.Files.{all_ids, archive_in, content_in, content_of, file_of, id_at, ids_as, ids_in, is_first, read_as}
+use Rattle.member_rounds.specs.Rounds.{files_of}
+use Rattle.input_files.specs.Sources.{AreInOrder, AreObjects, inputs_of, object_as, object_reads}
+use Rattle.input_files.specs.declared.fault.LoadFault.{LoadFault}
+use Rattle.input_files.specs.declared.input.Input.{Input}
+use Rattle.input_files.specs.declared.sources.Source.{Source}
+use Rattle.input_files.specs.inner.Holding.{AreReadable}
 use Rattle.member_rounds.specs.inner.Working.{AreKept, read_each}
-use Rattle.member_rounds.proofs.FileLemmas.{few_ids, id_kept, ids_rise}
-use Rattle.member_rounds.proofs.PlaceLemmas.{other_position}
-use Rattle.member_rounds.proofs.StateLemmas.{all_from, all_has, each_ok}
+use Rattle.input_files.proofs.FileLemmas.{few_ids, id_kept, ids_rise}
+use Rattle.input_files.proofs.PlaceLemmas.{other_position}
+use Rattle.input_files.proofs.EachLemmas.{all_from, all_has}
+use Rattle.member_rounds.proofs.StateLemmas.{each_ok}
 use Rattle.member_rounds.proofs.StepLemmas.{in_order}
 
 -- ---- the input of a file
@@ -118,7 +119,7 @@ module _ (inputs : List Input) (order : AreInOrder inputs) where
   abbrev Fine : List Input → List LoadedFile → Type 0
   Fine some objects = (map (λ file. file.id) objects ≡ first_objects (flat_map ids_in some)) × AllByRecursion (λ file. file_of inputs file.id ≡ Ok file) objects
 
-  abbrev reads : List Input → List (Result LoadedFile RoundFault)
+  abbrev reads : List Input → List (Result LoadedFile LoadFault)
   reads some = filter_map (λ i. object_as i (archive_in i)) some
 
   objects_in : (some : List Input) → ((input : Input) → In input some → In input inputs) → (objects : List LoadedFile) → object_reads some ≡ map Ok objects → Fine some objects
@@ -169,21 +170,21 @@ each_from inputs (id ∷ ids) all =
     rw (here.1, more) refl
 
 -- a fault among some of the ids is the first of all, where the others can be read
-fault_of_some : (inputs : List Input) (t : FileId → Bool) (ids : List FileId) (fault : RoundFault) → ((id : FileId) → In id ids → t id ≡ false → (file : LoadedFile) × (file_of inputs id ≡ Ok file)) → read_each inputs (filter t ids) ≡ Err fault → read_each inputs ids ≡ Err fault
+fault_of_some : (inputs : List Input) (t : FileId → Bool) (ids : List FileId) (fault : LoadFault) → ((id : FileId) → In id ids → t id ≡ false → (file : LoadedFile) × (file_of inputs id ≡ Ok file)) → read_each inputs (filter t ids) ≡ Err fault → read_each inputs ids ≡ Err fault
 fault_of_some inputs t [] fault fine is = absurd (cc)
 fault_of_some inputs t (id ∷ ids) fault fine is = by (λ e. fault_of_some inputs t ids fault (λ i there is_none. fine i (inr there) is_none) e) (t id) refl
   where
-    after : (r : Result LoadedFile RoundFault) → file_of inputs id ≡ r → (r >>= λ file. read_each inputs (filter t ids) >>= λ files. Ok (file ∷ files)) ≡ Err fault → (read_each inputs (filter t ids) ≡ Err fault → read_each inputs ids ≡ Err fault) → (r >>= λ file. read_each inputs ids >>= λ files. Ok (file ∷ files)) ≡ Err fault
+    after : (r : Result LoadedFile LoadFault) → file_of inputs id ≡ r → (r >>= λ file. read_each inputs (filter t ids) >>= λ files. Ok (file ∷ files)) ≡ Err fault → (read_each inputs (filter t ids) ≡ Err fault → read_each inputs ids ≡ Err fault) → (r >>= λ file. read_each inputs ids >>= λ files. Ok (file ∷ files)) ≡ Err fault
     after (Err e) r h rest = h
     after (Ok file) r h rest = within (read_each inputs (filter t ids)) refl h
       where
-        within : (q : Result (List LoadedFile) RoundFault) → read_each inputs (filter t ids) ≡ q → (q >>= λ files. Ok (file ∷ files)) ≡ Err fault → (read_each inputs ids >>= λ files. Ok (file ∷ files)) ≡ Err fault
+        within : (q : Result (List LoadedFile) LoadFault) → read_each inputs (filter t ids) ≡ q → (q >>= λ files. Ok (file ∷ files)) ≡ Err fault → (read_each inputs ids >>= λ files. Ok (file ∷ files)) ≡ Err fault
         within (Ok files) q k = absurd (let s : Ok (file ∷ files) ≡ Err fault = k in cc)
-        within (Err e) q k = let s : Err e ≡ Err fault = k in let same : e ≡ fault = cc in ap (λ (p : Result (List LoadedFile) RoundFault). p >>= λ files. Ok (file ∷ files)) (rest (q ∙ ap Err same))
+        within (Err e) q k = let s : Err e ≡ Err fault = k in let same : e ≡ fault = cc in ap (λ (p : Result (List LoadedFile) LoadFault). p >>= λ files. Ok (file ∷ files)) (rest (q ∙ ap Err same))
 
     by : (read_each inputs (filter t ids) ≡ Err fault → read_each inputs ids ≡ Err fault) → (b : Bool) → t id ≡ b → read_each inputs (id ∷ ids) ≡ Err fault
     by rest true e = after (file_of inputs id) refl (rw e at is) rest
-    by rest false e = let here = fine id (inl refl) e in rw here.1 (ap (λ (p : Result (List LoadedFile) RoundFault). p >>= λ files. Ok (here.0 ∷ files)) (rest (rw e at is)))
+    by rest false e = let here = fine id (inl refl) e in rw here.1 (ap (λ (p : Result (List LoadedFile) LoadFault). p >>= λ files. Ok (here.0 ∷ files)) (rest (rw e at is)))
 
 module _ (inputs : List Input) (objects : List LoadedFile) (ids : List FileId) (order : AreInOrder inputs) (so : AreObjects inputs objects) (are : ids ≡ filter (is_first inputs) (all_ids inputs)) where
   object_ids : map (λ (f : LoadedFile). f.id) objects ≡ filter is_object ids
@@ -208,7 +209,7 @@ module _ (inputs : List Input) (objects : List LoadedFile) (ids : List FileId) (
       in_filtered : (id : FileId) → In id ids → is_object id ≡ true → In id (filter is_object ids)
       in_filtered id there is_one = in_filter is_object ids id there is_one
 
-  pub first_fails : (members : List FileId) (fault : RoundFault) → members ≡ filter (λ id. not (id.member == 0)) ids → read_each inputs members ≡ Err fault → read_each inputs ids ≡ Err fault
+  pub first_fails : (members : List FileId) (fault : LoadFault) → members ≡ filter (λ id. not (id.member == 0)) ids → read_each inputs members ≡ Err fault → read_each inputs ids ≡ Err fault
   first_fails members fault is faulty = fault_of_some inputs (λ id. not (id.member == 0)) ids fault (λ id there is_none. objects_fine id there (not_member id is_none)) (subst (λ (l : List FileId). read_each inputs l ≡ Err fault) is faulty)
 
   module _ (members : List FileId) (read more sorted : List LoadedFile) (is : members ≡ filter (λ id. not (id.member == 0)) ids) (each : read_each inputs members ≡ Ok read) (joined : more ≡ objects ++ read) where

@@ -20,21 +20,22 @@ use Rattle.lib_bind.specs.declared.library.LibraryGraph.{LibraryGraph}
 use Rattle.name_ids.specs.Names.{external_names, numbered}
 use Rattle.name_ids.proofs.Once.{distinct}
 use Rattle.member_rounds.specs.Growth.{after, is_in}
-use Rattle.member_rounds.specs.Files.{HasLowAtoms, all_ids, file_of}
-use Rattle.member_rounds.specs.Rounds.{asked_by, asks, files_of, has_candidate, is_first, loaded_ids, loaded_of, names_fault, new_ids, undefined_in}
-use Rattle.member_rounds.specs.Sources.{AreInOrder, inputs_of}
-use Rattle.member_rounds.specs.declared.fault.RoundFault.{RoundFault}
-use Rattle.member_rounds.specs.declared.input.Input.{Input}
+use Rattle.input_files.specs.Files.{HasLowAtoms, all_ids, file_of, is_first}
+use Rattle.member_rounds.specs.Rounds.{asked_by, asks, files_of, has_candidate, loaded_ids, loaded_of, names_fault, new_ids, undefined_in}
+use Rattle.input_files.specs.Sources.{AreInOrder, inputs_of}
+use Rattle.input_files.specs.declared.fault.LoadFault.{LoadFault}
+use Rattle.input_files.specs.declared.input.Input.{Input}
 use Rattle.member_rounds.specs.declared.loading.Link.{Link}
-use Rattle.member_rounds.specs.declared.sources.Source.{Source}
-use Rattle.member_rounds.specs.inner.Holding.{AreReadable}
+use Rattle.input_files.specs.declared.sources.Source.{Source}
+use Rattle.input_files.specs.inner.Holding.{AreReadable}
 use Rattle.member_rounds.specs.inner.Linking.{IsLinkAt, IsReadAt}
 use Rattle.member_rounds.specs.inner.Working.{AreKept, HaveAsked, IsBetween, first_names, lists, read_each}
 use Rattle.member_rounds.proofs.CountLemmas.{names_grow}
-use Rattle.member_rounds.proofs.FileLemmas.{few_ids, ids_rise}
+use Rattle.input_files.proofs.FileLemmas.{few_ids, ids_rise}
 use Rattle.member_rounds.proofs.LowLemmas.{low_at}
 use Rattle.member_rounds.proofs.SettledLemmas.{none_settled}
-use Rattle.member_rounds.proofs.StateLemmas.{all_from, all_has, named_in, union_rises}
+use Rattle.input_files.proofs.EachLemmas.{all_from, all_has}
+use Rattle.member_rounds.proofs.StateLemmas.{named_in, union_rises}
 use Rattle.member_rounds.proofs.StepLemmas.{ends_early, ends_late, in_order, names_fail, next_round, read_fails, sorted_rises}
 use Rattle.member_rounds.proofs.WorkLemmas.{fresh_in, from_all}
 
@@ -114,7 +115,7 @@ read_at inputs also libs wanted link files same order so low read whole = subst 
 pub link_over : (inputs also : List Input) (libs : LibraryGraph) (wanted : List (List ℕ)) (link : Link) → also ≡ inputs → IsLinkAt also libs wanted link → IsLinkAt inputs libs wanted link
 link_over inputs also libs wanted link same so = subst (λ (all : List Input). IsLinkAt all libs wanted link) same so
 
-pub fault_over : (inputs also : List Input) (libs : LibraryGraph) (wanted : List (List ℕ)) (fault : RoundFault) → also ≡ inputs → loaded_of also libs wanted ≡ Err fault → loaded_of inputs libs wanted ≡ Err fault
+pub fault_over : (inputs also : List Input) (libs : LibraryGraph) (wanted : List (List ℕ)) (fault : LoadFault) → also ≡ inputs → loaded_of also libs wanted ≡ Err fault → loaded_of inputs libs wanted ≡ Err fault
 fault_over inputs also libs wanted fault same is = subst (λ (all : List Input). loaded_of all libs wanted ≡ Err fault) same is
 
 all_both : (xs ys : List LoadedFile) → All IsWholeFile xs → All IsWholeFile ys → All IsWholeFile (xs ++ ys)
@@ -146,10 +147,10 @@ link_goes_on inputs libs wanted link next files noted asked order so is whole mo
   spare_names = λ some. spare;
 }
 
-pub link_read_fails : (inputs : List Input) (libs : LibraryGraph) (wanted : List (List ℕ)) (link : Link) (fault : RoundFault) → IsLinkAt inputs libs wanted link → link.rounds < length (all_ids inputs) + 1 → read_each inputs link.new.items ≡ Err fault → loaded_of inputs libs wanted ≡ Err fault
+pub link_read_fails : (inputs : List Input) (libs : LibraryGraph) (wanted : List (List ℕ)) (link : Link) (fault : LoadFault) → IsLinkAt inputs libs wanted link → link.rounds < length (all_ids inputs) + 1 → read_each inputs link.new.items ≡ Err fault → loaded_of inputs libs wanted ≡ Err fault
 link_read_fails inputs libs wanted link fault so low is = read_fails inputs libs wanted link.rounds link.kept.files link.settled link.left link.new.items fault so.between is low
 
-pub link_names_fail : (inputs : List Input) (libs : LibraryGraph) (wanted : List (List ℕ)) (link : Link) (files more : List LoadedFile) (fault : RoundFault) → IsLinkAt inputs libs wanted link → link.rounds < length (all_ids inputs) + 1 → read_each inputs link.new.items ≡ Ok files → more ≡ link.kept.files ++ files → names_fault more wanted ≡ Some fault → loaded_of inputs libs wanted ≡ Err fault
+pub link_names_fail : (inputs : List Input) (libs : LibraryGraph) (wanted : List (List ℕ)) (link : Link) (files more : List LoadedFile) (fault : LoadFault) → IsLinkAt inputs libs wanted link → link.rounds < length (all_ids inputs) + 1 → read_each inputs link.new.items ≡ Ok files → more ≡ link.kept.files ++ files → names_fault more wanted ≡ Some fault → loaded_of inputs libs wanted ≡ Err fault
 link_names_fail inputs libs wanted link files more fault so low is grown faulty = names_fail inputs libs wanted link.rounds link.kept.files files more link.settled link.left link.new.items fault so.between is grown faulty low
 
 -- ---- the end

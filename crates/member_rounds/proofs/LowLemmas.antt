@@ -23,11 +23,11 @@ use Rattle.mo_types.specs.declared.object_fault.ObjFault.TheVariants.{Limit, Uns
 use Rattle.mo_obj.specs.Features.{any_kept, any_overaligned, first_feature, is_overaligned, or_else}
 use Rattle.mo_obj.specs.Object.{accepted, described, lacks, object_of}
 use Rattle.mo_obj.specs.Relocations.{relocations_of}
-use Rattle.member_rounds.specs.Files.{HasLowAtoms, content_of, fault_of, file_of, file_with, object_read, read_as, read_by}
-use Rattle.member_rounds.specs.Form.{is_later}
-use Rattle.member_rounds.specs.declared.input.Input.{Input}
-use Rattle.member_rounds.proofs.FileLemmas.{read_formed}
-use Rattle.member_rounds.proofs.StateLemmas.{all_from}
+use Rattle.input_files.specs.Files.{HasLowAtoms, content_of, fault_of, file_of, file_with, object_read, read_as, read_by}
+use Rattle.input_files.specs.Form.{is_later}
+use Rattle.input_files.specs.declared.input.Input.{Input}
+use Rattle.input_files.proofs.FileLemmas.{read_formed}
+use Rattle.input_files.proofs.EachLemmas.{all_from}
 
 -- ---- an object's sections
 

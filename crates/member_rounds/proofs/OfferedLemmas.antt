@@ -10,12 +10,12 @@ use Rattle.mo_ar.specs.declared.archive.Archive.{Archive}
 use Rattle.mo_ar.specs.declared.offers.Offer.{Offer}
 use Rattle.mo_types.specs.Scan.{first_some, option_or_else}
 use Rattle.mo_types.specs.declared.key.FileId.{FileId}
-use Rattle.member_rounds.specs.Files.{archive_in, id_at}
+use Rattle.input_files.specs.Files.{archive_in, id_at}
 use Rattle.member_rounds.specs.Rounds.{offer_as, offer_in}
-use Rattle.member_rounds.specs.Sources.{inputs_of}
+use Rattle.input_files.specs.Sources.{inputs_of}
 use Rattle.member_rounds.specs.declared.files_by_name.FilesByName.{FilesByName}
-use Rattle.member_rounds.specs.declared.input.Input.{Input}
-use Rattle.member_rounds.specs.declared.sources.Source.{Source}
+use Rattle.input_files.specs.declared.input.Input.{Input}
+use Rattle.input_files.specs.declared.sources.Source.{Source}
 use Rattle.member_rounds.specs.inner.Offered.{IsIndexOf, file_named, is_offered}
 
 -- ---- one offer

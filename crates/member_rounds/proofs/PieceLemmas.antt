@@ -6,42 +6,42 @@ use Rattle.mo_types.specs.Gives.{◌>>=◌, Gives}
 use Rattle.mo_types.specs.Loaded.{IsWholeFile}
 use Rattle.mo_types.specs.declared.key.FileId.{FileId}
 use Rattle.mo_types.specs.declared.loaded.LoadedFile.{LoadedFile}
-use Rattle.member_rounds.specs.Collected.{all_of, behind}
-use Rattle.member_rounds.specs.Files.{IsRoundFault, file_of}
-use Rattle.member_rounds.specs.declared.fault.RoundFault.{RoundFault}
-use Rattle.member_rounds.specs.declared.input.Input.{Input}
+use Rattle.input_files.specs.Collected.{all_of, behind}
+use Rattle.input_files.specs.Files.{IsLoadFault, file_of}
+use Rattle.input_files.specs.declared.fault.LoadFault.{LoadFault}
+use Rattle.input_files.specs.declared.input.Input.{Input}
 use Rattle.member_rounds.specs.inner.Working.{ArePieces, no_id, read_each}
-use Rattle.member_rounds.specs.declared.fault.RoundFault.TheVariants.{OutOfMemory}
-use Rattle.member_rounds.proofs.CollectedLemmas.{all_append, all_fail, each_holds, pieces_are, pieces_miss}
-use Rattle.member_rounds.proofs.StateLemmas.{all_from, all_has}
+use Rattle.input_files.specs.declared.fault.LoadFault.TheVariants.{OutOfMemory}
+use Rattle.input_files.proofs.CollectedLemmas.{all_append, all_fail, each_holds, pieces_are, pieces_miss}
+use Rattle.input_files.proofs.EachLemmas.{all_from, all_has}
 
 -- ---- pieces that are what the definition gives
 
-after_ok : (before now : List LoadedFile) (r : Result (List LoadedFile) RoundFault) → behind before r ≡ Ok now → (files : List LoadedFile) × (r ≡ Ok files) × (now ≡ before ++ files)
+after_ok : (before now : List LoadedFile) (r : Result (List LoadedFile) LoadFault) → behind before r ≡ Ok now → (files : List LoadedFile) × (r ≡ Ok files) × (now ≡ before ++ files)
 after_ok before now (Ok files) is = (files, refl, sym (let s : Ok (before ++ files) ≡ Ok now = is in let t : before ++ files ≡ now = cc in t))
 after_ok before now (Err e) is = absurd (let s : Err e ≡ Ok now = is in cc)
 
-after_err : (before : List LoadedFile) (fault : RoundFault) (r : Result (List LoadedFile) RoundFault) → behind before r ≡ Err fault → r ≡ Err fault
+after_err : (before : List LoadedFile) (fault : LoadFault) (r : Result (List LoadedFile) LoadFault) → behind before r ≡ Err fault → r ≡ Err fault
 after_err before fault (Ok files) is = absurd (let s : Ok (before ++ files) ≡ Err fault = is in cc)
 after_err before fault (Err e) is = is
 
-pub pieces_read : (inputs : List Input) (ids : List FileId) (pieces : List (Result LoadedFile RoundFault)) (before now : List LoadedFile) → ArePieces inputs ids pieces → behind before (all_of pieces) ≡ Ok now → behind before (read_each inputs ids) ≡ Ok now
+pub pieces_read : (inputs : List Input) (ids : List FileId) (pieces : List (Result LoadedFile LoadFault)) (before now : List LoadedFile) → ArePieces inputs ids pieces → behind before (all_of pieces) ≡ Ok now → behind before (read_each inputs ids) ≡ Ok now
 pieces_read inputs ids pieces before now are is =
     let parts = after_ok before now (all_of pieces) is in
     ap (behind before) (pieces_are (file_of inputs) ids pieces no_id parts.0 are.count (λ job low. (are.each job (Err OutOfMemory) low).exact) parts.1) ∙ ap Ok (sym parts.2)
 
-pub pieces_fail : (inputs : List Input) (ids : List FileId) (pieces : List (Result LoadedFile RoundFault)) (before : List LoadedFile) (fault : RoundFault) → ArePieces inputs ids pieces → IsRoundFault fault → behind before (all_of pieces) ≡ Err fault → behind before (read_each inputs ids) ≡ Err fault
+pub pieces_fail : (inputs : List Input) (ids : List FileId) (pieces : List (Result LoadedFile LoadFault)) (before : List LoadedFile) (fault : LoadFault) → ArePieces inputs ids pieces → IsLoadFault fault → behind before (all_of pieces) ≡ Err fault → behind before (read_each inputs ids) ≡ Err fault
 pieces_fail inputs ids pieces before fault are real is = ap (behind before) (pieces_miss (file_of inputs) ids pieces no_id fault are.count (λ job low. (are.each job (Err OutOfMemory) low).exact) real (after_err before fault (all_of pieces) is))
 
-pub pieces_whole : (inputs : List Input) (ids : List FileId) (pieces : List (Result LoadedFile RoundFault)) (before now : List LoadedFile) → ArePieces inputs ids pieces → All IsWholeFile before → behind before (all_of pieces) ≡ Ok now → All IsWholeFile now
+pub pieces_whole : (inputs : List Input) (ids : List FileId) (pieces : List (Result LoadedFile LoadFault)) (before now : List LoadedFile) → ArePieces inputs ids pieces → All IsWholeFile before → behind before (all_of pieces) ≡ Ok now → All IsWholeFile now
 pieces_whole inputs ids pieces before now are whole is =
     let parts = after_ok before now (all_of pieces) is in
     all_from IsWholeFile now (λ file there. elim (in_either before parts.0 file (subst (λ (fs : List LoadedFile). In file fs) parts.2 there)) [
       | inl old ↦ all_has IsWholeFile before file whole old
-      | inr new ↦ each_holds IsWholeFile pieces parts.0 (λ piece at. all_has (λ (p : Result LoadedFile RoundFault). IfOk p IsWholeFile) pieces piece (λ k d low. (are.each k d (omega (arith, low, are.count))).whole) at) parts.1 file new
+      | inr new ↦ each_holds IsWholeFile pieces parts.0 (λ piece at. all_has (λ (p : Result LoadedFile LoadFault). IfOk p IsWholeFile) pieces piece (λ k d low. (are.each k d (omega (arith, low, are.count))).whole) at) parts.1 file new
     ])
 
-pub pieces_result : (inputs : List Input) (ids : List FileId) (pieces : List (Result LoadedFile RoundFault)) (before : List LoadedFile) (read : Result (List LoadedFile) RoundFault) → ArePieces inputs ids pieces → All IsWholeFile before → Gives IsRoundFault read (behind before (all_of pieces)) → IfOk read (λ all. All IsWholeFile all)
+pub pieces_result : (inputs : List Input) (ids : List FileId) (pieces : List (Result LoadedFile LoadFault)) (before : List LoadedFile) (read : Result (List LoadedFile) LoadFault) → ArePieces inputs ids pieces → All IsWholeFile before → Gives IsLoadFault read (behind before (all_of pieces)) → IfOk read (λ all. All IsWholeFile all)
 pieces_result inputs ids pieces before (Ok now) are whole is = pieces_whole inputs ids pieces before now are whole is
 pieces_result inputs ids pieces before (Err fault) are whole is = tt
 
@@ -66,10 +66,10 @@ read_more inputs ids some n m now next so are is whole = record {
   whole = whole;
 }
 
-fails_on : (inputs : List Input) (fault : RoundFault) (xs ys : List FileId) → read_each inputs xs ≡ Err fault → read_each inputs (xs ++ ys) ≡ Err fault
+fails_on : (inputs : List Input) (fault : LoadFault) (xs ys : List FileId) → read_each inputs xs ≡ Err fault → read_each inputs (xs ++ ys) ≡ Err fault
 fails_on inputs fault xs ys is = ap all_of (map-append (file_of inputs) xs ys) ∙ all_fail (map (file_of inputs) xs) (map (file_of inputs) ys) fault is
 
-pub read_stops : (inputs : List Input) (ids some : List FileId) (n m : ℕ) (now : List LoadedFile) (fault : RoundFault) → IsReadTo inputs ids n now → some ≡ take m (drop n ids) → behind now (read_each inputs some) ≡ Err fault → read_each inputs ids ≡ Err fault
+pub read_stops : (inputs : List Input) (ids some : List FileId) (n m : ℕ) (now : List LoadedFile) (fault : LoadFault) → IsReadTo inputs ids n now → some ≡ take m (drop n ids) → behind now (read_each inputs some) ≡ Err fault → read_each inputs ids ≡ Err fault
 read_stops inputs ids some n m now fault so are is =
     let front : read_each inputs (some ++ drop m (drop n ids)) ≡ Err fault = fails_on inputs fault some (drop m (drop n ids)) (after_err now fault (read_each inputs some) is) in
     ap (read_each inputs) (sym (take-append-drop n ids)) ∙ read_append inputs (take n ids) (drop n ids) now so.read

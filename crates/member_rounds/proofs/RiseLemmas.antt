@@ -13,13 +13,13 @@ use Rattle.mo_types.specs.declared.key.FileId.{FileId}
 use Rattle.mo_types.specs.declared.loaded.Loaded.{Loaded}
 use Rattle.mo_types.specs.declared.loaded.LoadedFile.{LoadedFile}
 use Rattle.lib_bind.specs.declared.library.LibraryGraph.{LibraryGraph}
-use Rattle.member_rounds.specs.Files.{file_of}
+use Rattle.input_files.specs.Files.{file_of}
 use Rattle.member_rounds.specs.Rounds.{files_of, loaded_ids, loaded_of}
-use Rattle.member_rounds.specs.Sources.{AreInOrder}
-use Rattle.member_rounds.specs.declared.fault.RoundFault.{RoundFault}
-use Rattle.member_rounds.specs.declared.input.Input.{Input}
+use Rattle.input_files.specs.Sources.{AreInOrder}
+use Rattle.input_files.specs.declared.fault.LoadFault.{LoadFault}
+use Rattle.input_files.specs.declared.input.Input.{Input}
 use Rattle.member_rounds.proofs.AnswerLemmas.{faultless, ok_back}
-use Rattle.member_rounds.proofs.FileLemmas.{id_kept, ids_rise}
+use Rattle.input_files.proofs.FileLemmas.{id_kept, ids_rise}
 use Rattle.member_rounds.proofs.StateLemmas.{union_rises}
 
 files_rise : (inputs : List Input) (ids : List FileId) → IsStrictlySortedBy compare_files ids → IsStrictlySortedBy (on (λ (f : LoadedFile). f.id) compare_files) (files_of inputs ids)
@@ -27,7 +27,7 @@ unfolding files_of IsStrictlySortedBy
 files_rise inputs [] rise = tt
 files_rise inputs (id ∷ ids) rise = by (files_rise inputs ids rise.1) (file_of inputs id) refl
   where
-    by : IsStrictlySortedBy (on (λ (f : LoadedFile). f.id) compare_files) (filter_map (λ i. result_ok (file_of inputs i)) ids) → (r : Result LoadedFile RoundFault) → file_of inputs id ≡ r → IsStrictlySortedBy (on (λ (f : LoadedFile). f.id) compare_files) (filter_map (λ i. result_ok (file_of inputs i)) (id ∷ ids))
+    by : IsStrictlySortedBy (on (λ (f : LoadedFile). f.id) compare_files) (filter_map (λ i. result_ok (file_of inputs i)) ids) → (r : Result LoadedFile LoadFault) → file_of inputs id ≡ r → IsStrictlySortedBy (on (λ (f : LoadedFile). f.id) compare_files) (filter_map (λ i. result_ok (file_of inputs i)) (id ∷ ids))
     by rest (Err e) r = rw r rest
     by rest (Ok file) r = rw r (
       all_from_in (λ (g : LoadedFile). compare_files file.id g.id ≡ Less) (filter_map (λ i. result_ok (file_of inputs i)) ids) (λ g there.

@@ -7,9 +7,9 @@ use Rattle.mo_types.specs.declared.key.FileId.{FileId}
 use Rattle.lib_bind.specs.Provides.{offer_of}
 use Rattle.lib_bind.specs.declared.library.LibraryGraph.{LibraryGraph}
 use Rattle.lib_bind.specs.declared.provider.Offer.{Offer}
-use Rattle.member_rounds.specs.Files.{all_ids}
-use Rattle.member_rounds.specs.Rounds.{asked_by, asked_ids, asks, files_of, is_first, is_header, loaded_ids, missing_names, offer_in, round, unless_before}
-use Rattle.member_rounds.specs.declared.input.Input.{Input}
+use Rattle.input_files.specs.Files.{all_ids, is_first}
+use Rattle.member_rounds.specs.Rounds.{asked_by, asked_ids, asks, files_of, is_header, loaded_ids, missing_names, offer_in, round, unless_before}
+use Rattle.input_files.specs.declared.input.Input.{Input}
 use Rattle.member_rounds.proofs.GrowthLemmas.{has_from_in, in_from_has, round_closed, round_reason}
 
 asks_for : (inputs : List Input) (libs : LibraryGraph) (wanted : List (List ℕ)) (ids : List FileId) (name : List ℕ) (id : FileId) → Contains (missing_names (files_of inputs ids) wanted) name → asked_by inputs libs name ≡ Some id → asks inputs libs wanted ids id ≡ true

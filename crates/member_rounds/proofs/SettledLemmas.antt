@@ -16,7 +16,7 @@ use Rattle.mo_types.specs.declared.object.Symbol.{Symbol}
 use Rattle.lib_bind.specs.declared.library.LibraryGraph.{LibraryGraph}
 use Rattle.member_rounds.specs.Growth.{is_in, same_file}
 use Rattle.member_rounds.specs.Rounds.{asked_by, has_candidate, is_undefined, offer_in, undefined_in}
-use Rattle.member_rounds.specs.declared.input.Input.{Input}
+use Rattle.input_files.specs.declared.input.Input.{Input}
 use Rattle.member_rounds.specs.inner.Working.{AreSettled, HaveAsked, asked_of, lists, undefined_name, undefined_of}
 use Rattle.member_rounds.proofs.AskLemmas.{asks_none}
 use Rattle.member_rounds.proofs.GrowthLemmas.{has_from_in, in_from_has}

@@ -22,27 +22,15 @@ use Rattle.lib_bind.specs.declared.library.LibraryGraph.{LibraryGraph}
 use Rattle.name_ids.specs.Names.{external_names, external_of, numbered}
 use Rattle.name_ids.proofs.Once.{distinct, all, only}
 use Rattle.member_rounds.specs.Growth.{after, is_in, union}
-use Rattle.member_rounds.specs.Files.{all_ids, file_of}
-use Rattle.member_rounds.proofs.FileLemmas.{id_kept}
-use Rattle.member_rounds.specs.Rounds.{asks, files_of, has_candidate, is_first, loaded_ids, names_fault, new_ids, round}
-use Rattle.member_rounds.specs.declared.fault.RoundFault.{RoundFault}
-use Rattle.member_rounds.specs.declared.input.Input.{Input}
+use Rattle.input_files.specs.Files.{all_ids, file_of, is_first}
+use Rattle.input_files.proofs.FileLemmas.{id_kept}
+use Rattle.member_rounds.specs.Rounds.{asks, files_of, has_candidate, loaded_ids, names_fault, new_ids, round}
+use Rattle.input_files.specs.declared.fault.LoadFault.{LoadFault}
+use Rattle.input_files.specs.declared.input.Input.{Input}
 use Rattle.member_rounds.specs.inner.Working.{AreKept, before, read_each}
+use Rattle.input_files.proofs.EachLemmas.{all_from, all_has}
 use Rattle.member_rounds.proofs.GrowthLemmas.{has_from_in, in_from_has}
 use Rattle.member_rounds.proofs.WorkLemmas.{kept_files, same_candidates, same_tests}
-
--- ---- members
-
-pub all_has : {X : Type 0} (P : X → Type 0) (xs : List X) (x : X) → All P xs → In x xs → P x
-all_has P xs x holds there = let at = Contains_from_in xs x there in subst P at.2 (holds at.0 x at.1)
-
-at_in : {X : Type 0} (xs : List X) (k : ℕ) (d : X) → k < length xs → In (get_or xs k d) xs
-at_in [] k d low = absurd (omega arith)
-at_in (x ∷ xs) zero d low = inl refl
-at_in (x ∷ xs) (suc k) d low = inr (at_in xs k d (omega arith))
-
-pub all_from : {X : Type 0} (P : X → Type 0) (xs : List X) → ((x : X) → In x xs → P x) → All P xs
-all_from P xs each = λ k d low. each (get_or xs k d) (at_in xs k d low)
 
 -- ---- what is read
 
@@ -50,7 +38,7 @@ pub each_ok : (inputs : List Input) (ids : List FileId) (files : List LoadedFile
 each_ok inputs [] files is = let e : [] ≡ files = (let s : Ok [] ≡ Ok files = is in cc) in subst (λ (fs : List LoadedFile). (first_some (λ id. result_err (file_of inputs id)) [] ≡ None) × (map (λ file. file.id) fs ≡ []) × AllByRecursion (λ file. file_of inputs file.id ≡ Ok file) fs) e (refl, refl, tt)
 each_ok inputs (id ∷ ids) files is = by (λ fs. each_ok inputs ids fs) (file_of inputs id) refl
   where
-    rest_by : ((fs : List LoadedFile) → read_each inputs ids ≡ Ok fs → (first_some (λ id. result_err (file_of inputs id)) ids ≡ None) × (map (λ file. file.id) fs ≡ ids) × AllByRecursion (λ file. file_of inputs file.id ≡ Ok file) fs) → (file : LoadedFile) → file_of inputs id ≡ Ok file → (r : Result (List LoadedFile) RoundFault) → read_each inputs ids ≡ r → (r >>= λ fs. Ok (file ∷ fs)) ≡ Ok files → (first_some (λ id. result_err (file_of inputs id)) (id ∷ ids) ≡ None) × (map (λ file. file.id) files ≡ id ∷ ids) × AllByRecursion (λ file. file_of inputs file.id ≡ Ok file) files
+    rest_by : ((fs : List LoadedFile) → read_each inputs ids ≡ Ok fs → (first_some (λ id. result_err (file_of inputs id)) ids ≡ None) × (map (λ file. file.id) fs ≡ ids) × AllByRecursion (λ file. file_of inputs file.id ≡ Ok file) fs) → (file : LoadedFile) → file_of inputs id ≡ Ok file → (r : Result (List LoadedFile) LoadFault) → read_each inputs ids ≡ r → (r >>= λ fs. Ok (file ∷ fs)) ≡ Ok files → (first_some (λ id. result_err (file_of inputs id)) (id ∷ ids) ≡ None) × (map (λ file. file.id) files ≡ id ∷ ids) × AllByRecursion (λ file. file_of inputs file.id ≡ Ok file) files
     rest_by rest file here (Err e) r s = absurd (let t : Err e ≡ Ok files = s in cc)
     rest_by rest file here (Ok fs) r s =
         let whole : file ∷ fs ≡ files = (let t : Ok (file ∷ fs) ≡ Ok files = s in cc) in
@@ -59,19 +47,19 @@ each_ok inputs (id ∷ ids) files is = by (λ fs. each_ok inputs ids fs) (file_o
         subst (λ (gs : List LoadedFile). (first_some (λ id. result_err (file_of inputs id)) (id ∷ ids) ≡ None) × (map (λ file. file.id) gs ≡ id ∷ ids) × AllByRecursion (λ file. file_of inputs file.id ≡ Ok file) gs) whole
         (rw here more.0, ap (λ (i : FileId). i ∷ map (λ (f : LoadedFile). f.id) fs) same ∙ ap (λ (l : List FileId). id ∷ l) more.1, (ap (file_of inputs) same ∙ here, more.2))
 
-    by : ((fs : List LoadedFile) → read_each inputs ids ≡ Ok fs → (first_some (λ id. result_err (file_of inputs id)) ids ≡ None) × (map (λ file. file.id) fs ≡ ids) × AllByRecursion (λ file. file_of inputs file.id ≡ Ok file) fs) → (r : Result LoadedFile RoundFault) → file_of inputs id ≡ r → (first_some (λ id. result_err (file_of inputs id)) (id ∷ ids) ≡ None) × (map (λ file. file.id) files ≡ id ∷ ids) × AllByRecursion (λ file. file_of inputs file.id ≡ Ok file) files
+    by : ((fs : List LoadedFile) → read_each inputs ids ≡ Ok fs → (first_some (λ id. result_err (file_of inputs id)) ids ≡ None) × (map (λ file. file.id) fs ≡ ids) × AllByRecursion (λ file. file_of inputs file.id ≡ Ok file) fs) → (r : Result LoadedFile LoadFault) → file_of inputs id ≡ r → (first_some (λ id. result_err (file_of inputs id)) (id ∷ ids) ≡ None) × (map (λ file. file.id) files ≡ id ∷ ids) × AllByRecursion (λ file. file_of inputs file.id ≡ Ok file) files
     by rest (Err e) r = absurd (let t : Err e ≡ Ok files = rw r at is in cc)
     by rest (Ok file) r = rest_by rest file r (read_each inputs ids) refl (rw r at is)
 
-pub each_err : (inputs : List Input) (ids : List FileId) (fault : RoundFault) → read_each inputs ids ≡ Err fault → first_some (λ id. result_err (file_of inputs id)) ids ≡ Some fault
+pub each_err : (inputs : List Input) (ids : List FileId) (fault : LoadFault) → read_each inputs ids ≡ Err fault → first_some (λ id. result_err (file_of inputs id)) ids ≡ Some fault
 each_err inputs [] fault is = absurd (let s : Ok [] ≡ Err fault = is in cc)
 each_err inputs (id ∷ ids) fault is = by (λ e. each_err inputs ids e) (file_of inputs id) refl
   where
-    rest_by : ((e : RoundFault) → read_each inputs ids ≡ Err e → first_some (λ id. result_err (file_of inputs id)) ids ≡ Some e) → (file : LoadedFile) → file_of inputs id ≡ Ok file → (r : Result (List LoadedFile) RoundFault) → read_each inputs ids ≡ r → (r >>= λ fs. Ok (file ∷ fs)) ≡ Err fault → first_some (λ id. result_err (file_of inputs id)) (id ∷ ids) ≡ Some fault
+    rest_by : ((e : LoadFault) → read_each inputs ids ≡ Err e → first_some (λ id. result_err (file_of inputs id)) ids ≡ Some e) → (file : LoadedFile) → file_of inputs id ≡ Ok file → (r : Result (List LoadedFile) LoadFault) → read_each inputs ids ≡ r → (r >>= λ fs. Ok (file ∷ fs)) ≡ Err fault → first_some (λ id. result_err (file_of inputs id)) (id ∷ ids) ≡ Some fault
     rest_by rest file here (Ok fs) r s = absurd (let t : Ok (file ∷ fs) ≡ Err fault = s in cc)
     rest_by rest file here (Err e) r s = rw here (rest fault (r ∙ (let t : Err e ≡ Err fault = s in ap Err (let u : e ≡ fault = cc in u))))
 
-    by : ((e : RoundFault) → read_each inputs ids ≡ Err e → first_some (λ id. result_err (file_of inputs id)) ids ≡ Some e) → (r : Result LoadedFile RoundFault) → file_of inputs id ≡ r → first_some (λ id. result_err (file_of inputs id)) (id ∷ ids) ≡ Some fault
+    by : ((e : LoadFault) → read_each inputs ids ≡ Err e → first_some (λ id. result_err (file_of inputs id)) ids ≡ Some e) → (r : Result LoadedFile LoadFault) → file_of inputs id ≡ r → first_some (λ id. result_err (file_of inputs id)) (id ∷ ids) ≡ Some fault
     by rest (Err e) r = rw r (let t : Err e ≡ Err fault = rw r at is in ap Some (let u : e ≡ fault = cc in u))
     by rest (Ok file) r = rest_by rest file r (read_each inputs ids) refl (rw r at is)
 
@@ -123,7 +111,7 @@ module _ (inputs : List Input) (libs : LibraryGraph) (wanted : List (List ℕ)) 
 
 -- ---- the files that are kept
 
-ok_is : (r : Result LoadedFile RoundFault) (file : LoadedFile) → result_ok r ≡ Some file → r ≡ Ok file
+ok_is : (r : Result LoadedFile LoadFault) (file : LoadedFile) → result_ok r ≡ Some file → r ≡ Ok file
 ok_is (Ok other) file is = let s : Some other ≡ Some file = is in cc
 ok_is (Err fault) file is = absurd (let s : None ≡ Some file = is in cc)
 

@@ -25,15 +25,16 @@ use Rattle.mo_types.specs.declared.key.FileId.{FileId}
 use Rattle.mo_types.specs.declared.loaded.LoadedFile.{LoadedFile}
 use Rattle.lib_bind.specs.declared.library.LibraryGraph.{LibraryGraph}
 use Rattle.member_rounds.specs.Growth.{is_in}
-use Rattle.member_rounds.specs.Files.{all_ids, file_of}
-use Rattle.member_rounds.specs.Rounds.{asked_by, asks, files_of, has_candidate, is_first, loaded_ids, loaded_of, names_fault, new_ids, round, round_fault, undefined_in}
-use Rattle.member_rounds.specs.declared.fault.RoundFault.{RoundFault}
-use Rattle.member_rounds.specs.declared.input.Input.{Input}
+use Rattle.input_files.specs.Files.{all_ids, file_of, is_first}
+use Rattle.member_rounds.specs.Rounds.{asked_by, asks, files_of, has_candidate, loaded_ids, loaded_of, names_fault, new_ids, round, round_fault, undefined_in}
+use Rattle.input_files.specs.declared.fault.LoadFault.{LoadFault}
+use Rattle.input_files.specs.declared.input.Input.{Input}
 use Rattle.member_rounds.specs.inner.Working.{AreKept, AreSettled, HaveAsked, IsBetween, asked_of, first_names, lists, read_each}
 use Rattle.member_rounds.proofs.GrowthLemmas.{has_from_in, in_from_has, round_ends}
 use Rattle.member_rounds.proofs.SettledLemmas.{after_settled, asked_alike, noted_settled}
 use Rattle.member_rounds.proofs.WorkLemmas.{asking, fresh_in, fresh_or_before, or_cases, next_is, round_brings, same_tests, stays_in}
-use Rattle.member_rounds.proofs.StateLemmas.{all_has, each_err, each_ok, kept_candidates, fresh_rises, kept_more, kept_names, round_rises, same_ids}
+use Rattle.input_files.proofs.EachLemmas.{all_has}
+use Rattle.member_rounds.proofs.StateLemmas.{each_err, each_ok, kept_candidates, fresh_rises, kept_more, kept_names, round_rises, same_ids}
 
 any_append : {X : Type 0} (p : X → Bool) (xs ys : List X) → list_any p (xs ++ ys) ≡ (list_any p xs || list_any p ys)
 any_append p [] ys = refl
@@ -64,19 +65,19 @@ unfolding files_of
 each_files inputs [] files is = let e : [] ≡ files = (let s : Ok [] ≡ Ok files = is in cc) in sym e
 each_files inputs (id ∷ ids) files is = by (λ fs. each_files inputs ids fs) (file_of inputs id) refl
   where
-    rest_by : ((fs : List LoadedFile) → read_each inputs ids ≡ Ok fs → fs ≡ filter_map (λ i. result_ok (file_of inputs i)) ids) → (file : LoadedFile) → file_of inputs id ≡ Ok file → (r : Result (List LoadedFile) RoundFault) → read_each inputs ids ≡ r → (r >>= λ fs. Ok (file ∷ fs)) ≡ Ok files → files ≡ filter_map (λ i. result_ok (file_of inputs i)) (id ∷ ids)
+    rest_by : ((fs : List LoadedFile) → read_each inputs ids ≡ Ok fs → fs ≡ filter_map (λ i. result_ok (file_of inputs i)) ids) → (file : LoadedFile) → file_of inputs id ≡ Ok file → (r : Result (List LoadedFile) LoadFault) → read_each inputs ids ≡ r → (r >>= λ fs. Ok (file ∷ fs)) ≡ Ok files → files ≡ filter_map (λ i. result_ok (file_of inputs i)) (id ∷ ids)
     rest_by rest file here (Err e) r s = absurd (let t : Err e ≡ Ok files = s in cc)
     rest_by rest file here (Ok fs) r s =
         let whole : file ∷ fs ≡ files = (let t : Ok (file ∷ fs) ≡ Ok files = s in cc) in
         rw here (sym whole ∙ ap (λ (l : List LoadedFile). file ∷ l) (rest fs r))
 
-    by : ((fs : List LoadedFile) → read_each inputs ids ≡ Ok fs → fs ≡ filter_map (λ i. result_ok (file_of inputs i)) ids) → (r : Result LoadedFile RoundFault) → file_of inputs id ≡ r → files ≡ filter_map (λ i. result_ok (file_of inputs i)) (id ∷ ids)
+    by : ((fs : List LoadedFile) → read_each inputs ids ≡ Ok fs → fs ≡ filter_map (λ i. result_ok (file_of inputs i)) ids) → (r : Result LoadedFile LoadFault) → file_of inputs id ≡ r → files ≡ filter_map (λ i. result_ok (file_of inputs i)) (id ∷ ids)
     by rest (Err e) r = absurd (let t : Err e ≡ Ok files = rw r at is in cc)
     by rest (Ok file) r = rest_by rest file r (read_each inputs ids) refl (rw r at is)
 
 -- ---- faults
 
-first_at : (f : ℕ → Option RoundFault) (n a k : ℕ) (fault : RoundFault) → k < n → ((j : ℕ) → j < k → f (a + j) ≡ None) → f (a + k) ≡ Some fault → first_some f (range_with_len a n) ≡ Some fault
+first_at : (f : ℕ → Option LoadFault) (n a k : ℕ) (fault : LoadFault) → k < n → ((j : ℕ) → j < k → f (a + j) ≡ None) → f (a + k) ≡ Some fault → first_some f (range_with_len a n) ≡ Some fault
 first_at f zero a k fault low none is = absurd (omega (arith, low))
 first_at f (suc n) a zero fault low none is =
     let here : f a ≡ Some fault = subst (λ (m : ℕ). f m ≡ Some fault) (let e : a + 0 ≡ a = omega arith in e) is in
@@ -88,7 +89,7 @@ first_at f (suc n) a (suc k) fault low none is =
     (subst (λ (m : ℕ). f m ≡ Some fault) (let e : a + suc k ≡ (a + 1) + k = omega arith in e) is) in
     rw here rest
 
-none_in : (f : ℕ → Option RoundFault) (n a : ℕ) → ((j : ℕ) → j < n → f (a + j) ≡ None) → first_some f (range_with_len a n) ≡ None
+none_in : (f : ℕ → Option LoadFault) (n a : ℕ) → ((j : ℕ) → j < n → f (a + j) ≡ None) → first_some f (range_with_len a n) ≡ None
 none_in f zero a none = refl
 none_in f (suc n) a none =
     let here : f a ≡ None = subst (λ (m : ℕ). f m ≡ None) (let e : a + 0 ≡ a = omega arith in e) (none 0 (omega arith)) in
@@ -119,7 +120,7 @@ module _ (inputs : List Input) (libs : LibraryGraph) (wanted : List (List ℕ)) 
   abbrev ended : ℕ
   ended = length (all_ids inputs)
 
-  loaded_fails : (k : ℕ) (fault : RoundFault) → k < ended + 1 → ((j : ℕ) → j < k → round_fault inputs libs wanted j ≡ None) → round_fault inputs libs wanted k ≡ Some fault → loaded_of inputs libs wanted ≡ Err fault
+  loaded_fails : (k : ℕ) (fault : LoadFault) → k < ended + 1 → ((j : ℕ) → j < k → round_fault inputs libs wanted j ≡ None) → round_fault inputs libs wanted k ≡ Some fault → loaded_of inputs libs wanted ≡ Err fault
   unfolding loaded_of
   loaded_fails k fault low none is =
       let first : first_some (round_fault inputs libs wanted) (range_with_len 0 (ended + 1)) ≡ Some fault = first_at (round_fault inputs libs wanted) (ended + 1) 0 k fault low
@@ -133,11 +134,11 @@ module _ (inputs : List Input) (libs : LibraryGraph) (wanted : List (List ℕ)) 
       let all_none : first_some (round_fault inputs libs wanted) (range_with_len 0 (ended + 1)) ≡ None = none_in (round_fault inputs libs wanted) (ended + 1) 0 (λ j below. subst (λ (m : ℕ). round_fault inputs libs wanted m ≡ None) (let e : j ≡ 0 + j = omega arith in e) (none j below)) in
       rw all_none refl
 
-  fault_of_file : (k : ℕ) (fault : RoundFault) → first_some (λ id. result_err (file_of inputs id)) (fresh k) ≡ Some fault → round_fault inputs libs wanted k ≡ Some fault
+  fault_of_file : (k : ℕ) (fault : LoadFault) → first_some (λ id. result_err (file_of inputs id)) (fresh k) ≡ Some fault → round_fault inputs libs wanted k ≡ Some fault
   unfolding round_fault
   fault_of_file k fault is = rw is refl
 
-  fault_of_names : (k : ℕ) (r : Option RoundFault) → first_some (λ id. result_err (file_of inputs id)) (fresh k) ≡ None → names_fault (files_of inputs (among k)) wanted ≡ r → round_fault inputs libs wanted k ≡ r
+  fault_of_names : (k : ℕ) (r : Option LoadFault) → first_some (λ id. result_err (file_of inputs id)) (fresh k) ≡ None → names_fault (files_of inputs (among k)) wanted ≡ r → round_fault inputs libs wanted k ≡ r
   unfolding round_fault
   fault_of_names k r none is = rw none is
 
@@ -145,7 +146,7 @@ module _ (inputs : List Input) (libs : LibraryGraph) (wanted : List (List ℕ)) 
   unfolding round_fault
   names_of_fault k none = by (first_some (λ id. result_err (file_of inputs id)) (fresh k)) refl
     where
-      by : (o : Option RoundFault) → first_some (λ id. result_err (file_of inputs id)) (fresh k) ≡ o → names_fault (files_of inputs (among k)) wanted ≡ None
+      by : (o : Option LoadFault) → first_some (λ id. result_err (file_of inputs id)) (fresh k) ≡ o → names_fault (files_of inputs (among k)) wanted ≡ None
       by (Some fault) o = absurd (let s : Some fault ≡ None = rw o at none in cc)
       by None o = rw o at none
 
@@ -169,10 +170,10 @@ module _ (inputs : List Input) (libs : LibraryGraph) (wanted : List (List ℕ)) 
       or_right true b e = refl
       or_right false b e = e
 
-  pub read_fails : (k : ℕ) (kept : List LoadedFile) (settled : List (List ℕ)) (left new : List FileId) (fault : RoundFault) → IsBetween inputs libs wanted k kept settled left new → read_each inputs new ≡ Err fault → k < ended + 1 → loaded_of inputs libs wanted ≡ Err fault
+  pub read_fails : (k : ℕ) (kept : List LoadedFile) (settled : List (List ℕ)) (left new : List FileId) (fault : LoadFault) → IsBetween inputs libs wanted k kept settled left new → read_each inputs new ≡ Err fault → k < ended + 1 → loaded_of inputs libs wanted ≡ Err fault
   read_fails k kept settled left new fault so is low = loaded_fails k fault low so.no_fault (fault_of_file k fault (each_err inputs (fresh k) fault (subst (λ (ids : List FileId). read_each inputs ids ≡ Err fault) so.new_are is)))
 
-  pub names_fail : (k : ℕ) (kept files more : List LoadedFile) (settled : List (List ℕ)) (left new : List FileId) (fault : RoundFault) → IsBetween inputs libs wanted k kept settled left new → read_each inputs new ≡ Ok files → more ≡ kept ++ files → names_fault more wanted ≡ Some fault → k < ended + 1 → loaded_of inputs libs wanted ≡ Err fault
+  pub names_fail : (k : ℕ) (kept files more : List LoadedFile) (settled : List (List ℕ)) (left new : List FileId) (fault : LoadFault) → IsBetween inputs libs wanted k kept settled left new → read_each inputs new ≡ Ok files → more ≡ kept ++ files → names_fault more wanted ≡ Some fault → k < ended + 1 → loaded_of inputs libs wanted ≡ Err fault
   names_fail k kept files more settled left new fault so is grown faulty low =
       let read : read_each inputs (fresh k) ≡ Ok files = subst (λ (ids : List FileId). read_each inputs ids ≡ Ok files) so.new_are is in
       let are : AreKept inputs (among k) more = kept_more inputs libs wanted k kept files more so.files read grown in

@@ -9,9 +9,9 @@ use Rattle.mo_types.specs.declared.key.FileId.{FileId}
 use Rattle.mo_types.specs.declared.loaded.LoadedFile.{LoadedFile}
 use Rattle.lib_bind.specs.declared.library.LibraryGraph.{LibraryGraph}
 use Rattle.member_rounds.specs.Growth.{after, is_in}
-use Rattle.member_rounds.specs.Files.{all_ids, file_of}
-use Rattle.member_rounds.specs.Rounds.{asked_by, asked_ids, asks, files_of, has_candidate, is_first, missing_names, new_ids, round, undefined_in, wanted_names}
-use Rattle.member_rounds.specs.declared.input.Input.{Input}
+use Rattle.input_files.specs.Files.{all_ids, file_of, is_first}
+use Rattle.member_rounds.specs.Rounds.{asked_by, asked_ids, asks, files_of, has_candidate, missing_names, new_ids, round, undefined_in, wanted_names}
+use Rattle.input_files.specs.declared.input.Input.{Input}
 use Rattle.member_rounds.specs.inner.Working.{asked_of, first_names}
 use Rattle.member_rounds.proofs.GrowthLemmas.{has_from_in, in_from_has}
 

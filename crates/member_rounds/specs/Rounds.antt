@@ -1,5 +1,5 @@
 -- The files that a link loads, round by round.
-use Rattle.std.specs.Prelude.{ℕ, zero, suc, ◌+◌, ◌^◌, ◌==◌, ◌&&◌, ◌||◌, ◌++◌, Bool, true, false, not, nat_lt, List, codes, length, map, filter, Option, Some, None, option_map, Result, Ok, Err, if◌then◌else◌}
+use Rattle.std.specs.Prelude.{ℕ, zero, suc, ◌+◌, ◌^◌, ◌&&◌, ◌||◌, ◌++◌, Bool, true, false, not, nat_lt, List, codes, length, map, filter, Option, Some, None, option_map, Result, Ok, Err, if◌then◌else◌}
 use Rattle.std.specs.List.{filter_map, flat_map, list_any, range_with_len}
 use Rattle.std.specs.Result.{result_err, result_ok}
 use Rattle.std.specs.Str.{bytes_eq}
@@ -19,10 +19,10 @@ use Rattle.lib_bind.specs.declared.library.LibraryGraph.{LibraryGraph}
 use Rattle.lib_bind.specs.declared.provider.Offer.{Offer}
 use Rattle.name_ids.specs.Names.{external_names, numbered}
 use Rattle.member_rounds.specs.Growth.{after, is_in, union}
-use Rattle.member_rounds.specs.Files.{all_ids, archive_in, file_of, id_at}
-use Rattle.member_rounds.specs.declared.fault.RoundFault.{RoundFault}
-use Rattle.member_rounds.specs.declared.fault.RoundFault.TheVariants as rounds
-use Rattle.member_rounds.specs.declared.input.Input.{Input}
+use Rattle.input_files.specs.Files.{all_ids, archive_in, file_of, id_at, is_first}
+use Rattle.input_files.specs.declared.fault.LoadFault.{LoadFault}
+use Rattle.input_files.specs.declared.fault.LoadFault.TheVariants as rounds
+use Rattle.input_files.specs.declared.input.Input.{Input}
 
 -- ---- what names ask for
 
@@ -72,10 +72,6 @@ missing_names files wanted = filter (λ name. not (has_candidate files name)) (w
 
 -- ---- rounds
 
--- an object, or a member of an archive of which all are loaded
-unfoldable pub is_first : List Input → FileId → Bool
-is_first inputs id = list_any (λ input. (input.position == id.position) && ((id.member == 0) || input.forced)) inputs
-
 -- the files among these that can be read
 unfoldable pub files_of : List Input → List FileId → List LoadedFile
 files_of inputs ids = filter_map (λ id. result_ok (file_of inputs id)) ids
@@ -104,17 +100,17 @@ new_ids inputs libs wanted zero = round inputs libs wanted zero
 new_ids inputs libs wanted (suc k) = filter (λ id. not (is_in (round inputs libs wanted k) id)) (round inputs libs wanted (suc k))
 
 -- there are fewer than 2^24 names
-abbrev pub names_fault : List LoadedFile → List (List ℕ) → Option RoundFault
+abbrev pub names_fault : List LoadedFile → List (List ℕ) → Option LoadFault
 names_fault files wanted = if nat_lt (length (numbered (external_names files ++ wanted))) (2 ^ 24) then None else Some (rounds.Refused (refusal.Limit Names))
 
 -- the fault of a round: that of the least of its new files that has one, and then that of too many names
-unfoldable pub round_fault : List Input → LibraryGraph → List (List ℕ) → ℕ → Option RoundFault
+unfoldable pub round_fault : List Input → LibraryGraph → List (List ℕ) → ℕ → Option LoadFault
 round_fault inputs libs wanted k = option_or_else (first_some (λ id. result_err (file_of inputs id)) (new_ids inputs libs wanted k)) (names_fault (files_of inputs (round inputs libs wanted k)) wanted)
 
-abbrev pub loaded_unless : Option RoundFault → List LoadedFile → Result Loaded RoundFault
+abbrev pub loaded_unless : Option LoadFault → List LoadedFile → Result Loaded LoadFault
 loaded_unless None files = Ok (record { files = files })
 loaded_unless (Some fault) files = Err fault
 
 -- the files that a link loads, or the fault of the first round that has one
-unfoldable pub loaded_of : List Input → LibraryGraph → List (List ℕ) → Result Loaded RoundFault
+unfoldable pub loaded_of : List Input → LibraryGraph → List (List ℕ) → Result Loaded LoadFault
 loaded_of inputs libs wanted = loaded_unless (first_some (round_fault inputs libs wanted) (range_with_len 0 (length (all_ids inputs) + 1))) (files_of inputs (loaded_ids inputs libs wanted))

@@ -14,7 +14,7 @@ use std::alloc::Global;
 
 /// What names have asked for.
 #[derive(Drop)]
-pub(crate) struct Asked {
+pub(crate) struct Requests {
     /// The files.
     pub(crate) ids: Vec<FileId>,
     /// The names that needn't ask: those that have a candidate or have asked.
@@ -30,33 +30,33 @@ fn is_undefined(symbol: &Symbol) -> bool
 // With what a name asks for that isn't settled.
 #[tactic(auto, using(crate::proofs::SettledLemmas::one_name))]
 fn ask_new_name(
-    before: Asked,
+    before: Requests,
     offers: &OfferIndex,
     libs: &Libraries,
     name: &Bytes,
-) -> Result<Asked, OutOfMemory>
+) -> Result<Requests, OutOfMemory>
     requires { lists before.settled name.now ≡ false }
     ensures { IfOk result (λ after. HaveAsked offers.now libs.now before.ids.items before.settled after.ids.items after.settled (name.now ∷ [])) }
 {
-    let Asked { mut ids, settled } = before;
+    let Requests { mut ids, settled } = before;
     let settled = settled.with(name)?;
     match asked_by(offers, libs, name.as_slice()) {
         Some(id) => {
             ids.push(id)?;
-            Ok(Asked { ids, settled })
+            Ok(Requests { ids, settled })
         }
-        None => Ok(Asked { ids, settled }),
+        None => Ok(Requests { ids, settled }),
     }
 }
 
 // With what a name asks for.
 #[tactic(auto, using(crate::proofs::SettledLemmas::asked_before))]
 fn ask_name(
-    before: Asked,
+    before: Requests,
     offers: &OfferIndex,
     libs: &Libraries,
     name: &Bytes,
-) -> Result<Asked, OutOfMemory>
+) -> Result<Requests, OutOfMemory>
     ensures { IfOk result (λ after. HaveAsked offers.now libs.now before.ids.items before.settled after.ids.items after.settled (name.now ∷ [])) }
 {
     if before.settled.contains(name) {
@@ -68,11 +68,11 @@ fn ask_name(
 // With what a symbol's name asks for, where it is undefined.
 #[tactic(auto, using(crate::proofs::SettledLemmas::one_symbol))]
 fn ask_symbol(
-    before: Asked,
+    before: Requests,
     offers: &OfferIndex,
     libs: &Libraries,
     symbol: &Symbol,
-) -> Result<Asked, OutOfMemory>
+) -> Result<Requests, OutOfMemory>
     ensures { IfOk result (λ after. HaveAsked offers.now libs.now before.ids.items before.settled after.ids.items after.settled (undefined_name symbol.now)) }
 {
     if is_undefined(symbol) {
@@ -85,11 +85,11 @@ fn ask_symbol(
 // With what the names of the undefined ones among some symbols ask for.
 #[tactic(auto, using(crate::proofs::SettledLemmas::symbols))]
 fn ask_symbols(
-    before: Asked,
+    before: Requests,
     offers: &OfferIndex,
     libs: &Libraries,
     symbols: &[Symbol],
-) -> Result<Asked, OutOfMemory>
+) -> Result<Requests, OutOfMemory>
     ensures { IfOk result (λ after. HaveAsked offers.now libs.now before.ids.items before.settled after.ids.items after.settled (undefined_of symbols.now)) }
 {
     let mut asked = before;
@@ -102,11 +102,11 @@ fn ask_symbols(
 // With what a file's names ask for.
 #[tactic(auto, unfolding(crate::specs::Rounds::undefined_in))]
 fn ask_file(
-    before: Asked,
+    before: Requests,
     offers: &OfferIndex,
     libs: &Libraries,
     file: &LoadedFile,
-) -> Result<Asked, OutOfMemory>
+) -> Result<Requests, OutOfMemory>
     ensures { IfOk result (λ after. HaveAsked offers.now libs.now before.ids.items before.settled after.ids.items after.settled (undefined_in file.now)) }
 {
     ask_symbols(before, offers, libs, file.object.symbols.as_slice())
@@ -115,11 +115,11 @@ fn ask_file(
 // With what the names of files ask for.
 #[tactic(auto, using(crate::proofs::SettledLemmas::files))]
 fn ask_files(
-    before: Asked,
+    before: Requests,
     offers: &OfferIndex,
     libs: &Libraries,
     files: &[LoadedFile],
-) -> Result<Asked, OutOfMemory>
+) -> Result<Requests, OutOfMemory>
     ensures { IfOk result (λ after. HaveAsked offers.now libs.now before.ids.items before.settled after.ids.items after.settled (flat_map undefined_in files.now)) }
 {
     let mut asked = before;
@@ -132,11 +132,11 @@ fn ask_files(
 // With what names ask for.
 #[tactic(auto, using(crate::proofs::SettledLemmas::names))]
 fn ask_names(
-    before: Asked,
+    before: Requests,
     offers: &OfferIndex,
     libs: &Libraries,
     names: &[Bytes],
-) -> Result<Asked, OutOfMemory>
+) -> Result<Requests, OutOfMemory>
     ensures { IfOk result (λ after. HaveAsked offers.now libs.now before.ids.items before.settled after.ids.items after.settled names.now) }
 {
     let mut asked = before;
@@ -156,13 +156,13 @@ pub(crate) fn ask_all(
     settled: NameSet,
     files: &[LoadedFile],
     names: &[Bytes],
-) -> Result<Asked, OutOfMemory>
+) -> Result<Requests, OutOfMemory>
     ensures { IfOk result (λ after. HaveAsked offers.now libs.now [] settled after.ids.items after.settled (flat_map undefined_in files.now ++ names.now)) }
 {
     let ids = Vec::new(alloc);
     if offers.is_empty() {
-        return Ok(Asked { ids, settled });
+        return Ok(Requests { ids, settled });
     }
-    let asked = ask_files(Asked { ids, settled }, offers, libs, files)?;
+    let asked = ask_files(Requests { ids, settled }, offers, libs, files)?;
     ask_names(asked, offers, libs, names)
 }

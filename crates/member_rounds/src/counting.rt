@@ -1,10 +1,10 @@
 //! How many names files have.
 ghost use Rattle.std.specs.Prelude.{◌≡◌, ◌+◌, ◌^◌, ◌<◌, ◌≤◌, ◌++◌, length, IfErr, IfOk, None, Some};
 ghost use Rattle.name_ids.specs.Names.{external_names, external_of, numbered};
-ghost use Rattle.member_rounds.specs.Files.{IsRoundFault};
+ghost use Rattle.input_files.specs.Files.{IsLoadFault};
 ghost use Rattle.member_rounds.specs.Rounds.{names_fault};
 
-use crate::fault::RoundFault;
+use input_files::LoadFault;
 use mo_types::{Loaded, LoadedFile, NameList, Refusal, Which};
 use name_ids::{GatherFault, gather};
 use std::alloc::Global;
@@ -41,21 +41,21 @@ pub(crate) fn spare_names(
     count: usize,
     kept: &Loaded,
     wanted: &NameList,
-) -> Result<usize, RoundFault>
+) -> Result<usize, LoadFault>
     requires { count < spare → length (numbered (external_names kept.now.files ++ wanted.now)) + spare ≤ 2 ^ 24 + count }
     ensures few { IfOk result (λ spare. names_fault kept.now.files wanted.now ≡ None) }
     ensures spare { IfOk result (λ spare. length (numbered (external_names kept.now.files ++ wanted.now)) + spare ≤ 2 ^ 24) }
-    ensures fault { IfErr result (λ fault. IsRoundFault fault → names_fault kept.now.files wanted.now ≡ Some fault) }
+    ensures fault { IfErr result (λ fault. IsLoadFault fault → names_fault kept.now.files wanted.now ≡ Some fault) }
 {
     if count < spare {
         return Ok(spare - count);
     }
     match gather(alloc, kept, wanted) {
         Ok(all) => Ok(LIMIT - all.names.len() as usize),
-        Err(GatherFault::Names) => Err(RoundFault::Refused(Refusal::Limit {
+        Err(GatherFault::Names) => Err(LoadFault::Refused(Refusal::Limit {
             which: Which::Names,
         })),
-        Err(GatherFault::OutOfMemory) => Err(RoundFault::OutOfMemory),
+        Err(GatherFault::OutOfMemory) => Err(LoadFault::OutOfMemory),
     }
 }
 

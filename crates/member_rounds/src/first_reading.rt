@@ -2,16 +2,14 @@
 ghost use Rattle.std.specs.Prelude.{◌≡◌, ◌==◌, filter, not, All, IfOk};
 ghost use Rattle.mo_types.specs.Gives.{Gives};
 ghost use Rattle.mo_types.specs.Loaded.{IsWholeFile};
-ghost use Rattle.member_rounds.specs.Files as files;
-ghost use Rattle.member_rounds.specs.Files.{IsRoundFault};
-ghost use Rattle.member_rounds.specs.Rounds as rounds;
-ghost use Rattle.member_rounds.specs.Sources.{AreInOrder, AreObjects, inputs_of};
+ghost use Rattle.input_files.specs.Files as files;
+ghost use Rattle.input_files.specs.Files.{IsLoadFault};
+ghost use Rattle.input_files.specs.Sources.{AreInOrder, AreObjects, inputs_of};
 ghost use Rattle.member_rounds.specs.inner.Working.{read_each};
 
-use crate::fault::RoundFault;
 use crate::in_order::{in_order, with_files};
 use crate::round_reading::read_all;
-use crate::sources::Source;
+use input_files::{LoadFault, Source};
 use mo_outside::Gate;
 use mo_types::{FileId, Loaded, LoadedList, OutOfMemory};
 use std::alloc::Global;
@@ -39,11 +37,11 @@ pub(crate) fn read_first<R: Threads + Sync, G: Gate + Sync>(
     sources: &[Source],
     objects: LoadedList,
     ids: &[FileId],
-) -> Result<LoadedList, RoundFault>
+) -> Result<LoadedList, LoadFault>
     requires order { AreInOrder (inputs_of sources.now) }
     requires objects { AreObjects (inputs_of sources.now) objects }
-    requires ids { ids.now ≡ filter (rounds.is_first (inputs_of sources.now)) (files.all_ids (inputs_of sources.now)) }
-    ensures exact { Gives IsRoundFault result (read_each (inputs_of sources.now) ids.now) }
+    requires ids { ids.now ≡ filter (files.is_first (inputs_of sources.now)) (files.all_ids (inputs_of sources.now)) }
+    ensures exact { Gives IsLoadFault result (read_each (inputs_of sources.now) ids.now) }
     ensures whole { IfOk result (λ files. All IsWholeFile files) }
 {
     let members = members_of(alloc, ids)?;

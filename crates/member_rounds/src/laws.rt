@@ -1,29 +1,18 @@
-//! What holds of races of names and of files that come round by round, each on a call that does nothing.
-ghost use Rattle.std.specs.Prelude.{◌≡◌, ℕ, ◌+◌, ◌<◌, ◌≤◌, ◌⊎◌, Bool, List, length, replicate, slice_get, slice_index, None, Ok, Some, Contains, true};
+//! What holds of files that come round by round, each on a call that does nothing.
+ghost use Rattle.std.specs.Prelude.{◌≡◌, ℕ, ◌+◌, ◌<◌, ◌≤◌, ◌⊎◌, Bool, List, length, None, Ok, Some, Contains, true};
 ghost use Rattle.std.specs.List.{AllPairs};
-ghost use Rattle.mo_types.specs.Candidates.{least, no_word};
 ghost use Rattle.mo_types.specs.Loaded.{IsBefore};
 ghost use Rattle.mo_types.specs.declared.key.FileId.{FileId};
 ghost use Rattle.mo_types.specs.declared.loaded.Loaded.{Loaded};
 ghost use Rattle.mo_types.specs.declared.loaded.LoadedFile.{LoadedFile};
-ghost use Rattle.name_ids.specs.Names.{numbered};
-ghost use Rattle.race_core.specs.Run.{run};
 ghost use Rattle.member_rounds.specs.Growth.{after, union};
-ghost use Rattle.member_rounds.specs.Offers.{bids_of};
-ghost use Rattle.member_rounds.specs.Files.{all_ids, file_of};
-ghost use Rattle.member_rounds.specs.Rounds.{asked_by, files_of, is_first, is_header, loaded_ids, loaded_of, missing_names, round};
-ghost use Rattle.member_rounds.specs.Sources.{AreInOrder};
-ghost use Rattle.member_rounds.specs.declared.input.Input.{Input};
+ghost use Rattle.input_files.specs.Files.{all_ids, file_of, is_first};
+ghost use Rattle.member_rounds.specs.Rounds.{asked_by, files_of, is_header, loaded_ids, loaded_of, missing_names, round};
+ghost use Rattle.input_files.specs.Sources.{AreInOrder};
+ghost use Rattle.input_files.specs.declared.input.Input.{Input};
 ghost use Rattle.lib_bind.specs.Provides.{offer_of};
 ghost use Rattle.lib_bind.specs.declared.library.LibraryGraph.{LibraryGraph};
 ghost use Rattle.lib_bind.specs.declared.provider.Offer.{Offer};
-
-/// Where no name has a word at the start, a race over the candidates of files leaves for each name the least of its
-/// candidates' words, and none where it has no candidate.
-#[tactic(auto, using(crate::proofs::LeastLemmas::races))]
-pub fn words_are_the_least()
-    ensures { (files : List LoadedFile) (names : List (List ℕ)) (id : ℕ) (name : List ℕ) → slice_get (numbered names) id ≡ Some name → slice_index (run (replicate (length (numbered names)) no_word) (bids_of (numbered names) files)) id ≡ least files name }
-{}
 
 /// A round keeps the files of the one before, and has none that isn't in the list.
 #[tactic(auto, using(crate::proofs::GrowthLemmas::rounds))]

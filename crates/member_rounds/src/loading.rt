@@ -8,19 +8,17 @@ ghost use Rattle.mo_types.specs.Loaded.{IsWholeLoaded};
 ghost use Rattle.mo_types.specs.declared.key.FileId.{FileId};
 ghost use Rattle.name_ids.specs.Names.{external_names};
 ghost use Rattle.lib_bind.specs.declared.library.LibraryGraph.{LibraryGraph};
-ghost use Rattle.member_rounds.specs.Files as files;
-ghost use Rattle.member_rounds.specs.Files.{HasLowAtoms, IsRoundFault};
+ghost use Rattle.input_files.specs.Files as files;
+ghost use Rattle.input_files.specs.Files.{HasLowAtoms, IsLoadFault};
 ghost use Rattle.member_rounds.specs.Rounds.{asked_by, has_candidate, loaded_of, undefined_in};
 ghost use Rattle.member_rounds.specs.Growth.{is_in};
-ghost use Rattle.member_rounds.specs.Sources.{AreInOrder, AreObjects, inputs_of};
+ghost use Rattle.input_files.specs.Sources.{AreInOrder, AreObjects, inputs_of};
 ghost use Rattle.member_rounds.specs.inner.Linking.{IsLinkAt, IsReadAt};
 ghost use Rattle.member_rounds.specs.inner.Working as working;
 ghost use Rattle.member_rounds.specs.inner.Working.{HaveAsked};
 
-use crate::all_files::{all_ids, first_ids};
-use crate::asking::{Asked, ask_all};
+use crate::asking::{Requests, ask_all};
 use crate::counting::{first_spare, names_of, spare_names};
-use crate::fault::RoundFault;
 use crate::first_reading::read_first;
 use crate::id_set::IdSet;
 use crate::in_order::{in_order, with_files};
@@ -28,8 +26,8 @@ use crate::name_set::NameSet;
 use crate::noting::note_files;
 use crate::offer_index::OfferIndex;
 use crate::round_reading::read_all;
-use crate::sources::Source;
 use crate::taking::{left_of, take_next};
+use input_files::{LoadFault, Source, all_ids, first_ids};
 use lib_bind::Libraries;
 use mo_outside::Gate;
 use mo_types::{Bytes, FileId, Loaded, LoadedList, NameList, OutOfMemory};
@@ -119,7 +117,7 @@ fn ask_new(
     read: &LoadedList,
     wanted: &NameList,
     rounds: usize,
-) -> Result<Asked, OutOfMemory>
+) -> Result<Requests, OutOfMemory>
     ensures { IfOk result (λ after. HaveAsked offers.now libs.now [] settled after.ids.items after.settled (flat_map undefined_in read.now ++ working.first_names wanted.now rounds)) }
 {
     let names = first_names(wanted, rounds);
@@ -154,12 +152,12 @@ fn join_round(
     wanted: &NameList,
     link: Link,
     read: LoadedList,
-) -> Result<Link, RoundFault>
+) -> Result<Link, LoadFault>
     requires read { IsReadAt offers.now libs.now wanted.now link read }
     requires few { link.rounds < 2 ^ 63 }
     ensures rounds { IfOk result (λ next. next.rounds ≡ link.rounds + 1) }
     ensures link { IfOk result (λ next. IsLinkAt offers.now libs.now wanted.now next) }
-    ensures fault { IfErr result (λ fault. IsRoundFault fault → loaded_of offers.now libs.now wanted.now ≡ Err fault) }
+    ensures fault { IfErr result (λ fault. IsLoadFault fault → loaded_of offers.now libs.now wanted.now ≡ Err fault) }
 {
     let Link {
         rounds,
@@ -170,7 +168,7 @@ fn join_round(
         spare,
     } = link;
     let settled = note_new(offers, settled, &read)?;
-    let Asked { ids, settled } = ask_new(alloc, offers, libs, settled, &read, wanted, rounds)?;
+    let Requests { ids, settled } = ask_new(alloc, offers, libs, settled, &read, wanted, rounds)?;
     let count = count_new(&read);
     let kept = with_files(kept, read)?;
     let spare = match spare_names(alloc, spare, count, &kept, wanted) {
@@ -200,7 +198,7 @@ fn first_round<R: Threads + Sync, G: Gate + Sync>(
     libs: &Libraries,
     wanted: &NameList,
     link: Link,
-) -> Result<Link, RoundFault>
+) -> Result<Link, LoadFault>
     requires order { AreInOrder (inputs_of sources.now) }
     requires objects { AreObjects (inputs_of sources.now) objects }
     requires offers { offers.now ≡ inputs_of sources.now }
@@ -208,7 +206,7 @@ fn first_round<R: Threads + Sync, G: Gate + Sync>(
     requires first { link.rounds ≡ 0 }
     ensures rounds { IfOk result (λ next. next.rounds ≡ 1) }
     ensures link { IfOk result (λ next. IsLinkAt (inputs_of sources.now) libs.now wanted.now next) }
-    ensures fault { IfErr result (λ fault. IsRoundFault fault → loaded_of (inputs_of sources.now) libs.now wanted.now ≡ Err fault) }
+    ensures fault { IfErr result (λ fault. IsLoadFault fault → loaded_of (inputs_of sources.now) libs.now wanted.now ≡ Err fault) }
 {
     let read = match read_first(
         rt,
@@ -236,7 +234,7 @@ fn next_round<R: Threads + Sync, G: Gate + Sync>(
     libs: &Libraries,
     wanted: &NameList,
     link: Link,
-) -> Result<Link, RoundFault>
+) -> Result<Link, LoadFault>
     requires order { AreInOrder (inputs_of sources.now) }
     requires offers { offers.now ≡ inputs_of sources.now }
     requires link { IsLinkAt (inputs_of sources.now) libs.now wanted.now link }
@@ -244,7 +242,7 @@ fn next_round<R: Threads + Sync, G: Gate + Sync>(
     requires few { link.rounds < 2 ^ 63 }
     ensures rounds { IfOk result (λ next. next.rounds ≡ link.rounds + 1) }
     ensures link { IfOk result (λ next. IsLinkAt (inputs_of sources.now) libs.now wanted.now next) }
-    ensures fault { IfErr result (λ fault. IsRoundFault fault → loaded_of (inputs_of sources.now) libs.now wanted.now ≡ Err fault) }
+    ensures fault { IfErr result (λ fault. IsLoadFault fault → loaded_of (inputs_of sources.now) libs.now wanted.now ≡ Err fault) }
 {
     let read = match read_all(rt, alloc, gate, workers, sources, link.new.as_slice()) {
         Ok(read) => read,
@@ -274,10 +272,10 @@ pub fn load<R: Threads + Sync, G: Gate + Sync>(
     objects: LoadedList,
     libs: &Libraries,
     wanted: &NameList,
-) -> Result<Loaded, RoundFault>
+) -> Result<Loaded, LoadFault>
     requires order { AreInOrder (inputs_of sources.now) }
     requires objects { AreObjects (inputs_of sources.now) objects }
-    ensures exact { Gives IsRoundFault result (loaded_of (inputs_of sources.now) libs.now wanted.now) }
+    ensures exact { Gives IsLoadFault result (loaded_of (inputs_of sources.now) libs.now wanted.now) }
     ensures whole { IfOk result IsWholeLoaded }
     ensures low { IfOk result (λ loaded. All HasLowAtoms loaded.files) }
 {

@@ -3,11 +3,11 @@ ghost use Rattle.std.specs.Prelude.{◌≡◌, ℕ, List, None, IfOk, IsTrue, if
 ghost use Rattle.std.specs.Str.{bytes_eq};
 ghost use Rattle.mo_types.specs.Scan.{first_some, option_or_else};
 ghost use Rattle.member_rounds.specs.Rounds as rounds;
-ghost use Rattle.member_rounds.specs.Sources.{inputs_of};
+ghost use Rattle.input_files.specs.Sources.{inputs_of};
 ghost use Rattle.member_rounds.specs.inner.Offered.{IsIndexOf, file_named, is_offered};
 
 use crate::files_by_name::FilesByName;
-use crate::sources::Source;
+use input_files::Source;
 use mo_ar::OfferList;
 use mo_types::{FileId, OutOfMemory};
 use std::alloc::Global;
@@ -102,8 +102,8 @@ pub struct OfferIndex<'a> {
 
 impl<'a> Model for OfferIndex<'a> {
     ghost use Rattle.std.specs.Prelude.{List};
-    ghost use Rattle.member_rounds.specs.Sources.{inputs_of};
-    ghost use Rattle.member_rounds.specs.declared.input.Input.{Input};
+    ghost use Rattle.input_files.specs.Sources.{inputs_of};
+    ghost use Rattle.input_files.specs.declared.input.Input.{Input};
     ghost use Rattle.member_rounds.specs.inner.Offered.{IsIndexOf};
 
     ghost Value = { List Input };

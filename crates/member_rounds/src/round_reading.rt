@@ -3,18 +3,14 @@ ghost use Rattle.std.specs.Prelude.{◌≡◌, ◌<◌, ◌≤◌, ◌^◌, ◌+
 ghost use Rattle.mo_types.specs.Gives.{Gives};
 ghost use Rattle.mo_types.specs.Loaded.{IsWholeFile};
 ghost use Rattle.mo_types.specs.declared.key.FileId.{FileId};
-ghost use Rattle.member_rounds.specs.Collected.{behind};
-ghost use Rattle.member_rounds.specs.Files as files;
-ghost use Rattle.member_rounds.specs.Files.{IsRoundFault};
-ghost use Rattle.member_rounds.specs.Sources.{AreInOrder, inputs_of};
-ghost use Rattle.member_rounds.specs.inner.Holding.{AreReadable};
+ghost use Rattle.input_files.specs.Collected.{behind};
+ghost use Rattle.input_files.specs.Files as files;
+ghost use Rattle.input_files.specs.Files.{IsLoadFault};
+ghost use Rattle.input_files.specs.Sources.{AreInOrder, inputs_of};
+ghost use Rattle.input_files.specs.inner.Holding.{AreReadable};
 ghost use Rattle.member_rounds.specs.inner.Working.{ArePieces, read_each};
 
-use crate::collecting::collect;
-use crate::contents::{Held, content_of};
-use crate::fault::RoundFault;
-use crate::reading::read_file;
-use crate::sources::Source;
+use input_files::{Held, LoadFault, Source, collect, content_of, read_file};
 use mo_outside::Gate;
 use mo_types::{FileId, LoadedFile, LoadedList, OutOfMemory};
 use par_work::{Task, fan};
@@ -25,11 +21,11 @@ use std::thread::Threads;
 const MOST_JOBS: usize = 1 << 30;
 
 // Reads a file of the inputs.
-#[tactic(auto, unfolding(crate::specs::Files::file_of))]
-fn read_at(alloc: Global, sources: &[Source], id: FileId) -> Result<LoadedFile, RoundFault>
+#[tactic(auto, unfolding(input_files::specs::Files::file_of))]
+fn read_at(alloc: Global, sources: &[Source], id: FileId) -> Result<LoadedFile, LoadFault>
     requires order { AreInOrder (inputs_of sources.now) }
     requires member { id.member < 2 ^ 20 }
-    ensures exact { Gives IsRoundFault result (files.file_of (inputs_of sources.now) id) }
+    ensures exact { Gives IsLoadFault result (files.file_of (inputs_of sources.now) id) }
     ensures whole { IfOk result IsWholeFile }
 {
     let Held { label, bytes } = content_of(alloc, sources, id)?;
@@ -46,13 +42,13 @@ struct Reading<'a> {
 
 impl<'a> Task for Reading<'a> {
     ghost use Rattle.std.specs.Prelude.{length, slice_index_or};
-    ghost use Rattle.member_rounds.specs.Sources.{inputs_of};
-    ghost use Rattle.member_rounds.specs.inner.Holding.{AreReadable};
+    ghost use Rattle.input_files.specs.Sources.{inputs_of};
+    ghost use Rattle.input_files.specs.inner.Holding.{AreReadable};
     ghost use Rattle.member_rounds.specs.inner.Working.{IsReadOf, no_id};
 
     type Seat = u32;
 
-    type Piece = Result<LoadedFile, RoundFault>;
+    type Piece = Result<LoadedFile, LoadFault>;
 
     ghost jobs = { λ t. length t.ids.now };
 
@@ -60,7 +56,7 @@ impl<'a> Task for Reading<'a> {
 
     ghost ran = { λ t _ job piece _. IsReadOf (inputs_of t.sources.now) (slice_index_or t.ids.now job no_id) piece };
 
-    fn run(&self, _seat: &mut u32, job: u32) -> Result<LoadedFile, RoundFault> {
+    fn run(&self, _seat: &mut u32, job: u32) -> Result<LoadedFile, LoadFault> {
         read_at(self.alloc, self.sources, self.ids[job as usize])
     }
 }
@@ -73,7 +69,7 @@ fn pieces_of<R: Threads + Sync, G: Gate + Sync>(
     workers: u32,
     sources: &[Source],
     ids: &[FileId],
-) -> Result<Vec<Result<LoadedFile, RoundFault>>, OutOfMemory>
+) -> Result<Vec<Result<LoadedFile, LoadFault>>, OutOfMemory>
     requires few { length ids.now < 2 ^ 32 }
     requires files { AreReadable sources.now ids.now }
     ensures { IfOk result (λ pieces. ArePieces (inputs_of sources.now) ids.now pieces.items) }
@@ -98,11 +94,11 @@ fn read_some<R: Threads + Sync, G: Gate + Sync>(
     sources: &[Source],
     ids: &[FileId],
     before: LoadedList,
-) -> Result<LoadedList, RoundFault>
+) -> Result<LoadedList, LoadFault>
     requires few { length ids.now < 2 ^ 32 }
     requires files { AreReadable sources.now ids.now }
     requires whole { All IsWholeFile before }
-    ensures exact { Gives IsRoundFault result (behind before (read_each (inputs_of sources.now) ids.now)) }
+    ensures exact { Gives IsLoadFault result (behind before (read_each (inputs_of sources.now) ids.now)) }
     ensures whole { IfOk result (λ all. All IsWholeFile all) }
 {
     let pieces = pieces_of(rt, alloc, gate, workers, sources, ids)?;
@@ -118,9 +114,9 @@ pub(crate) fn read_all<R: Threads + Sync, G: Gate + Sync>(
     workers: u32,
     sources: &[Source],
     ids: &[FileId],
-) -> Result<LoadedList, RoundFault>
+) -> Result<LoadedList, LoadFault>
     requires files { AreReadable sources.now ids.now }
-    ensures exact { Gives IsRoundFault result (read_each (inputs_of sources.now) ids.now) }
+    ensures exact { Gives IsLoadFault result (read_each (inputs_of sources.now) ids.now) }
     ensures whole { IfOk result (λ files. All IsWholeFile files) }
 {
     let mut files = LoadedList::new(alloc);

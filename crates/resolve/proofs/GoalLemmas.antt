@@ -8,9 +8,9 @@ use Rattle.mo_types.specs.declared.goal.Goal.{Goal}
 use Rattle.mo_types.specs.declared.memory.OutOfMemory.{OutOfMemory}
 use Rattle.mo_types.specs.declared.loaded.LoadedFile.{LoadedFile}
 use Rattle.resolve.specs.Goals.{goal_of_name, name_goal}
-use Rattle.resolve.specs.Known.{AreKnown, Known}
-use Rattle.resolve.specs.Winners.{lists, winner_named}
-use Rattle.resolve.specs.declared.winner.Winner.{Winner}
+use Rattle.symbol_winners.specs.Known.{AreKnown, Known}
+use Rattle.symbol_winners.specs.Winners.{lists, winner_named}
+use Rattle.symbol_winners.specs.declared.winner.Winner.{Winner}
 
 pub name_goal_is : (command : Command) (files : List LoadedFile) (graph : LibraryGraph) (known : Known) (name : List ℕ) (goal : Goal) → AreKnown command files known → goal ≡ name_goal known.literals command.dylib (command.dynamic || lists known.flats name) (lists known.weak name) name (provider_of graph name) (winner_named known.winners name) → goal ≡ goal_of_name files graph command name
 unfolding goal_of_name

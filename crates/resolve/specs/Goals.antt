@@ -16,21 +16,14 @@ use Rattle.mo_types.specs.declared.loaded.LoadedFile.{LoadedFile}
 use Rattle.mo_types.specs.declared.object.Symbol.{Symbol}
 use Rattle.mo_types.specs.declared.reference.Target.{Target}
 use Rattle.mo_types.specs.declared.reference.Target.TheVariants as target
-use Rattle.resolve.specs.Known.{is_weak}
-use Rattle.resolve.specs.Places.{place_of}
-use Rattle.resolve.specs.Representatives.{representatives_of}
-use Rattle.resolve.specs.Winners.{lists, winner_of}
-use Rattle.resolve.specs.declared.places.Place.{Place}
-use Rattle.resolve.specs.declared.representative.Representative.{Representative}
-use Rattle.resolve.specs.declared.winner.Winner.{Winner}
-
--- what stands for a literal
-abbrev pub literal_at : List Representative → AtomKey → Option Representative
-literal_at literals key = find (λ r. is_eq (compare_keys r.literal key)) literals
-
--- the atom that stands for one in the image: a literal's representative, and for any other itself
-abbrev pub stands_for : List Representative → AtomKey → AtomKey
-stands_for literals key = option_map_or (λ r. r.representative) (literal_at literals key) key
+use Rattle.symbol_winners.specs.Known.{is_weak}
+use Rattle.symbol_winners.specs.Places.{place_of}
+use Rattle.literal_merge.specs.Representatives.{representatives_of}
+use Rattle.literal_merge.specs.Standing.{stands_for}
+use Rattle.symbol_winners.specs.Winners.{lists, winner_of}
+use Rattle.symbol_winners.specs.declared.places.Place.{Place}
+use Rattle.literal_merge.specs.declared.representative.Representative.{Representative}
+use Rattle.symbol_winners.specs.declared.winner.Winner.{Winner}
 
 -- a place, in the atom that stands for its own
 abbrev pub goal_at : List Representative → AtomKey → ℕ → Goal

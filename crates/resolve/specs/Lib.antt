@@ -1,11 +1,3 @@
-pub mod Duplicates
-pub mod Found
-pub mod Laws
-pub mod Places
-pub mod Representatives
 pub mod inner
-pub mod Winners
-pub mod Known
 pub mod Goals
-pub mod Edges
-pub mod Roots
+pub mod Table

@@ -1,11 +1,1 @@
-pub mod Contents
-pub mod Groups
-pub mod Tables
-pub mod Best
-pub mod Index
-pub mod Literals
-pub mod Words
-pub mod Away
-pub mod Front
 pub mod Pools
-pub mod Numbers

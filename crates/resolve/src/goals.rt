@@ -1,25 +1,23 @@
 //! Where names, symbols and references lead.
 ghost use Rattle.std.specs.Prelude.{◌≡◌, ℕ, ◌<◌, ◌||◌, IfOk, List, OnOk, Some, length, map, slice_get, slice_index_or};
 ghost use Rattle.std.specs.Option.{option_copied};
-ghost use Rattle.goal_table.specs.Table.{goals_of};
+ghost use Rattle.resolve.specs.Table.{goals_of};
 ghost use Rattle.lib_bind.specs.Provides as provides;
 ghost use Rattle.mo_types.specs.Loaded.{IsWholeFile, IsWholeLoaded};
 ghost use Rattle.mo_types.specs.declared.object.Symbol.{Symbol as Declared};
 ghost use Rattle.name_ids.specs.Names.{number_of, numbers_in, numbers_of};
 ghost use Rattle.resolve.specs.Goals as goals;
-ghost use Rattle.resolve.specs.Known.{AreKnown};
-ghost use Rattle.resolve.specs.Winners.{lists, winner_named};
+ghost use Rattle.symbol_winners.specs.Known.{AreKnown};
+ghost use Rattle.symbol_winners.specs.Winners.{lists, winner_named};
 ghost use Rattle.resolve.specs.inner.Pools.{ArePlaces, AreTables, Extends, IsAt};
 
-use crate::known::Winners;
-use crate::places::place_of;
-use crate::winner::Winner;
-use goal_table::{GoalTable, PlaceList};
+use crate::table::{GoalTable, PlaceList};
 use lib_bind::{Libraries, provider_of};
 use mo_cmd::Command;
 use mo_types::{Bytes, Goal, Items, Loaded, LoadedFile, OutOfMemory};
 use name_ids::{NameTable, NumberList};
 use std::alloc::Global;
+use symbol_winners::{Winner, Winners, place_of};
 
 fn winner_goal(winners: &Winners, winner: &Winner) -> Result<Goal, OutOfMemory>
     ensures { IfOk result (λ goal. goal ≡ goals.winner_goal winners.now.literals winner.now) }

@@ -3,13 +3,12 @@
 ghost use Rattle.std.specs.Prelude.{◌≡◌, ◌<◌, IfOk, IfSome, length};
 ghost use Rattle.mo_types.specs.Loaded.{IsWholeLoaded};
 ghost use Rattle.name_ids.specs.Names.{numbers_of};
-ghost use Rattle.resolve.specs.Found.{AreNamed};
-ghost use Rattle.resolve.specs.Known.{AreKnown};
+ghost use Rattle.symbol_winners.specs.Found.{AreNamed};
+ghost use Rattle.symbol_winners.specs.Known.{AreKnown};
 
 use crate::clang_names::{NAMES, OBJECT, Told};
 use crate::given::{Is, Row, Section1, add, id_of, literal_section, loaded, object, risen};
 use crate::libraries::libraries;
-use goal_table::FileGoals;
 use lib_bind::Libraries;
 use mo_cmd::{Command, read_all_words};
 use mo_obj::read_object;
@@ -18,9 +17,10 @@ use mo_types::{
     kind_of,
 };
 use name_ids::{NameTable, NumberList, gather};
-use resolve::{Winner, Winners, goal_of_name, goal_table, least_words, winners};
+use resolve::{FileGoals, goal_of_name, goal_table};
 use std::alloc::Global;
 use std::test::Fail;
+use symbol_winners::{Winner, Winners, least_words, winners};
 
 // The command of some words behind those of the image's path.
 fn command_of(alloc: Global, words: &str) -> Result<Option<Command>, OutOfMemory> {

@@ -2,13 +2,13 @@
 
 ghost use Rattle.std.specs.Prelude.{◌≡◌, ◌<◌, All, IfOk, List, ℕ, length};
 
-use goal_table::{GoalTable, PlaceList};
-use kept_refs::{Lost, next_spots, ref_order, undefined};
+use liveness::{Lost, next_spots, ref_order, undefined};
 use mark_core::kept;
 use mo_types::{
     AtomKey, Bytes, EdgeList, Goal, Items, KeyList, Loaded, LoadedFile, LoadedList, OutOfMemory,
     Ref, RefKind, RefList, SectionList, Symbol, SymbolKind, SymbolList, Target,
 };
+use resolve::{GoalTable, PlaceList};
 use std::alloc::Global;
 use std::test::Fail;
 use test_objects::{file, file_id, key, object, symbol};

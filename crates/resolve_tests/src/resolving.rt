@@ -5,11 +5,12 @@ ghost use Rattle.mo_types.specs.Loaded.{IsWholeFile, IsWholeLoaded};
 use crate::given::{
     Is, Row, Section1, add, id_of, literal_section, loaded, object, risen, symbol, whole_file,
 };
+use literal_merge::representatives;
 use mo_types::{AtomKey, FileId, Loaded, LoadedFile, NameList, OutOfMemory, SymbolKind};
 use name_ids::gather;
-use resolve::{Place, duplicate, place_of, representatives};
 use std::alloc::Global;
 use std::test::Fail;
+use symbol_winners::{Place, duplicate, place_of};
 
 // The files of the least duplicate, by the name that it is to have.
 type Pair<'a> = Option<(&'a [u8], (u16, u32), (u16, u32))>;

@@ -1,7 +1,7 @@
 //! What inputs are, by tables that were written by hand.
 use crate::{files, forms};
+use input_files::{Input, LoadFault};
 use input_read::{Opened, are_in_order, open_inputs};
-use member_rounds::{Input, RoundFault};
 use mo_outside::FreeGate;
 use mo_types::{Bytes, OutOfMemory, Refusal};
 use std::alloc::Global;
@@ -39,12 +39,12 @@ fn labels_of(alloc: Global, opened: &Opened) -> Result<Vec<u8>, OutOfMemory> {
 }
 
 // The file that a fault names, and the fault's word.
-fn told(alloc: Global, fault: &RoundFault) -> Result<Vec<u8>, OutOfMemory> {
+fn told(alloc: Global, fault: &LoadFault) -> Result<Vec<u8>, OutOfMemory> {
     let (file, word) = match fault {
-        RoundFault::Refused(Refusal::Malformed { file, rule, .. }) => {
+        LoadFault::Refused(Refusal::Malformed { file, rule, .. }) => {
             (file.as_slice(), rule.as_str())
         }
-        RoundFault::Refused(Refusal::Unsupported { file, feature }) => {
+        LoadFault::Refused(Refusal::Unsupported { file, feature }) => {
             (file.as_slice(), feature.as_str())
         }
         _ => return Ok(Vec::new(alloc)),

@@ -5,8 +5,9 @@ ghost use Rattle.mo_types.specs.Loaded.{IsWholeLoaded};
 use crate::files;
 use crate::libraries::library_at;
 use crate::racing::word_of;
+use input_files::{Input, LoadFault};
 use input_read::{Opened, are_in_order, open_inputs};
-use member_rounds::{Input, RoundFault, load};
+use member_rounds::load;
 use mo_outside::{FreeGate, MeetGate};
 use mo_types::{Bytes, Loaded, NameList, OutOfMemory, Refusal};
 use std::alloc::Global;
@@ -59,10 +60,10 @@ fn labels_of(alloc: Global, loaded: &Loaded) -> Result<Vec<u8>, OutOfMemory> {
 }
 
 // `!` and the file that a fault names.
-fn told(alloc: Global, fault: &RoundFault) -> Result<Vec<u8>, OutOfMemory> {
+fn told(alloc: Global, fault: &LoadFault) -> Result<Vec<u8>, OutOfMemory> {
     let mut out = Vec::new(alloc);
     out.push(b'!')?;
-    if let RoundFault::Refused(Refusal::Malformed { file, .. }) = fault {
+    if let LoadFault::Refused(Refusal::Malformed { file, .. }) = fault {
         out.extend_from_slice(file.as_slice())?;
     }
     Ok(out)
@@ -74,7 +75,7 @@ fn loaded_of<R: Threads + Sync>(
     alloc: Global,
     workers: u32,
     link: &Link,
-) -> Result<Option<Loaded>, RoundFault>
+) -> Result<Option<Loaded>, LoadFault>
     ensures { IfOk result (λ loaded. IfSome loaded IsWholeLoaded) }
 {
     let inputs = inputs_of(alloc, link.files)?;

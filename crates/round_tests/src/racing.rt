@@ -2,15 +2,15 @@
 ghost use Rattle.std.specs.Prelude.{◌≡◌, ◌<◌, length};
 ghost use Rattle.mo_types.specs.Loaded.{IsWholeLoaded};
 ghost use Rattle.name_ids.specs.Names.{numbers_of};
-ghost use Rattle.member_rounds.specs.Offers.{AreNamed};
+ghost use Rattle.name_offers.specs.Offers.{AreNamed};
 
-use member_rounds::race_words;
 use mo_outside::Gate;
 use mo_types::{Loaded, NameList, OutOfMemory};
 use name_ids::{Numbered, gather};
-use resolve::candidates_have_numbers;
+use name_offers::race_words;
 use std::alloc::Global;
 use std::thread::Threads;
+use symbol_winners::candidates_have_numbers;
 
 // The word of a name without a candidate.
 const NO_WORD: u64 = u64::MAX;

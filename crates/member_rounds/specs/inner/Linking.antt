@@ -4,9 +4,9 @@ use Rattle.mo_types.specs.Loaded.{IsWholeFile}
 use Rattle.mo_types.specs.declared.loaded.LoadedFile.{LoadedFile}
 use Rattle.lib_bind.specs.declared.library.LibraryGraph.{LibraryGraph}
 use Rattle.name_ids.specs.Names.{external_names, numbered}
-use Rattle.member_rounds.specs.Files.{all_ids}
-use Rattle.member_rounds.specs.Sources.{AreInOrder}
-use Rattle.member_rounds.specs.declared.input.Input.{Input}
+use Rattle.input_files.specs.Files.{all_ids}
+use Rattle.input_files.specs.Sources.{AreInOrder}
+use Rattle.input_files.specs.declared.input.Input.{Input}
 use Rattle.member_rounds.specs.declared.loading.Link.{Link}
 use Rattle.member_rounds.specs.inner.Working.{IsBetween, read_each}
 

@@ -8,7 +8,7 @@ use Rattle.mo_types.specs.Scan.{first_some}
 use Rattle.mo_types.specs.declared.key.FileId.{FileId}
 use Rattle.member_rounds.specs.Rounds.{offer_in}
 use Rattle.member_rounds.specs.declared.files_by_name.FilesByName.{FilesByName}
-use Rattle.member_rounds.specs.declared.input.Input.{Input}
+use Rattle.input_files.specs.declared.input.Input.{Input}
 
 -- the file of a name
 abbrev pub file_named : FilesByName → List ℕ → Option FileId

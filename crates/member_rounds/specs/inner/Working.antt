@@ -10,12 +10,12 @@ use Rattle.mo_types.specs.declared.key.FileId.{FileId}
 use Rattle.mo_types.specs.declared.loaded.LoadedFile.{LoadedFile}
 use Rattle.mo_types.specs.declared.object.Symbol.{Symbol}
 use Rattle.lib_bind.specs.declared.library.LibraryGraph.{LibraryGraph}
-use Rattle.member_rounds.specs.Collected.{all_of}
+use Rattle.input_files.specs.Collected.{all_of}
 use Rattle.member_rounds.specs.Growth.{is_in}
-use Rattle.member_rounds.specs.Files.{IsRoundFault, all_ids, file_of}
+use Rattle.input_files.specs.Files.{IsLoadFault, all_ids, file_of}
 use Rattle.member_rounds.specs.Rounds.{asked_by, has_candidate, is_undefined, new_ids, round, round_fault}
-use Rattle.member_rounds.specs.declared.fault.RoundFault.{RoundFault}
-use Rattle.member_rounds.specs.declared.input.Input.{Input}
+use Rattle.input_files.specs.declared.fault.LoadFault.{LoadFault}
+use Rattle.input_files.specs.declared.input.Input.{Input}
 
 -- whether a name is among some
 abbrev pub lists : List (List ℕ) → List ℕ → Bool
@@ -52,7 +52,7 @@ abbrev pub undefined_name : Symbol → List (List ℕ)
 undefined_name symbol = if is_undefined symbol.kind then symbol.name ∷ [] else []
 
 -- the files of ids, or the fault of the first that has one
-abbrev pub read_each : List Input → List FileId → Result (List LoadedFile) RoundFault
+abbrev pub read_each : List Input → List FileId → Result (List LoadedFile) LoadFault
 read_each inputs ids = all_of (map (file_of inputs) ids)
 
 -- an id, where there is none
@@ -60,14 +60,14 @@ abbrev pub no_id : FileId
 no_id = record { position = 0; member = 0 }
 
 -- what reading a file gave
-pub record IsReadOf (inputs : List Input) (id : FileId) (piece : Result LoadedFile RoundFault) : Type 0 where
-  pub exact : Gives IsRoundFault piece (file_of inputs id)
+pub record IsReadOf (inputs : List Input) (id : FileId) (piece : Result LoadedFile LoadFault) : Type 0 where
+  pub exact : Gives IsLoadFault piece (file_of inputs id)
   pub whole : IfOk piece IsWholeFile
 
 -- what reading each of some files gave
-pub record ArePieces (inputs : List Input) (ids : List FileId) (pieces : List (Result LoadedFile RoundFault)) : Type 0 where
+pub record ArePieces (inputs : List Input) (ids : List FileId) (pieces : List (Result LoadedFile LoadFault)) : Type 0 where
   pub count : length pieces ≡ length ids
-  pub each : (job : ℕ) (other : Result LoadedFile RoundFault) → job < length ids → IsReadOf inputs (slice_index_or ids job no_id) (slice_index_or pieces job other)
+  pub each : (job : ℕ) (other : Result LoadedFile LoadFault) → job < length ids → IsReadOf inputs (slice_index_or ids job no_id) (slice_index_or pieces job other)
 
 -- the files that the loaded ones are, in some order
 pub record AreKept (inputs : List Input) (among : List FileId) (kept : List LoadedFile) : Type 0 where

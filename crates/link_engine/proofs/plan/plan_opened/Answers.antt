@@ -1,6 +1,6 @@
 use Rattle.std.proofs.Common.{ap}
 use Rattle.input_read.specs.Opened.{contents_as}
-use Rattle.member_rounds.specs.Sources.{inputs_of}
+use Rattle.input_files.specs.Sources.{inputs_of}
 use Rattle.link_engine.specs.Binding.{BoundAs}
 use Rattle.link_engine.specs.Verdict.{AsOpened}
 use Rattle.link_engine.proofs.KeptLemmas.{files_kept, files_passed}

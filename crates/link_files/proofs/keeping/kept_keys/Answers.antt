@@ -1,7 +1,7 @@
 use Rattle.std.proofs.Common.{◌∙◌}
-use Rattle.goal_table.specs.Table.{goals_of}
-use Rattle.resolve.specs.Edges.{edges_by, supports_by}
-use Rattle.resolve.specs.Roots.{roots}
+use Rattle.resolve.specs.Table.{goals_of}
+use Rattle.liveness.specs.Edges.{edges_by, supports_by}
+use Rattle.liveness.specs.Roots.{roots}
 use Rattle.link_files.proofs.KeepingLemmas.{kept_by_all}
 use Rattle.link_files.proofs.keeping.kept_keys.Goals as goal
 

@@ -1,5 +1,5 @@
-use Rattle.member_rounds.proofs.FormLemmas.{IsLookedTo}
-use Rattle.goal_table.specs.Table.{goals_in}
+use Rattle.input_files.proofs.FormLemmas.{IsLookedTo}
+use Rattle.resolve.specs.Table.{goals_in}
 use Rattle.link_files.specs.Later.{is_kept_later}
 use Rattle.link_files.proofs.later.any_later.Given as goal
 

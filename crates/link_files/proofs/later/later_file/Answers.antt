@@ -1,5 +1,5 @@
 use Rattle.std.proofs.Common.{rules}
-use Rattle.goal_table.specs.Table.{goals_of}
+use Rattle.resolve.specs.Table.{goals_of}
 use Rattle.link_files.specs.Later.{later_at, later_file}
 use Rattle.link_files.proofs.LaterLemmas.{search_finds, search_goes_on}
 use Rattle.link_files.proofs.later.later_file.Goals as goal

@@ -1,4 +1,4 @@
-use Rattle.goal_table.specs.Table.{goals_of}
+use Rattle.resolve.specs.Table.{goals_of}
 use Rattle.link_files.specs.Later.{later_at}
 use Rattle.link_files.proofs.LaterLemmas.{IsSearched}
 use Rattle.link_files.proofs.later.later_file.Given as goal

@@ -1,4 +1,4 @@
-use Rattle.resolve.proofs.NamedLemmas.{gathered_named}
+use Rattle.symbol_winners.proofs.NamedLemmas.{gathered_named}
 use Rattle.link_files.proofs.linking.link_named.Goals as goal
 
 pub duplicate_refusal-requires-clause-named : goal.duplicate_refusal-requires-clause-named

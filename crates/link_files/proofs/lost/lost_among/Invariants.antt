@@ -1,4 +1,4 @@
-use Rattle.kept_refs.specs.Undefined.{is_nobody}
+use Rattle.liveness.specs.Undefined.{is_nobody}
 use Rattle.resolve.specs.Goals.{goal_of_name}
 use Rattle.link_files.proofs.LostLemmas.{IsSifted}
 use Rattle.link_files.proofs.lost.lost_among.Given as goal

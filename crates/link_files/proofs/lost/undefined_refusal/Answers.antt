@@ -1,5 +1,5 @@
 use Rattle.std.proofs.Common.{rules}
-use Rattle.goal_table.specs.Table.{goals_of}
+use Rattle.resolve.specs.Table.{goals_of}
 use Rattle.link_files.proofs.LostLemmas.{lost_told, none_lost}
 use Rattle.link_files.proofs.lost.undefined_refusal.Goals as goal
 

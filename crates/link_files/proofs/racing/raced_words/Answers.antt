@@ -1,5 +1,5 @@
 use Rattle.std.proofs.Common.{rules}
-use Rattle.resolve.proofs.NamedLemmas.{gathered_named}
+use Rattle.symbol_winners.proofs.NamedLemmas.{gathered_named}
 use Rattle.link_files.proofs.RaceLemmas.{raced_ok}
 use Rattle.link_files.proofs.racing.raced_words.Goals as goal
 

@@ -1,5 +1,5 @@
 use Rattle.std.proofs.Common.{◌∙◌}
-use Rattle.member_rounds.specs.Sources.{inputs_of}
+use Rattle.input_files.specs.Sources.{inputs_of}
 use Rattle.member_rounds.proofs.FirstLemmas.{first_fails, first_reads, first_whole, readable_members}
 use Rattle.member_rounds.proofs.first_reading.read_first.Goals as goal
 

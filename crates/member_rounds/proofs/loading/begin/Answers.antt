@@ -1,5 +1,5 @@
 use Rattle.std.proofs.Common.{refl}
-use Rattle.member_rounds.specs.Sources.{inputs_of}
+use Rattle.input_files.specs.Sources.{inputs_of}
 use Rattle.member_rounds.proofs.LinkLemmas.{link_begins}
 use Rattle.member_rounds.proofs.loading.begin.Goals as goal
 

@@ -1,5 +1,5 @@
 use Rattle.std.proofs.Common.{◌∙◌, ap, arith, sym}
-use Rattle.member_rounds.specs.Sources.{inputs_of}
+use Rattle.input_files.specs.Sources.{inputs_of}
 use Rattle.member_rounds.specs.inner.Working.{read_each}
 use Rattle.member_rounds.proofs.LinkLemmas.{link_read_fails, new_first, read_at}
 use Rattle.member_rounds.proofs.loading.first_round.Goals as goal

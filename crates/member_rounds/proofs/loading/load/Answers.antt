@@ -1,7 +1,7 @@
 use Rattle.std.proofs.Common.{◌≡◌, ◌+◌, length, ap, arith}
 use Rattle.std.proofs.lemmas.Grind.{common_steps}
-use Rattle.member_rounds.specs.Files.{all_ids}
-use Rattle.member_rounds.specs.Sources.{inputs_of}
+use Rattle.input_files.specs.Files.{all_ids}
+use Rattle.input_files.specs.Sources.{inputs_of}
 use Rattle.member_rounds.proofs.LinkLemmas.{early_exact, early_low, early_whole, late_exact, late_low, late_whole}
 use Rattle.member_rounds.proofs.loading.load.Goals as goal
 

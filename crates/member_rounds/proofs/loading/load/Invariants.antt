@@ -1,5 +1,5 @@
 use Rattle.std.proofs.Common.{◌≡◌, ◌+◌}
-use Rattle.member_rounds.specs.Sources.{inputs_of}
+use Rattle.input_files.specs.Sources.{inputs_of}
 use Rattle.member_rounds.specs.inner.Linking.{IsLinkAt}
 use Rattle.member_rounds.proofs.loading.load.Given as goal
 

@@ -2,7 +2,7 @@ use Rattle.std.proofs.Common.{◌≡◌, ℕ, ◌+◌, ◌*◌, ◌-◌, ◌^◌
 use Rattle.std.proofs.Math.Nat.{min_comm}
 use Rattle.std.proofs.lemmas.List.{length-drop, length-take, take_min, take_rest}
 use Rattle.mo_types.specs.declared.key.FileId.{FileId}
-use Rattle.member_rounds.specs.Sources.{inputs_of}
+use Rattle.input_files.specs.Sources.{inputs_of}
 use Rattle.member_rounds.proofs.PieceLemmas.{IsReadTo, read_more, read_stops}
 use Rattle.member_rounds.proofs.round_reading.read_all.Goals as goal
 

@@ -1,5 +1,5 @@
 use Rattle.std.proofs.Common.{◌*◌, ◌^◌}
-use Rattle.member_rounds.specs.Sources.{inputs_of}
+use Rattle.input_files.specs.Sources.{inputs_of}
 use Rattle.member_rounds.proofs.PieceLemmas.{IsReadTo}
 use Rattle.member_rounds.proofs.round_reading.read_all.Given as goal
 

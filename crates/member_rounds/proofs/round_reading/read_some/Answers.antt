@@ -1,4 +1,4 @@
-use Rattle.member_rounds.specs.Sources.{inputs_of}
+use Rattle.input_files.specs.Sources.{inputs_of}
 use Rattle.member_rounds.proofs.PieceLemmas.{pieces_result}
 use Rattle.member_rounds.proofs.round_reading.read_some.Goals as goal
 

@@ -1,7 +1,7 @@
 use Rattle.std.proofs.Common.{refl, get_or, []}
 use Rattle.std.proofs.lemmas.Option.{slice_get-get_or}
 use Rattle.resolve.specs.Goals.{goal_of_name}
-use Rattle.resolve.proofs.EdgeLemmas.{mapped_more}
+use Rattle.resolve.proofs.MappedLemmas.{mapped_more}
 use Rattle.resolve.proofs.goals.goals_of_names.Goals as goal
 
 pub loop-id-preserved : goal.loop-id-preserved

@@ -1,4 +1,4 @@
-use Rattle.resolve.proofs.EdgeLemmas.{IsMapped}
+use Rattle.resolve.proofs.MappedLemmas.{IsMapped}
 use Rattle.resolve.specs.Goals.{goal_of_name}
 use Rattle.resolve.proofs.goals.goals_of_names.Given as goal
 

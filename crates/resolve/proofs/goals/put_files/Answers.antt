@@ -1,5 +1,6 @@
 use Rattle.std.proofs.Common.{◌∙◌}
-use Rattle.resolve.proofs.PoolLemmas.{as_many_lists, listed_all, listed_more, numbers_there}
+use Rattle.symbol_winners.proofs.NumberedLemmas.{as_many_lists, numbers_there}
+use Rattle.resolve.proofs.PoolLemmas.{listed_all, listed_more}
 use Rattle.resolve.proofs.goals.put_files.Goals as goal
 
 pub bounds-numbers-at : goal.bounds-numbers-at

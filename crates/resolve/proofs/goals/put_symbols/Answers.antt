@@ -1,5 +1,6 @@
 use Rattle.std.proofs.Common.{arith, refl}
-use Rattle.resolve.proofs.PoolLemmas.{as_many, number_there, put_all, put_more}
+use Rattle.symbol_winners.proofs.NumberedLemmas.{as_many, number_there}
+use Rattle.resolve.proofs.PoolLemmas.{put_all, put_more}
 use Rattle.resolve.proofs.goals.put_symbols.Goals as goal
 
 pub overflow_cast-index : goal.overflow_cast-index

@@ -1,4 +1,4 @@
-use Rattle.resolve.proofs.NamedLemmas.{gathered_named}
+use Rattle.symbol_winners.proofs.NamedLemmas.{gathered_named}
 use Rattle.resolve_tests.proofs.goals.is_gathered.Goals as goal
 
 pub is_known-requires-clause-named : goal.is_known-requires-clause-named

@@ -1,4 +1,4 @@
-use Rattle.resolve.proofs.NamedLemmas.{gathered_named}
+use Rattle.symbol_winners.proofs.NamedLemmas.{gathered_named}
 use Rattle.resolve_tests.proofs.resolving.has.Goals as goal
 
 pub duplicate-requires-clause-named : goal.duplicate-requires-clause-named

@@ -1,5 +1,0 @@
-use Rattle.atom_work.proofs.AddressLemmas.{address_is}
-use Rattle.atom_work.proofs.addresses.address_beside.Goals as goal
-
-pub returns : goal.returns
-returns c = address_is c.args.layout.now.placed c.args.atom c.address_near.result c.requires c.address_near.ensures

@@ -1,8 +1,0 @@
-use Rattle.std.proofs.Common.{[]}
-use Rattle.std.specs.List.{enumerate_from}
-use Rattle.atom_work.specs.Atoms.{kept_in}
-use Rattle.resolve.proofs.GrowLemmas.{IsGrowing}
-use Rattle.atom_work.proofs.kept.kept_of.Given as goal
-
-abbrev pub invariant-loop-at : goal.invariant-loop-at
-invariant-loop-at l = IsGrowing (kept_in l.winners.literals l.keys) [] l.kept (enumerate_from 0 l.files) l.at

@@ -1,4 +1,0 @@
-pub mod Kept
-pub mod Listed
-pub mod Orders
-pub mod Told

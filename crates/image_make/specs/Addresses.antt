@@ -1,0 +1,48 @@
+-- Where the places stand to which references lead.
+use Rattle.std.specs.Prelude.{ℕ, ◌+◌, ◌≢◌, List, Option, slice_get, unwrap_or}
+use Rattle.std.specs.List.{AllPairs, find}
+use Rattle.std.specs.Option.{option_map, option_map_or}
+use Rattle.std.specs.Ordering.{is_eq}
+use Rattle.mo_types.specs.Keys.{compare_keys}
+use Rattle.mo_types.specs.declared.goal.Goal.{Goal}
+use Rattle.mo_types.specs.declared.goal.Goal.TheVariants.{Def, WeakSelf, Header, Nobody}
+use Rattle.mo_types.specs.declared.key.AtomKey.{AtomKey}
+use Rattle.mo_types.specs.declared.reference.Target.{Target}
+use Rattle.mo_types.specs.declared.reference.Target.TheVariants.{Name, Local}
+use Rattle.resolve.specs.Goals.{goal_at}
+use Rattle.literal_merge.specs.declared.representative.Representative.{Representative}
+use Rattle.sect_place.specs.declared.layout.Placed.{Placed}
+
+-- no atom stands in two places
+abbrev pub AreOnce : List Placed → Type 0
+AreOnce placed = AllPairs (λ p q. p.atom ≢ q.atom) placed
+
+-- the address of an atom
+unfoldable pub address_in : List Placed → AtomKey → Option ℕ
+address_in placed key = option_map (λ p. p.address) (find (λ p. is_eq (compare_keys p.atom key)) placed)
+
+-- a place in an atom
+abbrev pub place_address : List Placed → AtomKey → ℕ → ℕ
+place_address placed atom offset = option_map_or (λ at. at + offset) (address_in placed atom) 0
+
+-- The address of a goal that stands in the image, which begins at `base`. What stands elsewhere has none.
+abbrev pub goal_address : ℕ → List Placed → Goal → ℕ
+goal_address base placed (Def atom offset) = place_address placed atom offset
+goal_address base placed (WeakSelf name atom offset) = place_address placed atom offset
+goal_address base placed Header = base
+goal_address base placed _ = 0
+
+-- where a target of a file's reference leads, by the goals of the file's symbols
+abbrev pub target_goal : List Representative → List Goal → Target → Goal
+target_goal literals goals (Name index) = unwrap_or (slice_get goals index) Nobody
+target_goal literals goals (Local atom offset) = goal_at literals atom offset
+
+-- What references are met with: what stands for each literal, where the image begins, and where its atoms stand.
+pub record Addressing : Type 0 where
+  pub literals : List Representative
+  pub base : ℕ
+  pub placed : List Placed
+
+-- the address to which a target leads
+unfoldable pub target_address : Addressing → List Goal → Target → ℕ
+target_address scene goals target = goal_address scene.base scene.placed (target_goal scene.literals goals target)

@@ -1,0 +1,40 @@
+-- The atoms that an image keeps, as they are placed.
+use Rattle.std.specs.Prelude.{ℕ, List, map, Option}
+use Rattle.std.specs.List.{enumerate_from, filter, find, flat_map}
+use Rattle.std.specs.Option.{option_map_or}
+use Rattle.std.specs.Ordering.{is_eq}
+use Rattle.mark_core.specs.Kept.{has}
+use Rattle.mo_types.specs.Keys.{compare_keys}
+use Rattle.mo_types.specs.declared.atom.Atom.{Atom}
+use Rattle.mo_types.specs.declared.key.AtomKey.{AtomKey}
+use Rattle.mo_types.specs.declared.loaded.LoadedFile.{LoadedFile}
+use Rattle.literal_merge.specs.Standing.{literal_at}
+use Rattle.literal_merge.specs.declared.representative.Representative.{Representative}
+use Rattle.image_make.specs.declared.kept.KeptAtom.{KeptAtom}
+
+-- an atom with the alignment with which it is placed: a literal has the greatest of those for which it stands
+unfoldable pub raised : List Representative → Atom → Atom
+raised literals atom = record {
+  key = atom.key;
+  size = atom.size;
+  align = option_map_or (λ r. r.align) (literal_at literals atom.key) atom.align;
+}
+
+-- an atom of the file at a place
+abbrev pub kept_as : List Representative → ℕ → Atom → KeptAtom
+kept_as literals at atom = record { atom = raised literals atom; file = at }
+
+-- the atoms that are kept of the file at a place
+unfoldable pub kept_in : List Representative → List AtomKey → ℕ × LoadedFile → List KeptAtom
+kept_in literals keys p = map (kept_as literals p.0) (filter (λ atom. has keys atom.key) p.1.atoms)
+
+-- those of all files, file by file
+unfoldable pub kept_atoms : List Representative → List AtomKey → List LoadedFile → List KeptAtom
+kept_atoms literals keys files = flat_map (kept_in literals keys) (enumerate_from 0 files)
+
+abbrev pub atom_of : KeptAtom → Atom
+atom_of kept = kept.atom
+
+-- the kept atom with a key
+abbrev pub kept_at : List KeptAtom → AtomKey → Option KeptAtom
+kept_at kept key = find (λ k. is_eq (compare_keys k.atom.key key)) kept

@@ -1,0 +1,22 @@
+-- The addresses of goals, as far as they have 64 bits.
+use Rattle.std.specs.Prelude.{ℕ, ◌≡◌, ◌^◌, List, Option, Some, None, map, nat_lt, if◌then◌else◌}
+use Rattle.mo_types.specs.declared.goal.Goal.{Goal}
+use Rattle.sect_place.specs.declared.layout.Placed.{Placed}
+use Rattle.image_make.specs.Addresses.{Addressing, goal_address}
+use Rattle.image_make.specs.declared.addresses.Addressing as code
+
+-- an address, if it has 64 bits
+abbrev pub told : ℕ → Option ℕ
+told address = if nat_lt address (2 ^ 64) then Some address else None
+
+-- that of a goal
+unfoldable pub goal_told : ℕ → List Placed → Goal → Option ℕ
+goal_told base placed goal = told (goal_address base placed goal)
+
+-- what references are met with, as definitions have it
+abbrev pub scene_of : code.Addressing → Addressing
+scene_of setting = record { literals = setting.winners.now.literals; base = setting.base; placed = setting.layout.now.placed }
+
+-- the addresses are those of the pool's goals
+abbrev pub AreTold : code.Addressing → Type 0
+AreTold setting = setting.addresses.now ≡ map (goal_told setting.base setting.layout.now.placed) setting.goals.now.pool

@@ -1,0 +1,190 @@
+//! The atoms that are kept.
+ghost use Rattle.std.specs.Prelude.{◌≡◌, ◌++◌, ◌∷◌, [], ℕ, IfOk, length, map, slice_get, if◌then◌else◌};
+ghost use Rattle.std.specs.List.{filter};
+ghost use Rattle.std.specs.List.Sorted.{IsStrictlySortedBy};
+ghost use Rattle.mark_core.specs.Kept.{has};
+ghost use Rattle.mo_types.specs.Keys.{compare_keys};
+ghost use Rattle.image_make.specs.Atoms as spec;
+
+use mark_core::is_kept_near;
+use mo_types::{Atom, AtomKey, AtomList, KeyList, Loaded, LoadedFile, OutOfMemory};
+use std::alloc::Global;
+use std::marker::Model;
+use symbol_winners::Winners;
+
+/// An atom of the image, with the alignment with which it is placed.
+#[derive(Clone, Copy, Debug, PartialEq, Eq)]
+pub struct KeptAtom {
+    pub atom: Atom,
+    /// The place of its file among the loaded ones, counted from 0.
+    pub file: usize,
+}
+
+/// The atoms of an image, file by file. Contracts see it as the list of them.
+#[derive(Debug, Drop)]
+pub struct KeptList {
+    atoms: AtomList,
+    files: Vec<u32>,
+}
+
+impl Model for KeptList {
+    ghost use Rattle.std.specs.Prelude.{◌≡◌, List, length};
+    ghost use Rattle.image_make.specs.declared.kept.KeptAtom.{KeptAtom};
+    ghost use Rattle.image_make.specs.inner.Kept.{kept_list};
+
+    ghost Value = { List KeptAtom };
+
+    ghost view = { λ kept. kept_list kept.atoms kept.files.items };
+
+    ghost invariant = { λ kept. length kept.atoms ≡ length kept.files.items };
+}
+
+impl KeptList {
+    // No atoms, with room for some.
+    #[tactic(auto, using(crate::proofs::KeptListLemmas::nothing))]
+    fn with_capacity(alloc: Global, count: usize) -> Result<KeptList, OutOfMemory>
+        ensures { IfOk result (λ kept. kept ≡ []) }
+    {
+        Ok(KeptList {
+            atoms: AtomList::from_vec(Vec::with_capacity(alloc, count)?),
+            files: Vec::with_capacity(alloc, count)?,
+        })
+    }
+
+    /// How many atoms it has.
+    #[tactic(auto, using(crate::proofs::KeptListLemmas::counts))]
+    pub fn len(&self) -> usize
+        ensures { result ≡ length self.now }
+    {
+        self.atoms.len()
+    }
+
+    /// The atom at a place, or `None` exactly where the list ends before it.
+    #[tactic(auto, using(crate::proofs::KeptListLemmas::gets))]
+    pub fn get(&self, at: usize) -> Option<KeptAtom>
+        ensures { result ≡ slice_get self.now at }
+    {
+        let atom = *self.atoms.get(at)?;
+        let file = *self.files.get(at)?;
+        Some(KeptAtom {
+            atom,
+            file: file as usize,
+        })
+    }
+
+    /// The atoms alone.
+    #[tactic(auto, using(crate::proofs::KeptListLemmas::alone))]
+    pub fn atoms(&self) -> &AtomList
+        ensures { result.now ≡ map spec.atom_of self.now }
+    {
+        &self.atoms
+    }
+}
+
+// An atom with the alignment with which it is placed.
+#[tactic(auto, unfolding(crate::specs::Atoms::raised))]
+fn raised(winners: &Winners, atom: Atom) -> Atom
+    ensures { result ≡ spec.raised winners.now.literals atom }
+{
+    Atom {
+        key: atom.key,
+        size: atom.size,
+        align: match winners.literal(atom.key) {
+            Some(literal) => literal.align,
+            None => atom.align,
+        },
+    }
+}
+
+// Kept atoms, and one more, if it is kept.
+fn with_atom(
+    before: Vec<Atom>,
+    winners: &Winners,
+    keys: &[AtomKey],
+    atom: Atom,
+) -> Result<Vec<Atom>, OutOfMemory>
+    requires { IsStrictlySortedBy compare_keys keys.now }
+    ensures { IfOk result (λ new. new.items ≡ before.items ++ map (spec.raised winners.now.literals) (if has keys.now atom.key then atom ∷ [] else [])) }
+{
+    let mut kept = before;
+    if is_kept_near(keys, kept.len(), atom.key) {
+        kept.push(raised(winners, atom))?;
+    }
+    Ok(kept)
+}
+
+// Kept atoms, and those among some.
+#[tactic(auto, using(crate::proofs::KeptLemmas::atoms))]
+fn with_atoms(
+    before: Vec<Atom>,
+    winners: &Winners,
+    keys: &[AtomKey],
+    atoms: &[Atom],
+) -> Result<Vec<Atom>, OutOfMemory>
+    requires { IsStrictlySortedBy compare_keys keys.now }
+    ensures { IfOk result (λ new. new.items ≡ before.items ++ map (spec.raised winners.now.literals) (filter (λ atom. has keys.now atom.key) atoms.now)) }
+{
+    let mut kept = before;
+    for atom in atoms {
+        kept = with_atom(kept, winners, keys, *atom)?;
+    }
+    Ok(kept)
+}
+
+// Kept atoms, and those among some of the file at a place.
+fn with_file(
+    before: KeptList,
+    winners: &Winners,
+    keys: &[AtomKey],
+    at: u32,
+    atoms: &[Atom],
+) -> Result<KeptList, OutOfMemory>
+    requires { IsStrictlySortedBy compare_keys keys.now }
+    ensures { IfOk result (λ new. new ≡ before ++ map (spec.kept_as winners.now.literals at) (filter (λ atom. has keys.now atom.key) atoms.now)) }
+{
+    let KeptList {
+        atoms: kept,
+        mut files,
+    } = before;
+    let kept = with_atoms(kept.into_vec(), winners, keys, atoms)?;
+    files.resize(kept.len(), at)?;
+    Ok(KeptList {
+        atoms: AtomList::from_vec(kept),
+        files,
+    })
+}
+
+// Those of files. 2^32 files run out of memory.
+#[tactic(auto, using(crate::proofs::KeptLemmas::files))]
+fn kept_of(
+    alloc: Global,
+    files: &[LoadedFile],
+    winners: &Winners,
+    keys: &[AtomKey],
+) -> Result<KeptList, OutOfMemory>
+    requires { IsStrictlySortedBy compare_keys keys.now }
+    ensures { IfOk result (λ kept. kept ≡ spec.kept_atoms winners.now.literals keys.now files.now) }
+{
+    let mut kept = KeptList::with_capacity(alloc, keys.len())?;
+    for (at, file) in files.iter().enumerate() {
+        let Ok(place) = u32::try_from(at) else {
+            return Err(OutOfMemory);
+        };
+        kept = with_file(kept, winners, keys, place, file.atoms.as_slice())?;
+    }
+    Ok(kept)
+}
+
+/// The atoms of loaded files whose keys are kept, file by file and in each as it is cut, with the alignments with which
+/// they are placed: a literal has the greatest of those for which it stands. Those of 2^32 files run out of memory.
+pub fn kept_atoms(
+    alloc: Global,
+    loaded: &Loaded,
+    winners: &Winners,
+    keys: &KeyList,
+) -> Result<KeptList, OutOfMemory>
+    requires { IsStrictlySortedBy compare_keys keys.now }
+    ensures { IfOk result (λ kept. kept ≡ spec.kept_atoms winners.now.literals keys.now loaded.now.files) }
+{
+    kept_of(alloc, loaded.files.as_slice(), winners, keys.as_slice())
+}

@@ -1,0 +1,111 @@
+//! What the references of an image's atoms mean in it.
+ghost use Rattle.std.specs.Prelude.{◌≡◌, ◌++◌, IfOk, OnOk};
+ghost use Rattle.resolve.specs.Table.{goals_of};
+ghost use Rattle.image_make.specs.Addresses.{AreOnce};
+ghost use Rattle.image_make.specs.AtomReferences.{IsReady, met_by};
+ghost use Rattle.image_make.specs.Rows.{kept_mets};
+ghost use Rattle.image_make.specs.inner.Orders.{AreOrders};
+ghost use Rattle.image_make.specs.inner.Told.{AreTold, scene_of};
+
+use crate::addresses::{Addressing, addresses_of};
+use crate::mets::add_mets;
+use crate::orders::orders_of;
+use liveness::RefOrder;
+use mo_types::{Items, Loaded, LoadedList, OutOfMemory};
+use patch::{Meeting, Met, PlacedWork};
+use resolve::GoalTable;
+use sect_place::Layout;
+use std::alloc::Global;
+use symbol_winners::Winners;
+
+/// What the references of an image's atoms mean: the addresses to which they lead, by the goals of symbols and by what
+/// stands for each literal, in a layout. An image whose first address is `base` has the header there.
+#[derive(Drop)]
+pub struct AtomReferences<'a> {
+    files: &'a LoadedList,
+    orders: Items<RefOrder>,
+    winners: &'a Winners<'a>,
+    layout: &'a Layout,
+    base: u64,
+    goals: &'a GoalTable,
+    addresses: Vec<Option<u64>>,
+}
+
+// Puts the references of an atom behind others.
+fn add_kept_mets(
+    mets: &mut Vec<Met>,
+    setting: &Addressing,
+    files: &LoadedList,
+    orders: &Items<RefOrder>,
+    next: &mut usize,
+    item: &PlacedWork,
+) -> Result<(), OutOfMemory>
+    requires once { AreOnce setting.now.layout.now.placed }
+    requires told { AreTold setting.now }
+    requires orders { AreOrders files.now orders.now }
+    ensures { OnOk result (mets.new.items ≡ mets.old.items ++ kept_mets (scene_of setting.now) files.now (goals_of setting.now.goals.now) item.now) }
+{
+    let Some(file) = files.get(item.file) else {
+        return Ok(());
+    };
+    let Some(order) = orders.get(item.file) else {
+        unreachable!()
+    };
+    let order = order.as_slice();
+    let key = item.atom.key;
+    match setting.goals.file(item.file) {
+        Some(goals) => add_mets(mets, setting, goals.places(), &file.refs, order, next, key),
+        None => add_mets(mets, setting, &[], &file.refs, order, next, key),
+    }
+}
+
+impl<'a> AtomReferences<'a> {
+    /// What references mean. It takes memory for the address of each goal of the pool, and for the place of each
+    /// reference in its file's list.
+    pub fn of(
+        alloc: Global,
+        loaded: &'a Loaded,
+        winners: &'a Winners<'a>,
+        goals: &'a GoalTable,
+        layout: &'a Layout,
+        base: u64,
+    ) -> Result<AtomReferences<'a>, OutOfMemory>
+        requires once { AreOnce layout.now.placed }
+        ensures ready { IfOk result IsReady }
+        ensures mets { IfOk result (λ meets. met_by meets ≡ kept_mets (record { literals = winners.entry.now.literals; base = base; placed = layout.entry.now.placed }) loaded.entry.now.files (goals_of goals.entry.now)) }
+    {
+        let orders = orders_of(alloc, loaded.files.as_slice())?;
+        let addresses = addresses_of(alloc, layout, base, goals.pool())?;
+        Ok(AtomReferences {
+            files: &loaded.files,
+            orders,
+            winners,
+            layout,
+            base,
+            goals,
+            addresses,
+        })
+    }
+}
+
+impl<'a> Meeting for AtomReferences<'a> {
+    ghost ready = { IsReady };
+
+    ghost mets_of = { met_by };
+
+    fn meet(
+        &self,
+        item: &PlacedWork,
+        next: &mut usize,
+        mets: &mut Vec<Met>,
+    ) -> Result<(), OutOfMemory> {
+        let setting = Addressing {
+            winners: self.winners,
+            layout: self.layout,
+            base: self.base,
+            goals: self.goals,
+            addresses: self.addresses.as_slice(),
+        };
+        add_kept_mets(mets, &setting, self.files, &self.orders, next, item)
+    }
+}

@@ -1,0 +1,214 @@
+//! The atoms that have bytes in the image, in its order, with their places.
+ghost use Rattle.std.specs.Prelude.{◌≡◌, ◌+◌, ◌-◌, ◌++◌, ◌∷◌, [], IfOk, IsTrue, slice_get};
+ghost use Rattle.std.specs.List.{filter_map};
+ghost use Rattle.std.specs.List.Sorted.{IsStrictlySortedBy};
+ghost use Rattle.std.specs.Option.{option_map, option_to_list};
+ghost use Rattle.std.specs.Ordering.{on};
+ghost use Rattle.mo_types.specs.Keys.{compare_keys};
+ghost use Rattle.image_make.specs.Addresses.{AreOnce};
+ghost use Rattle.image_make.specs.Atoms.{kept_at};
+ghost use Rattle.image_make.specs.Rows as spec;
+ghost use Rattle.image_make.specs.declared.kept.KeptAtom.{KeptAtom};
+
+use crate::addresses::address_beside;
+use crate::kept::{KeptAtom, KeptList};
+use mo_types::{AtomKey, OutOfMemory};
+use patch::PlacedWork;
+use sect_place::{Layout, PlacedSection, is_zerofill};
+use std::alloc::Global;
+use std::cmp::Ordering;
+
+fn compare(a: &AtomKey, b: &AtomKey) -> Ordering
+    ensures { result ≡ compare_keys a.now b.now }
+{
+    a.cmp(b)
+}
+
+// A kept atom, and its place in the list.
+#[derive(Clone, Copy)]
+struct PlacedKept {
+    kept: KeptAtom,
+    at: usize,
+}
+
+// The kept atom at a place.
+fn found_at(atoms: &KeptList, at: usize) -> Option<PlacedKept>
+    ensures { option_map (λ found. found.kept) result ≡ slice_get atoms.now at }
+{
+    Some(PlacedKept {
+        kept: atoms.get(at)?,
+        at,
+    })
+}
+
+// The kept atom with a key.
+fn find_kept(atoms: &KeptList, key: AtomKey) -> Option<PlacedKept>
+    requires { IsStrictlySortedBy (on (λ (kept : KeptAtom). kept.atom.key) compare_keys) atoms.now }
+    ensures { option_map (λ found. found.kept) result ≡ kept_at atoms.now key }
+{
+    let alone = atoms.atoms().as_slice();
+    match alone.binary_search_by(|atom| compare(&atom.key, &key)) {
+        Ok(at) => found_at(atoms, at),
+        Err(_) => None,
+    }
+}
+
+// Whether a kept atom has a key.
+fn has_key(kept: &KeptAtom, key: &AtomKey) -> bool
+    ensures { IsTrue result → kept.now.atom.key ≡ key.now }
+{
+    kept.atom.key == *key
+}
+
+// The kept atom with a key, which mostly stands at a place of the list.
+#[tactic(auto, using(crate::proofs::KeptListLemmas::near))]
+fn find_near(atoms: &KeptList, near: usize, key: AtomKey) -> Option<PlacedKept>
+    requires { IsStrictlySortedBy (on (λ (kept : KeptAtom). kept.atom.key) compare_keys) atoms.now }
+    ensures { option_map (λ found. found.kept) result ≡ kept_at atoms.now key }
+{
+    if let Some(kept) = atoms.get(near) {
+        if has_key(&kept, &key) {
+            return Some(PlacedKept { kept, at: near });
+        }
+    }
+    find_kept(atoms, key)
+}
+
+// Where an address of a section stands in the file. A place of 2^64 or more is answered as want of memory.
+fn place_in_file(section: &PlacedSection, address: u64) -> Result<u64, OutOfMemory>
+    ensures { IfOk result (λ place. place ≡ section.now.file_offset + (address - section.now.address)) }
+{
+    match section
+        .file_offset
+        .checked_add(address.saturating_sub(section.address))
+    {
+        Some(place) => Ok(place),
+        None => Err(OutOfMemory),
+    }
+}
+
+// Atoms, and a kept one that stands at an address in a section.
+fn with_row(
+    before: Vec<PlacedWork>,
+    section: &PlacedSection,
+    kept: &KeptAtom,
+    address: u64,
+) -> Result<Vec<PlacedWork>, OutOfMemory>
+    ensures { IfOk result (λ new. new.items ≡ before.items ++ spec.row_at section.now kept.now address ∷ []) }
+{
+    let mut items = before;
+    items.push(PlacedWork {
+        atom: kept.atom,
+        file: kept.file,
+        at: place_in_file(section, address)?,
+        address,
+    })?;
+    Ok(items)
+}
+
+// Atoms, and the one with a key in a section, which mostly is the next of the kept ones; another one is then the next.
+#[tactic(auto, using(crate::proofs::ListLemmas::no_more), unfolding(crate::specs::Rows::row_of))]
+fn with_key(
+    before: Vec<PlacedWork>,
+    atoms: &KeptList,
+    layout: &Layout,
+    section: &PlacedSection,
+    key: AtomKey,
+    next: &mut usize,
+) -> Result<Vec<PlacedWork>, OutOfMemory>
+    requires once { AreOnce layout.now.placed }
+    requires rising { IsStrictlySortedBy (on (λ (kept : KeptAtom). kept.atom.key) compare_keys) atoms.now }
+    ensures { IfOk result (λ new. new.items ≡ before.items ++ option_to_list (spec.row_of layout.now.placed atoms.now section.now key)) }
+{
+    let Some(found) = find_near(atoms, *next, key) else {
+        return Ok(before);
+    };
+    *next = found.at.saturating_add(1);
+    let Some(address) = address_beside(layout, found.at, key) else {
+        return Ok(before);
+    };
+    with_row(before, section, &found.kept, address)
+}
+
+// Atoms, and those with some keys in a section.
+#[tactic(auto, using(crate::proofs::ListLemmas::keys_start, crate::proofs::ListLemmas::keys_end))]
+fn with_keys(
+    before: Vec<PlacedWork>,
+    atoms: &KeptList,
+    layout: &Layout,
+    section: &PlacedSection,
+    keys: &[AtomKey],
+) -> Result<Vec<PlacedWork>, OutOfMemory>
+    requires once { AreOnce layout.now.placed }
+    requires rising { IsStrictlySortedBy (on (λ (kept : KeptAtom). kept.atom.key) compare_keys) atoms.now }
+    ensures { IfOk result (λ new. new.items ≡ before.items ++ filter_map (spec.row_of layout.now.placed atoms.now section.now) keys.now) }
+{
+    let mut items = before;
+    let mut next = 0;
+    for key in keys {
+        items = with_key(items, atoms, layout, section, *key, &mut next)?;
+    }
+    Ok(items)
+}
+
+// Atoms, and those of a section.
+fn with_section(
+    before: Vec<PlacedWork>,
+    atoms: &KeptList,
+    layout: &Layout,
+    section: &PlacedSection,
+) -> Result<Vec<PlacedWork>, OutOfMemory>
+    requires once { AreOnce layout.now.placed }
+    requires rising { IsStrictlySortedBy (on (λ (kept : KeptAtom). kept.atom.key) compare_keys) atoms.now }
+    ensures { IfOk result (λ new. new.items ≡ before.items ++ spec.section_rows layout.now.placed atoms.now section.now) }
+{
+    with_keys(
+        before,
+        atoms,
+        layout,
+        section,
+        section.section.atoms.as_slice(),
+    )
+}
+
+fn has_bytes(section: &PlacedSection) -> bool
+    ensures { result ≡ spec.has_bytes section.now }
+{
+    !is_zerofill(section.section.kind)
+}
+
+// Atoms, and those of the sections that have bytes.
+#[tactic(auto, using(crate::proofs::ListLemmas::sections))]
+fn with_sections(
+    before: Vec<PlacedWork>,
+    atoms: &KeptList,
+    layout: &Layout,
+    sections: &[PlacedSection],
+) -> Result<Vec<PlacedWork>, OutOfMemory>
+    requires once { AreOnce layout.now.placed }
+    requires rising { IsStrictlySortedBy (on (λ (kept : KeptAtom). kept.atom.key) compare_keys) atoms.now }
+    ensures { IfOk result (λ new. new.items ≡ before.items ++ spec.rows layout.now.placed atoms.now sections.now) }
+{
+    let mut items = before;
+    for section in sections {
+        if has_bytes(section) {
+            items = with_section(items, atoms, layout, section)?;
+        }
+    }
+    Ok(items)
+}
+
+/// What is written into an image: each kept atom in a section with bytes in the file, in the order of the image, with its
+/// places in the file and in memory. A place of 2^64 or more is answered as want of memory.
+pub fn work_of(
+    alloc: Global,
+    kept: &KeptList,
+    layout: &Layout,
+) -> Result<Vec<PlacedWork>, OutOfMemory>
+    requires once { AreOnce layout.now.placed }
+    requires rising { IsStrictlySortedBy (on (λ (one : KeptAtom). one.atom.key) compare_keys) kept.now }
+    ensures { IfOk result (λ work. work.items ≡ spec.rows layout.now.placed kept.now layout.now.sections) }
+{
+    let none = Vec::with_capacity(alloc, kept.len())?;
+    with_sections(none, kept, layout, layout.sections.as_slice())
+}

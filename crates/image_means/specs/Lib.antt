@@ -1,3 +1,0 @@
-pub mod Entry
-pub mod Means
-pub mod References

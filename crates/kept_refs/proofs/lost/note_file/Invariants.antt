@@ -1,8 +1,0 @@
-use Rattle.std.specs.Option.{option_map}
-use Rattle.goal_table.specs.Table.{goals_in}
-use Rattle.kept_refs.specs.inner.Lost.{held}
-use Rattle.kept_refs.proofs.LostLemmas.{IsNoted}
-use Rattle.kept_refs.proofs.lost.note_file.Given as goal
-
-abbrev pub invariant-loop-at : goal.invariant-loop-at
-invariant-loop-at l = IsNoted l.keys l.file (goals_in l.goals.pool l.goals.places) (option_map held l.fn.least) l.at (option_map held l.found) l.last.key l.last.kept

@@ -1,8 +1,0 @@
-use Rattle.std.specs.Option.{option_map}
-use Rattle.goal_table.specs.Table.{goals_of}
-use Rattle.kept_refs.specs.inner.Lost.{held}
-use Rattle.kept_refs.proofs.LostLemmas.{IsLeastTo}
-use Rattle.kept_refs.proofs.lost.note_files.Given as goal
-
-abbrev pub invariant-loop-at : goal.invariant-loop-at
-invariant-loop-at l = IsLeastTo l.keys l.files (goals_of l.goals) l.at (option_map held l.least)

@@ -1,4 +1,0 @@
-pub mod Lost
-pub mod Parted
-pub mod Spots
-pub mod Turned

@@ -1,0 +1,15 @@
+pub mod AtomSetLemmas
+pub mod AwayLemmas
+pub mod EdgeLemmas
+pub mod FollowLemmas
+pub mod GrowLemmas
+pub mod IndexLemmas
+pub mod LeastLemmas
+pub mod ListLemmas
+pub mod LostLemmas
+pub mod NobodyLemmas
+pub mod PlacedLemmas
+pub mod RunLemmas
+pub mod StableLemmas
+pub mod StandingLemmas
+pub mod TurnLemmas

@@ -1,0 +1,5 @@
+pub mod Away
+pub mod Lost
+pub mod Parted
+pub mod Spots
+pub mod Turned

@@ -1,0 +1,12 @@
+-- Where the references of an atom begin among those in order.
+use Rattle.std.specs.Prelude.{ℕ, ◌-◌, ◌<◌, ◌≤◌, List, length, slice_index_or}
+use Rattle.mo_types.specs.declared.reference.Ref.{Ref}
+use Rattle.liveness.specs.Order.{place_at}
+
+-- the last reference before a place has an atom before another place
+abbrev pub EndsBefore : List Ref → List ℕ → ℕ → ℕ → Type 0
+EndsBefore refs order near at = (d : ℕ) → 0 < near → place_at refs (slice_index_or order (near - 1) d) < at
+
+-- the reference at a place has an atom there or behind it
+abbrev pub BeginsAt : List Ref → List ℕ → ℕ → ℕ → Type 0
+BeginsAt refs order near at = (d : ℕ) → near < length order → at ≤ place_at refs (slice_index_or order near d)

@@ -1,0 +1,97 @@
+-- Each file that is loaded is cut into its pieces, has the form, and is whole where it is read of bytes.
+use Rattle.std.proofs.Common.{◌≡◌, ℕ, ◌<◌, ◌^◌, false, true, Bool, nat_lt, List, All, length, Result, Ok, Err, refl, sym, subst}
+use Rattle.std.specs.Result.{IfErr}
+use Rattle.std.proofs.lemmas.Bool.{ltb-true}
+use Rattle.list_lemmas.proofs.Members.{In, Contains_from_in, in_from_Contains}
+use Rattle.mo_types.specs.Gives.{guarded}
+use Rattle.mo_types.specs.Loaded.{IsWholeFile}
+use Rattle.mo_types.specs.Refs.{refs_of}
+use Rattle.mo_types.specs.declared.cause.Which.TheVariants.{Symbols}
+use Rattle.mo_types.specs.declared.key.FileId.{FileId}
+use Rattle.mo_types.specs.declared.loaded.Loaded.{Loaded}
+use Rattle.mo_types.specs.declared.loaded.LoadedFile.{LoadedFile}
+use Rattle.mo_types.specs.declared.object.Object.{Object}
+use Rattle.mo_types.specs.declared.object_fault.ObjFault.TheVariants.{Limit}
+use Rattle.mo_types.specs.declared.reference.Ref.{Ref}
+use Rattle.mo_types.specs.declared.reference_fault.RefFault.{RefFault}
+use Rattle.mo_obj.proofs.WholeLemmas.{read_whole}
+use Rattle.mo_obj.specs.Features.{first_feature}
+use Rattle.mo_obj.specs.Object.{accepted, described, lacks, object_of}
+use Rattle.mo_obj.proofs.ReadLemmas.{bind_ok}
+use Rattle.mo_obj.specs.Read.{AreBytes, IsRead}
+use Rattle.mo_obj.specs.Relocations.{relocations_of}
+use Rattle.lib_bind.specs.declared.library.LibraryGraph.{LibraryGraph}
+use Rattle.input_files.specs.Files.{all_ids, content_of, file_of, is_first, refs_or_none}
+use Rattle.input_files.specs.Form.{is_later}
+use Rattle.member_rounds.specs.Growth.{union}
+use Rattle.member_rounds.specs.Rounds.{asks, loaded_ids, loaded_of}
+use Rattle.input_files.specs.declared.input.Input.{Input}
+use Rattle.member_rounds.proofs.AnswerLemmas.{loaded_only}
+use Rattle.input_files.proofs.FileLemmas.{few_ids}
+use Rattle.member_rounds.proofs.LowLemmas.{IsObjectOf, form_is, object_at}
+use Rattle.input_files.proofs.EachLemmas.{all_from}
+use Rattle.member_rounds.proofs.WorkLemmas.{from_all}
+use Rattle.link_files.proofs.KeptLemmas.{IsCut}
+use Rattle.loader_laws.specs.Images.{AreCut}
+use Rattle.loader_laws.specs.Tellings.{AreInForm, AreWhole}
+use Rattle.loader_laws.proofs.Going.{no_value, same_value}
+use Rattle.loader_laws.proofs.Parts.{HaveBytes, content_bytes}
+
+-- ---- an object
+
+few_symbols : (bytes : List ℕ) (object : Object) → object_of bytes ≡ Ok object → length object.symbols < 2 ^ 24
+unfolding object_of accepted
+few_symbols bytes object e =
+    let read = bind_ok (described bytes) _ object e in
+    let done = bind_ok (accepted read.0.object read.0.foreign) _ object read.2 in
+    let relocs = bind_ok (relocations_of read.0.object) _ done.0 done.1 in
+    let supported = bind_ok (lacks (first_feature read.0.object read.0.foreign relocs.0)) _ done.0 relocs.2 in
+    subst (λ (o : Object). length o.symbols < 2 ^ 24) (same_value read.0.object object done.2) (by (nat_lt (length read.0.object.symbols) (2 ^ 24)) read.0.object done.0 refl supported.2)
+  where
+    by : (b : Bool) (o : Object) (d : Unit {0}) → nat_lt (length o.symbols) (2 ^ 24) ≡ b → guarded b (Limit Symbols) (tt {0}) ≡ Ok d → length o.symbols < 2 ^ 24
+    by true o d low f = ltb-true (length o.symbols) (2 ^ 24) low
+    by false o d low f = no_value (Limit Symbols) d f
+
+refs_there : (r : Result (List Ref) RefFault) → IfErr r (λ fault. ⊥) → r ≡ Ok (refs_or_none r)
+refs_there (Ok refs) none = refl
+refs_there (Err fault) none = absurd none
+
+-- ---- a file
+
+file_whole : (inputs : List Input) (id : FileId) (file : LoadedFile) → id.member < 2 ^ 20 → AreBytes (content_of inputs id).bytes → file_of inputs id ≡ Ok file → IsWholeFile file
+file_whole inputs id file few bytes is =
+    let content = content_of inputs id in
+    let of : IsObjectOf id content.label content.bytes file = object_at inputs id file is in
+    let object : Object = of.object in
+    let read : IsRead object = read_whole content.bytes object bytes of.read in
+    subst IsWholeFile (sym of.is) (record {
+      member = few;
+      object = read.whole;
+      few_symbols = few_symbols content.bytes object of.read;
+      atoms = refl;
+      refs = refs_there (refs_of object id) (read.refs id);
+      unwinds = tt;
+    })
+
+file_formed : (inputs : List Input) (id : FileId) (file : LoadedFile) → file_of inputs id ≡ Ok file → is_later file ≡ false
+unfolding file_of
+file_formed inputs id file is = form_is id (content_of inputs id).label (content_of inputs id).bytes file is
+
+-- ---- what is loaded
+
+module _ (inputs : List Input) (libs : LibraryGraph) (wanted : List (List ℕ)) (loaded : Loaded) (is : loaded_of inputs libs wanted ≡ Ok loaded) where
+  -- what holds of each file of the inputs that is read holds of all that are loaded
+  each_loaded : (P : LoadedFile → Type 0) → ((id : FileId) (file : LoadedFile) → In id (all_ids inputs) → file_of inputs id ≡ Ok file → P file) → All P loaded.files
+  unfolding union
+  each_loaded P holds = all_from P loaded.files (λ file there.
+      let from = loaded_only inputs libs wanted loaded file is (Contains_from_in loaded.files file there) in
+      holds from.0 file (from_all (all_ids inputs) (is_first inputs) (asks inputs libs wanted) (length (all_ids inputs)) from.0 (in_from_Contains (loaded_ids inputs libs wanted) from.0 from.1)) from.2)
+
+  pub loaded_cut : AreCut loaded.files
+  loaded_cut = each_loaded IsCut (λ id file among read. subst IsCut (sym (object_at inputs id file read).is) refl)
+
+  pub loaded_formed : AreInForm loaded.files
+  loaded_formed = each_loaded (λ (file : LoadedFile). is_later file ≡ false) (λ id file among read. file_formed inputs id file read)
+
+  pub loaded_whole : HaveBytes inputs → AreWhole loaded.files
+  loaded_whole are = each_loaded IsWholeFile (λ id file among read. file_whole inputs id file (few_ids inputs id among) (content_bytes inputs id are) read)

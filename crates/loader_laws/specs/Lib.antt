@@ -1,0 +1,6 @@
+pub mod Entry
+pub mod Images
+pub mod Means
+pub mod Plans
+pub mod References
+pub mod Tellings

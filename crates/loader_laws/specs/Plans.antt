@@ -1,0 +1,46 @@
+-- The image that is planned for the words of a command line and what the files tell.
+use Rattle.std.specs.Prelude.{ℕ, ◌≡◌, List, Ok}
+use Rattle.input_fetch.specs.Contents.{contents_of, places_of}
+use Rattle.input_fetch.specs.declared.content.Content.{Content}
+use Rattle.input_read.specs.Opened.{Contents}
+use Rattle.input_read.specs.Opened as opened
+use Rattle.lib_bind.specs.declared.library.LibraryGraph.{LibraryGraph}
+use Rattle.link_engine.specs.Command.{command_of}
+use Rattle.link_engine.specs.Input.{inputs_with}
+use Rattle.link_engine.specs.Told.{Told}
+use Rattle.link_engine.specs.Verdict.{IsBound, plan_of}
+use Rattle.link_engine.specs.declared.plan.Plan.{Plan}
+use Rattle.link_files.specs.Linked.{IsLinked}
+use Rattle.link_files.specs.Names.{wanted}
+use Rattle.member_rounds.specs.Rounds.{loaded_of}
+use Rattle.mo_cmd.specs.declared.command.Command.{Command}
+use Rattle.mo_obj.specs.Read.{AreBytes}
+use Rattle.mo_outside.specs.Answers.{Answer, There}
+use Rattle.mo_types.specs.declared.loaded.Loaded.{Loaded}
+use Rattle.loader_laws.specs.Images.{AreCut, AreOrdered, IsImageOf}
+
+-- The inputs of the command are opened as what the bytes are that were found. Its stub libraries and what these re-export are
+-- the libraries, and the files are loaded that the rounds bring. What is planned is the image to which these files link; their
+-- ids rise, and each is cut into its pieces.
+pub record IsPlanOfImage (words : List (List ℕ)) (told : Told) (plan : Plan) : Type 0 where
+  pub command : Command
+  pub found : List Content
+  pub contents : Contents
+  pub libs : LibraryGraph
+  pub loaded : Loaded
+  pub image : List ℕ
+  pub commanded : command_of words ≡ Ok command
+  pub fetched : contents_of (places_of command) told.answers ≡ Ok found
+  pub opened_are : opened.contents_of (inputs_with command found) ≡ Ok contents
+  pub bound : IsBound told.look command contents.stubs told.more (Ok libs)
+  pub read : loaded_of contents.inputs libs (wanted command) ≡ Ok loaded
+  pub planned : plan ≡ plan_of command image
+  pub ordered : AreOrdered loaded.files
+  pub cut : AreCut loaded.files
+  pub linked : IsLinked command libs loaded.files (Ok image)
+  pub image_of : IsImageOf command libs loaded.files image
+
+-- the numbers that a file answered are bytes
+abbrev pub HasBytes : Answer → Type 0
+HasBytes (There bytes) = AreBytes bytes
+HasBytes _ = Unit {0}

@@ -1,5 +1,0 @@
-use Rattle.member_rounds.proofs.GatherLemmas.{ids_gathered}
-use Rattle.member_rounds.proofs.all_files.all_ids.Goals as goal
-
-pub returns : goal.returns
-returns c = ids_gathered c.loop-source.all.items c.args.sources.now c.loop-source.source-index c.loop-source.invariant c.loop-source-test.false

@@ -1,5 +1,0 @@
-use Rattle.member_rounds.proofs.PlaceLemmas.{first_there}
-use Rattle.member_rounds.proofs.contents.is_first.Goals as goal
-
-pub returns-in-Some : goal.returns-in-Some
-returns-in-Some c = first_there c.args.sources.now c.args.id c.in-Some.source.now c.comes_first.result c.requires c.in-Some.ensures c.comes_first.ensures

@@ -1,6 +1,0 @@
-use Rattle.std.proofs.Common.{◌*◌, ◌^◌}
-use Rattle.member_rounds.proofs.JobLemmas.{IsOfferedTo}
-use Rattle.member_rounds.proofs.offering.offer_all.Given as goal
-
-abbrev pub invariant-loop-run : goal.invariant-loop-run
-invariant-loop-run g l = IsOfferedTo l.race l.names l.files (l.run * 2 ^ 30) l.fn.racers.items l.racers.items

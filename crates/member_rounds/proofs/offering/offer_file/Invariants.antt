@@ -1,5 +1,0 @@
-use Rattle.member_rounds.proofs.OfferLemmas.{IsOffering}
-use Rattle.member_rounds.proofs.offering.offer_file.Given as goal
-
-abbrev pub invariant-loop-i : goal.invariant-loop-i
-invariant-loop-i l = IsOffering l.names l.file l.i l.fn.racer l.racer

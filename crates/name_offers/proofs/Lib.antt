@@ -1,0 +1,5 @@
+pub mod JobLemmas
+pub mod LeastLemmas
+pub mod OfferLemmas
+pub mod RacerLemmas
+pub mod TeamLemmas

@@ -1,8 +1,0 @@
-use Rattle.std.proofs.Common.{List, true, ap, ◌∙◌}
-use Rattle.std.specs.Prelude.{if◌then◌else◌}
-use Rattle.mo_types.specs.declared.key.AtomKey.{AtomKey}
-use Rattle.resolve.specs.Roots.{has_atom, same_atom}
-use Rattle.resolve.proofs.atom_set.AtomSet.with.Goals as goal
-
-pub returns : goal.returns
-returns c = λ other. c.in_ok-insert.ensures.updates.0 other ∙ ap (λ (ks : List AtomKey). if same_atom c.args.atom other then true else has_atom ks other) c.self.view_is

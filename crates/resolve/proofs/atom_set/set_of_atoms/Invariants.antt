@@ -1,7 +1,0 @@
-use Rattle.std.proofs.Common.{◌≡◌, take}
-use Rattle.mo_types.specs.declared.key.AtomKey.{AtomKey}
-use Rattle.resolve.specs.Roots.{has_atom}
-use Rattle.resolve.proofs.atom_set.set_of_atoms.Given as goal
-
-abbrev pub invariant-loop-atom : goal.invariant-loop-atom
-invariant-loop-atom l = (other : AtomKey) → has_atom l.set other ≡ has_atom (take l.atom-index l.atoms) other

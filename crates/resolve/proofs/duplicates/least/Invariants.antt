@@ -1,5 +1,0 @@
-use Rattle.resolve.specs.inner.Tables.{IsLeastOf}
-use Rattle.resolve.proofs.duplicates.least.Given as goal
-
-abbrev pub invariant-loop-i : goal.invariant-loop-i
-invariant-loop-i l = IsLeastOf l.names l.table l.i l.best

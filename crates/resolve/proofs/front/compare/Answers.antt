@@ -1,5 +1,0 @@
-use Rattle.resolve.proofs.FrontLemmas.{fronts_decide}
-use Rattle.resolve.proofs.front.compare.Goals as goal
-
-pub returns : goal.returns
-returns c = λ a b left right apart. fronts_decide c.args.front c.args.other c.order.result a b c.order.ensures left right apart

@@ -1,6 +1,0 @@
-use Rattle.std.proofs.Common.{◌∙◌}
-use Rattle.resolve.proofs.FrontLemmas.{eight_bytes}
-use Rattle.resolve.proofs.front.number_of.Goals as goal
-
-pub returns : goal.returns
-returns c = c.from_be_bytes.ensures ∙ eight_bytes c.args.name.now

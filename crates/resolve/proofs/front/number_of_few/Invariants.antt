@@ -1,6 +1,0 @@
-use Rattle.std.proofs.Common.{◌≡◌}
-use Rattle.resolve.specs.inner.Front.{front_number}
-use Rattle.resolve.proofs.front.number_of_few.Given as goal
-
-abbrev pub invariant-loop-i : goal.invariant-loop-i
-invariant-loop-i l = l.number ≡ front_number l.i l.name

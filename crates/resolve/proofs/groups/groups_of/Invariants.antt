@@ -1,6 +1,0 @@
-use Rattle.std.proofs.Common.{take}
-use Rattle.resolve.specs.inner.Groups.{AreGroups, held_literals}
-use Rattle.resolve.proofs.groups.groups_of.Given as goal
-
-abbrev pub invariant-loop-literal : goal.invariant-loop-literal
-invariant-loop-literal l = AreGroups (held_literals (take l.literal-index l.literals)) l.groups

@@ -1,5 +1,0 @@
-use Rattle.resolve.proofs.OneLemmas.{one_winner}
-use Rattle.resolve.proofs.laws.a_name_has_one_winner.Goals as goal
-
-pub returns : goal.returns
-returns c = one_winner

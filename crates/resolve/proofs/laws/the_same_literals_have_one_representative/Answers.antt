@@ -1,5 +1,0 @@
-use Rattle.resolve.proofs.RepresentativeLemmas.{share}
-use Rattle.resolve.proofs.laws.the_same_literals_have_one_representative.Goals as goal
-
-pub returns : goal.returns
-returns c = share

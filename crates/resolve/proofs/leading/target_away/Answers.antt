@@ -1,6 +1,0 @@
-use Rattle.std.proofs.Common.{ap, ◌∙◌}
-use Rattle.resolve.specs.inner.Away.{away}
-use Rattle.resolve.proofs.leading.target_away.Goals as goal
-
-pub returns-in-Local : goal.returns-in-Local
-returns-in-Local c = rw c.in-Local.is (c.away.ensures ∙ ap (away c.args.roots.now) c.representative.ensures)

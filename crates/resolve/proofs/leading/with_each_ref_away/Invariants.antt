@@ -1,6 +1,0 @@
-use Rattle.resolve.specs.inner.Away.{ref_away}
-use Rattle.resolve.proofs.GrowLemmas.{IsGrowing}
-use Rattle.resolve.proofs.leading.with_each_ref_away.Given as goal
-
-abbrev pub invariant-loop-at : goal.invariant-loop-at
-invariant-loop-at l = IsGrowing (ref_away l.winners.literals l.roots l.ends) l.fn.before.items l.edges.items l.refs l.at

@@ -1,7 +1,0 @@
-use Rattle.std.proofs.Common.{[]}
-use Rattle.resolve.specs.Roots.{plain_roots}
-use Rattle.resolve.proofs.GrowLemmas.{IsGrowing}
-use Rattle.resolve.proofs.starting.all_plain.Given as goal
-
-abbrev pub invariant-loop-at : goal.invariant-loop-at
-invariant-loop-at l = IsGrowing (plain_roots l.winners) [] l.roots.items l.files l.at

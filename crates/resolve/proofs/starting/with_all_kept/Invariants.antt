@@ -1,6 +1,0 @@
-use Rattle.resolve.specs.Roots.{kept_roots}
-use Rattle.resolve.proofs.GrowLemmas.{IsGrowing}
-use Rattle.resolve.proofs.starting.with_all_kept.Given as goal
-
-abbrev pub invariant-loop-at : goal.invariant-loop-at
-invariant-loop-at l = IsGrowing (kept_roots l.winners) l.fn.before.items l.roots.items l.files l.at

@@ -1,9 +1,0 @@
-use Rattle.resolve.specs.Roots.{exported_root}
-use Rattle.resolve.proofs.PickLemmas.{pick_end, pick_item}
-use Rattle.resolve.proofs.starting.with_exported.Goals as goal
-
-pub loop-winner-preserved : goal.loop-winner-preserved
-loop-winner-preserved c = pick_item (exported_root c.args.winners.now) c.args.before.items c.loop-winner.roots.items c.in_ok-roots.roots.items c.args.list.now c.loop-winner.winner-index c.winner-item.result c.exported_root.result c.loop-winner.invariant c.loop-winner-test.true c.winner-item.is c.exported_root.ensures c.in_ok-roots.ensures
-
-pub returns : goal.returns
-returns c = pick_end (exported_root c.args.winners.now) c.args.before.items c.loop-winner.roots.items c.args.list.now c.loop-winner.winner-index c.loop-winner.invariant c.loop-winner-test.false

@@ -1,6 +1,0 @@
-use Rattle.resolve.specs.Roots.{name_root}
-use Rattle.resolve.proofs.PickLemmas.{IsPicking}
-use Rattle.resolve.proofs.starting.with_names.Given as goal
-
-abbrev pub invariant-loop-name : goal.invariant-loop-name
-invariant-loop-name l = IsPicking (name_root l.winners) l.fn.before.items l.roots.items l.names l.name-index

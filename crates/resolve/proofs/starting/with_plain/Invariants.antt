@@ -1,6 +1,0 @@
-use Rattle.resolve.specs.Roots.{plain_root}
-use Rattle.resolve.proofs.PickLemmas.{IsPicking}
-use Rattle.resolve.proofs.starting.with_plain.Given as goal
-
-abbrev pub invariant-loop-atom : goal.invariant-loop-atom
-invariant-loop-atom l = IsPicking (plain_root l.winners.literals l.external l.winning) l.fn.before.items l.roots.items l.atoms l.atom-index

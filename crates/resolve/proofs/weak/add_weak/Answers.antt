@@ -1,8 +1,0 @@
-use Rattle.resolve.specs.Known.{is_weak_to}
-use Rattle.resolve.specs.Winners.{lists}
-use Rattle.resolve.proofs.WeakLemmas.{or_step}
-use Rattle.resolve.proofs.weak.add_weak.Goals as goal
-
-pub loop-symbol-preserved : goal.loop-symbol-preserved
-loop-symbol-preserved c = λ name.
-    or_step (is_weak_to name) c.args.symbols.now c.loop-symbol.symbol-index c.symbol-item.result (lists c.args.before name) (lists c.loop-symbol.names name) (lists c.in_ok-names.names name) c.loop-symbol-test.true c.symbol-item.is (c.loop-symbol.invariant name) (c.in_ok-names.ensures name)

@@ -1,8 +1,0 @@
-use Rattle.std.proofs.Common.{◌≡◌, ℕ, ◌||◌, List, take}
-use Rattle.std.specs.List.{list_any}
-use Rattle.resolve.specs.Known.{is_weak_to}
-use Rattle.resolve.specs.Winners.{lists}
-use Rattle.resolve.proofs.weak.add_weak.Given as goal
-
-abbrev pub invariant-loop-symbol : goal.invariant-loop-symbol
-invariant-loop-symbol l = (name : List ℕ) → lists l.names name ≡ (lists l.fn.before name || list_any (is_weak_to name) (take l.symbol-index l.symbols))

@@ -1,9 +1,0 @@
-use Rattle.std.proofs.Common.{◌≡◌, ℕ, ◌&&◌, not, List, take}
-use Rattle.std.specs.List.{list_any}
-use Rattle.resolve.specs.Known.{is_strong_to}
-use Rattle.resolve.specs.Winners.{lists}
-use Rattle.resolve.proofs.WeakLemmas.{of_file}
-use Rattle.resolve.proofs.weak.drop_all_strong.Given as goal
-
-abbrev pub invariant-loop-file : goal.invariant-loop-file
-invariant-loop-file l = (name : List ℕ) → lists l.names name ≡ (lists l.fn.before name && not (list_any (of_file (is_strong_to name)) (take l.file-index l.files)))

@@ -1,7 +1,0 @@
-use Rattle.std.proofs.Common.{◌≡◌, take}
-use Rattle.std.specs.List.{filter_map}
-use Rattle.resolve.specs.inner.Words.{offer_of}
-use Rattle.resolve.proofs.words.offers_of.Given as goal
-
-abbrev pub invariant-loop-candidate : goal.invariant-loop-candidate
-invariant-loop-candidate l = l.offers.items ≡ filter_map (offer_of l.names) (take l.candidate-index l.found)

@@ -1,0 +1,7 @@
+use Rattle.mo_cmd.specs.declared.command.Command.{Command}
+use Rattle.symbol_winners.specs.inner.Index.{AreRules}
+use Rattle.symbol_winners.proofs.ListSteps.{AreUpTo}
+use Rattle.symbol_winners.proofs.choosing.winners_of.Given as goal
+
+abbrev pub invariant-loop-one : goal.invariant-loop-one
+invariant-loop-one l = (command : Command) → AreRules command l.rules → AreUpTo command l.chosen l.one-index l.list.items
