@@ -7,34 +7,31 @@ use Rattle.list_lemmas.proofs.Members.{all_at}
 use Rattle.mo_format.specs.declared.unwind.RegularPageEntry.{RegularPageEntry}
 use Rattle.unwind_out.specs.declared.cut.Page.{Page}
 use Rattle.unwind_out.specs.Pages.{with_new, encodings, first_function, IsNear, IsCompressible, IsMost, page_length, IsFirstPage, ArePages}
-use Rattle.unwind_out.specs.Held.{AreFirst, held, IsHeld}
+use Rattle.unwind_out.specs.Held.{AreKnown, held, IsHeld}
 use Rattle.unwind_out.proofs.Loops.{all_push}
-use Rattle.unwind_out.proofs.Uses.{encodings_more, encodings_none, encodings_longer}
+use Rattle.unwind_out.proofs.Uses.{encodings_more, encodings_none, encodings_longer, new_front}
 
 -- the rows that were met can be in one compressed page
-pub record IsMeeting (rows : List RegularPageEntry) (at : ℕ) (numbers : List ℕ) (count : ℕ) : Type 0 where
+pub record IsMeeting (rows : List RegularPageEntry) (at : ℕ) (numbers guesses : List ℕ) : Type 0 where
   pub are : numbers ≡ encodings (take at rows)
-  pub once : AreFirst numbers
-  pub counted : count ≡ length numbers
+  pub known : AreKnown numbers guesses
   pub near : AllByRecursion (IsNear (first_function rows)) (take at rows)
   pub indexed : length numbers ≤ 256
   pub room : at + length numbers ≤ 1021
 
-pub meeting_starts : (rows : List RegularPageEntry) (numbers : List ℕ) → numbers ≡ [] → IsMeeting rows 0 numbers 0
-meeting_starts rows numbers e = record {
+pub meeting_starts : (rows : List RegularPageEntry) (numbers guesses : List ℕ) → numbers ≡ [] → AreKnown numbers guesses → IsMeeting rows 0 numbers guesses
+meeting_starts rows numbers guesses e known = record {
   are = e ∙ sym encodings_none;
-  once = subst AreFirst (sym e) (record { each = λ k within. absurd (omega arith) });
-  counted = sym (ap length e);
+  known = known;
   near = tt;
   indexed = let none = ap length e in omega arith;
   room = let none = ap length e in omega arith;
 }
 
-pub meeting_goes_on : (rows : List RegularPageEntry) (at count : ℕ) (numbers new : List ℕ) (row : RegularPageEntry) → IsMeeting rows at numbers count → at < length rows → row ≡ get_or rows at row → new ≡ encodings (take (at + 1) rows) → AreFirst new → row.function_offset < first_function rows + 2 ^ 24 → length new ≤ 256 → at + 1 + length new ≤ 1021 → IsMeeting rows (at + 1) new (length new)
-meeting_goes_on rows at count numbers new row meeting within is are once near indexed room = record {
+pub meeting_goes_on : (rows : List RegularPageEntry) (at : ℕ) (numbers guesses new new_guesses : List ℕ) (row : RegularPageEntry) → IsMeeting rows at numbers guesses → at < length rows → row ≡ get_or rows at row → new ≡ encodings (take (at + 1) rows) → AreKnown new new_guesses → row.function_offset < first_function rows + 2 ^ 24 → length new ≤ 256 → at + 1 + length new ≤ 1021 → IsMeeting rows (at + 1) new new_guesses
+meeting_goes_on rows at numbers guesses new new_guesses row meeting within is are known near indexed room = record {
   are = are;
-  once = once;
-  counted = refl;
+  known = known;
   near =
       let front : take (at + 1) rows ≡ take at rows ++ row ∷ [] = take_more rows at row within ∙ ap (λ (r : RegularPageEntry). take at rows ++ r ∷ []) (sym is) in
       subst (AllByRecursion (IsNear (first_function rows))) (sym front) (all_push (IsNear (first_function rows)) (take at rows) row meeting.near near);
@@ -47,8 +44,8 @@ near_front rows zero all = tt
 near_front [] (suc at) all = tt
 near_front (row ∷ rows) (suc at) all = all
 
-compressible : (rows : List RegularPageEntry) (at count : ℕ) (numbers : List ℕ) → IsMeeting rows at numbers count → at ≤ length rows → IsCompressible (take at rows)
-compressible rows at count numbers meeting within =
+compressible : (rows : List RegularPageEntry) (at : ℕ) (numbers guesses : List ℕ) → IsMeeting rows at numbers guesses → at ≤ length rows → IsCompressible (take at rows)
+compressible rows at numbers guesses meeting within =
     let same : length numbers ≡ length (encodings (take at rows)) = ap length meeting.are in
     let long : length (take at rows) ≡ at = length-take-le at rows within in
     let indexed = meeting.indexed in
@@ -79,10 +76,10 @@ far_by rows at other row within is far most holds false e =
     absurd (omega arith)
 
 -- the next row is too far away
-pub most_far : (rows : List RegularPageEntry) (at count : ℕ) (numbers : List ℕ) (row : RegularPageEntry) → IsMeeting rows at numbers count → at < length rows → row ≡ get_or rows at row → first_function rows + 2 ^ 24 ≤ row.function_offset → IsMost rows at
-most_far rows at count numbers row meeting within is far = record {
+pub most_far : (rows : List RegularPageEntry) (at : ℕ) (numbers guesses : List ℕ) (row : RegularPageEntry) → IsMeeting rows at numbers guesses → at < length rows → row ≡ get_or rows at row → first_function rows + 2 ^ 24 ≤ row.function_offset → IsMost rows at
+most_far rows at numbers guesses row meeting within is far = record {
   within = omega arith;
-  holds = compressible rows at count numbers meeting (omega arith);
+  holds = compressible rows at numbers guesses meeting (omega arith);
   most = λ other most holds. far_by rows at other row within is far most holds (leb other at) refl;
 }
 
@@ -101,30 +98,35 @@ full_by rows at other within (inr full) most holds false e =
     absurd (omega arith)
 
 -- with the next row there are too many encodings
-pub most_indexed : (rows : List RegularPageEntry) (at count : ℕ) (numbers new : List ℕ) → IsMeeting rows at numbers count → at < length rows → new ≡ encodings (take (at + 1) rows) → 256 < length new → IsMost rows at
-most_indexed rows at count numbers new meeting within are full = record {
+pub most_indexed : (rows : List RegularPageEntry) (at : ℕ) (numbers guesses new : List ℕ) → IsMeeting rows at numbers guesses → at < length rows → new ≡ encodings (take (at + 1) rows) → 256 < length new → IsMost rows at
+most_indexed rows at numbers guesses new meeting within are full = record {
   within = omega arith;
-  holds = compressible rows at count numbers meeting (omega arith);
+  holds = compressible rows at numbers guesses meeting (omega arith);
   most = λ other most holds. full_by rows at other within (inl (subst (λ (xs : List ℕ). 256 < length xs) are full)) most holds (leb other at) refl;
 }
 
 -- or too many bytes
-pub most_room : (rows : List RegularPageEntry) (at count : ℕ) (numbers new : List ℕ) → IsMeeting rows at numbers count → at < length rows → new ≡ encodings (take (at + 1) rows) → 1021 < at + 1 + length new → IsMost rows at
-most_room rows at count numbers new meeting within are full = record {
+pub most_room : (rows : List RegularPageEntry) (at : ℕ) (numbers guesses new : List ℕ) → IsMeeting rows at numbers guesses → at < length rows → new ≡ encodings (take (at + 1) rows) → 1021 < at + 1 + length new → IsMost rows at
+most_room rows at numbers guesses new meeting within are full = record {
   within = omega arith;
-  holds = compressible rows at count numbers meeting (omega arith);
+  holds = compressible rows at numbers guesses meeting (omega arith);
   most = λ other most holds. full_by rows at other within (inr (subst (λ (xs : List ℕ). 1021 < at + 1 + length xs) are full)) most holds (leb other at) refl;
 }
 
-pub most_all : (rows : List RegularPageEntry) (at count : ℕ) (numbers : List ℕ) → IsMeeting rows at numbers count → at ≡ length rows → IsMost rows (length rows)
-most_all rows at count numbers meeting all = record {
+pub most_all : (rows : List RegularPageEntry) (at : ℕ) (numbers guesses : List ℕ) → IsMeeting rows at numbers guesses → at ≡ length rows → IsMost rows (length rows)
+most_all rows at numbers guesses meeting all = record {
   within = omega arith;
-  holds = subst (λ (n : ℕ). IsCompressible (take n rows)) all (compressible rows at count numbers meeting (omega arith));
+  holds = subst (λ (n : ℕ). IsCompressible (take n rows)) all (compressible rows at numbers guesses meeting (omega arith));
   most = λ other most holds. most;
 }
 
-pub count_is : (rows : List RegularPageEntry) (at count : ℕ) (numbers : List ℕ) → IsMeeting rows at numbers count → count ≡ length (encodings (take at rows))
-count_is rows at count numbers meeting = meeting.counted ∙ ap length meeting.are
+pub all_met : (rows : List RegularPageEntry) (at : ℕ) (numbers guesses : List ℕ) → IsMeeting rows at numbers guesses → at ≡ length rows → numbers ≡ encodings (take (length rows) rows)
+all_met rows at numbers guesses meeting all = meeting.are ∙ ap (λ (n : ℕ). encodings (take n rows)) all
+
+-- without the encoding of a row that doesn't fit
+pub met_before : (rows : List RegularPageEntry) (at before : ℕ) (numbers guesses new rest : List ℕ) (row : RegularPageEntry) → IsMeeting rows at numbers guesses → new ≡ with_new numbers row.encoding → before ≡ length numbers → rest ≡ take before new → rest ≡ encodings (take at rows)
+met_before rows at before numbers guesses new rest row meeting e before_is rest_is =
+    rest_is ∙ ap (λ (n : ℕ). take n new) before_is ∙ ap (take (length numbers)) e ∙ new_front numbers row.encoding ∙ meeting.are
 
 -- ---- the first page
 
@@ -200,16 +202,16 @@ rest_shorter rows page next first is =
 
 pub ruleset cutting = (cutting_starts, cutting_goes_on, cutting_ends, cutting_ends_len, page_some, page_within, rest_shorter, take_rest)
 
-pub encodings_next : (rows : List RegularPageEntry) (at count : ℕ) (numbers new : List ℕ) (row : RegularPageEntry) → IsMeeting rows at numbers count → at < length rows → row ≡ get_or rows at row → new ≡ with_new numbers row.encoding → new ≡ encodings (take (at + 1) rows)
-encodings_next rows at count numbers new row meeting within is e =
+pub encodings_next : (rows : List RegularPageEntry) (at : ℕ) (numbers guesses new : List ℕ) (row : RegularPageEntry) → IsMeeting rows at numbers guesses → at < length rows → row ≡ get_or rows at row → new ≡ with_new numbers row.encoding → new ≡ encodings (take (at + 1) rows)
+encodings_next rows at numbers guesses new row meeting within is e =
     e ∙ ap (λ (xs : List ℕ). with_new xs row.encoding) meeting.are ∙ sym (encodings_more rows at row within is)
 
-pub ruleset meeting = (meeting_starts, meeting_goes_on, most_far, most_indexed, most_room, most_all, count_is, encodings_next)
+pub ruleset meeting = (meeting_starts, meeting_goes_on, most_far, most_indexed, most_room, most_all, all_met, met_before, encodings_next)
 
-pub held_compressed : (rows : List RegularPageEntry) (count : ℕ) (page : Page) → IsMost rows count → page.rows.now ≡ take count rows → page.encodings ≡ length (encodings (take count rows)) → IsHeld page
-held_compressed rows count page most e counted = λ many. (
+pub held_compressed : (rows : List RegularPageEntry) (count : ℕ) (page : Page) → IsMost rows count → page.rows.now ≡ take count rows → page.encodings.items ≡ encodings (take count rows) → IsHeld page
+held_compressed rows count page most e are = λ many. (
   subst IsCompressible (sym e) most.holds,
-  counted ∙ ap (λ (xs : List RegularPageEntry). length (encodings xs)) (sym e),
+  are ∙ ap encodings (sym e),
 )
 
 pub held_regular : (page : Page) → length page.rows.now ≤ 511 → IsHeld page

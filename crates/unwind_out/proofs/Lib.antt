@@ -6,4 +6,6 @@ pub mod Spelling
 pub mod Answering
 pub mod Reading
 pub mod Whole
+pub mod One
+pub mod Sizes
 pub mod Law

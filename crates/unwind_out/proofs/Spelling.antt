@@ -19,9 +19,9 @@ use Rattle.mo_format.specs.declared.unwind.CompressedPageHeader.{CompressedPageH
 use Rattle.mo_format.specs.declared.unwind.CompressedPageEntry.{CompressedPageEntry}
 use Rattle.unwind_out.specs.declared.cut.Page.{Page}
 use Rattle.unwind_out.specs.Pages.{encodings, first_function, IsNear, IsCompressible, compressed_entry, regular_page_header, compressed_page_header, regular_page, compressed_page, page_bytes, field, lsda_place, index_of, last_entry, info_header, section_bytes}
-use Rattle.unwind_out.specs.Held.{AreNear, AreThere, entry_of, held, IsHeld}
+use Rattle.unwind_out.specs.Held.{AreFirst, AreNear, AreThere, entry_of, held, IsHeld}
 use Rattle.unwind_out.proofs.Loops.{IsPutting, putting_starts, putting_goes_on, putting_ends}
-use Rattle.unwind_out.proofs.Uses.{encodings_there}
+use Rattle.unwind_out.proofs.Uses.{encodings_first, encodings_there}
 
 pub appended : (old mid new a b : List ℕ) → mid ≡ old ++ a → new ≡ mid ++ b → new ≡ old ++ (a ++ b)
 appended old mid new a b first second = second ∙ ap (λ (z : List ℕ). z ++ b) first ∙ append_assoc old a b
@@ -84,12 +84,12 @@ length-compressed_page rows =
     let outer : length ((head ++ body) ++ flat_map (number_bytes 4) (encodings rows)) ≡ length (head ++ body) + length (flat_map (number_bytes 4) (encodings rows)) = length-append (head ++ body) (flat_map (number_bytes 4) (encodings rows)) in
     omega arith
 
-pub size_compressed : (page : Page) (size : ℕ) → IsHeld page → 511 < length page.rows.now → size ≡ 12 + 4 * (length page.rows.now + page.encodings) → size ≡ length (page_bytes page.rows.now)
+pub size_compressed : (page : Page) (size : ℕ) → IsHeld page → 511 < length page.rows.now → size ≡ 12 + 4 * (length page.rows.now + length page.encodings.items) → size ≡ length (page_bytes page.rows.now)
 unfolding page_bytes
 size_compressed page size is many e =
     let compressed = lt-ltb 511 (length page.rows.now) many in
     let long = length-compressed_page page.rows.now in
-    let counted = (is many).1 in
+    let counted : length page.encodings.items ≡ length (encodings page.rows.now) = ap length (is many).1 in
     rw compressed (omega arith)
 
 pub size_regular : (page : Page) (size : ℕ) → length page.rows.now ≤ 511 → size ≡ 8 + 8 * length page.rows.now → size ≡ length (page_bytes page.rows.now)
@@ -100,8 +100,8 @@ size_regular page size few e =
     rw regular (omega arith)
 
 -- a compressed page has few rows and encodings
-pub few_rows : (page : Page) → IsHeld page → 511 < length page.rows.now → length page.rows.now + page.encodings ≤ 1021
-few_rows page is many = let room = (is many).0.room in let counted = (is many).1 in omega arith
+pub few_rows : (page : Page) → IsHeld page → 511 < length page.rows.now → length page.rows.now + length page.encodings.items ≤ 1021
+few_rows page is many = let room = (is many).0.room in let counted : length page.encodings.items ≡ length (encodings page.rows.now) = ap length (is many).1 in omega arith
 
 pub bytes_compressed : (page : List RegularPageEntry) (new old : List ℕ) → 511 < length page → new ≡ old ++ compressed_page page → new ≡ old ++ page_bytes page
 unfolding page_bytes
@@ -130,6 +130,12 @@ are_near rows first fits e = record { each = subst (λ (n : ℕ). AllByRecursion
 pub are_there : (rows : List RegularPageEntry) (numbers : List ℕ) → numbers ≡ encodings rows → AreThere numbers rows
 are_there rows numbers e = record { each = subst (λ (ns : List ℕ). AllByRecursion (λ (r : RegularPageEntry). position_or_len (λ other. other == r.encoding) ns < length ns) rows) (sym e) (encodings_there rows) }
 
+pub are_first : (rows : List RegularPageEntry) (numbers : List ℕ) → numbers ≡ encodings rows → AreFirst numbers
+are_first rows numbers e = subst AreFirst (sym e) (encodings_first rows)
+
+pub few_numbers : (rows : List RegularPageEntry) (numbers : List ℕ) → IsCompressible rows → numbers ≡ encodings rows → length numbers ≤ 256
+few_numbers rows numbers fits e = let indexed = fits.indexed in let same : length numbers ≡ length (encodings rows) = ap length e in omega arith
+
 pub page_is : (rows : List RegularPageEntry) (first : ℕ) (numbers : List ℕ) (old one two new : List ℕ) (header : CompressedPageHeader) → numbers ≡ encodings rows → first ≡ first_function rows
     → header ≡ compressed_page_header (length rows) (length numbers) → one ≡ old ++ compressed_page_header_bytes header
     → two ≡ one ++ flat_map (λ row. compressed_page_entry_bytes (compressed_entry first numbers row)) rows → new ≡ two ++ flat_map (number_bytes 4) numbers → new ≡ old ++ compressed_page rows
@@ -155,7 +161,7 @@ compressed_put rows first numbers old at now new row offset index putting within
 
 pub ruleset compressing = (putting_starts, compressed_put, putting_ends, near_at, there_at)
 
-pub ruleset compressed = (are_near, are_there, page_is)
+pub ruleset compressed = (are_near, are_there, are_first, few_numbers, page_is)
 
 -- ---- fields
 
@@ -225,13 +231,6 @@ indexing_goes_on lsda_at lsdas page_at pages old at place next now new page inde
       ∙ indexing.rest;
 }
 
-pub indexing_next : (lsda_at : ℕ) (lsdas : List UnwindLsdaEntry) (page_at : ℕ) (pages : List Page) (old : List ℕ) (at place next : ℕ) (now new : List ℕ) (d : Page)
-    → IsIndexing lsda_at lsdas page_at pages old at place now → at < length pages
-    → next ≡ field (place + length (page_bytes (get_or pages at d).rows.now)) → new ≡ now ++ unwind_index_entry_bytes (entry_of lsda_at lsdas place (get_or pages at d).rows.now)
-    → IsIndexing lsda_at lsdas page_at pages old (at + 1) next new
-indexing_next lsda_at lsdas page_at pages old at place next now new d indexing within next_is e =
-    indexing_goes_on lsda_at lsdas page_at pages old at place next now new (get_or pages at d) indexing within (get_or_default pages at d (get_or pages at d) within) next_is e
-
 pub entry_put : (lsda_at : ℕ) (lsdas : List UnwindLsdaEntry) (at : ℕ) (rows : List RegularPageEntry) (first lsda : ℕ) (now new : List ℕ) → first ≡ first_function rows → lsda ≡ field (lsda_place lsda_at lsdas first)
     → new ≡ now ++ unwind_index_entry_bytes (record { function_offset = first; page_offset = at; lsda_offset = lsda }) → new ≡ now ++ unwind_index_entry_bytes (entry_of lsda_at lsdas at rows)
 entry_put lsda_at lsdas at rows first lsda now new first_is lsda_is e =
@@ -253,7 +252,7 @@ indexing_ends lsda_at lsdas page_at pages old at place now indexing past =
     ∙ ap (λ (z : List ℕ). now ++ z) (sym (no_index lsda_at lsdas place (drop at pages) (at_drop_all (λ (ps : List Page). ps) pages at past)))
     ∙ indexing.rest
 
-pub ruleset indexing = (indexing_starts, indexing_next, indexing_ends)
+pub ruleset indexing = (indexing_starts, indexing_goes_on, indexing_ends)
 
 -- ---- the whole section
 

@@ -2,15 +2,17 @@
 use Rattle.std.proofs.Common.{◌≡◌, ◌≢◌, ℕ, ◌+◌, ◌<◌, ◌≤◌, ◌==◌, ltb, cond, Bool, true, false, List, [], ◌∷◌, ◌++◌, length, get_or, take, map, unwrap_or, refl, sym, ap, subst, ◌∙◌, arith, length-append}
 use Rattle.std.specs.List.{position, position_or_len, AllByRecursion}
 use Rattle.std.proofs.lemmas.List.{take_all, take_more, map-append}
-use Rattle.std.proofs.lemmas.List.Sums.{prefix_len-le-length}
+use Rattle.std.proofs.lemmas.List.Sums.{prefix_len-le-length, passes_at_first}
 use Rattle.std.proofs.lemmas.List.Folds.{position_or_len_push}
 use Rattle.std.proofs.lemmas.Bool.{lt-ltb, ltb-true, le-ltb, ltb-false}
 use Rattle.std.proofs.lemmas.Bool.Decides.{nat_tests}
-use Rattle.std.proofs.Math.ListN.{get_or-append}
-use Rattle.std.proofs.Math.Seq.{get_or-append_seam}
+use Rattle.std.proofs.lemmas.List.{get_or-set_other}
+use Rattle.std.proofs.lemmas.Grind.{get_or-set_at}
+use Rattle.std.proofs.Math.ListN.{get_or-append, set}
+use Rattle.std.proofs.Math.Seq.{get_or-append_seam, take-append_seam, take-length}
 use Rattle.mo_format.specs.declared.unwind.RegularPageEntry.{RegularPageEntry}
 use Rattle.unwind_out.specs.Pages.{with_new, first_uses, encodings}
-use Rattle.unwind_out.specs.Held.{AreFirst}
+use Rattle.unwind_out.specs.Held.{AreFirst, AreKnown, guess_place}
 
 abbrev pub same_as : ℕ → ℕ → Bool
 same_as number other = other == number
@@ -73,9 +75,6 @@ first_more seen number k once none within false e =
 
 pub first_new : (seen : List ℕ) (number : ℕ) → AreFirst seen → place seen number ≡ length seen → AreFirst (seen ++ number ∷ [])
 first_new seen number once none = record { each = λ k within. first_more seen number k once none within (ltb k (length seen)) refl }
-
-pub first_pushed : (seen new : List ℕ) (number : ℕ) → AreFirst seen → new ≡ seen ++ number ∷ [] → place seen number ≡ length seen → AreFirst new
-first_pushed seen new number once e none = subst AreFirst (sym e) (first_new seen number once none)
 
 pub first_none : AreFirst []
 first_none = record { each = λ k within. absurd (omega arith) }
@@ -167,20 +166,107 @@ pub encodings_there : (rows : List RegularPageEntry) → AllByRecursion (λ row.
 unfolding encodings
 encodings_there rows = all_there [] rows
 
--- ---- a loop that gathers encodings
+-- ---- numbers with guesses
 
-pub record IsUsing (rows : List RegularPageEntry) (at : ℕ) (numbers : List ℕ) : Type 0 where
-  pub are : numbers ≡ encodings (take at rows)
+new_first_by : (seen : List ℕ) (number : ℕ) (below : Bool) → AreFirst seen → ltb (place seen number) (length seen) ≡ below → AreFirst (cond below seen (seen ++ number ∷ []))
+new_first_by seen number true once e = once
+new_first_by seen number false once e =
+    let low = place-le seen number in
+    let high = ltb-false (place seen number) (length seen) e in
+    first_new seen number once (omega arith)
 
-pub using_starts : (rows : List RegularPageEntry) (numbers : List ℕ) → numbers ≡ [] → IsUsing rows 0 numbers
-using_starts rows numbers e = record { are = e ∙ sym encodings_none }
+new_first : (seen : List ℕ) (number : ℕ) → AreFirst seen → AreFirst (with_new seen number)
+new_first seen number once =
+    subst AreFirst (sym (new_by seen number (ltb (place seen number) (length seen)) refl)) (new_first_by seen number (ltb (place seen number) (length seen)) once refl)
 
-pub using_goes_on : (rows : List RegularPageEntry) (at : ℕ) (numbers new : List ℕ) (row : RegularPageEntry) → IsUsing rows at numbers → at < length rows → row ≡ get_or rows at row → new ≡ with_new numbers row.encoding → IsUsing rows (at + 1) new
-using_goes_on rows at numbers new row using' within is e = record { are = e ∙ ap (λ (xs : List ℕ). with_new xs row.encoding) using'.are ∙ sym (encodings_more rows at row within is) }
+uses_first : (seen xs : List ℕ) → AreFirst seen → AreFirst (first_uses seen xs)
+unfolding first_uses
+uses_first seen [] once = once
+uses_first seen (x ∷ xs) once = uses_first (with_new seen x) xs (new_first seen x once)
 
-pub using_ends : (rows : List RegularPageEntry) (at : ℕ) (numbers : List ℕ) → IsUsing rows at numbers → length rows ≤ at → numbers ≡ encodings rows
-using_ends rows at numbers using' past = using'.are ∙ ap encodings (take_all at rows past)
+-- encodings stand there once each
+pub encodings_first : (rows : List RegularPageEntry) → AreFirst (encodings rows)
+unfolding encodings
+encodings_first rows = uses_first [] (encodings_in rows) first_none
 
-pub ruleset uses = (position_or_len_from, guess_holds, new_behind, not_new, first_pushed)
+pub known_none : (numbers guesses : List ℕ) → numbers ≡ [] → AreKnown numbers guesses
+known_none numbers guesses e = record {
+  once = subst AreFirst (sym e) first_none;
+  seen = λ k within. let none = ap length e in absurd (omega arith);
+}
 
-pub ruleset using_rules = (using_starts, using_goes_on, using_ends, first_none)
+no_guess_by : (numbers guesses : List ℕ) (number : ℕ) (there : Bool) → AreKnown numbers guesses → get_or guesses (guess_place number) 0 ≡ 0 → ltb (place numbers number) (length numbers) ≡ there → place numbers number ≡ length numbers
+no_guess_by numbers guesses number true known none e =
+    let low = ltb-true (place numbers number) (length numbers) e in
+    let seen : 0 < get_or guesses (guess_place (get_or numbers (place numbers number) 0)) 0 = known.seen (place numbers number) low in
+    let passes : (get_or numbers (place numbers number) 0 == number) ≡ true = passes_at_first (same_as number) numbers 0 low in
+    let is : get_or numbers (place numbers number) 0 ≡ number = grind (arith, nat_tests) in
+    let there : 0 < get_or guesses (guess_place number) 0 = subst (λ (n : ℕ). 0 < get_or guesses (guess_place n) 0) is seen in
+    absurd (omega arith)
+no_guess_by numbers guesses number false known none e =
+    let low = place-le numbers number in
+    let high = ltb-false (place numbers number) (length numbers) e in
+    omega arith
+
+-- a number without a guess isn't there
+no_guess : (numbers guesses : List ℕ) (number : ℕ) → AreKnown numbers guesses → get_or guesses (guess_place number) 0 ≡ 0 → place numbers number ≡ length numbers
+no_guess numbers guesses number known none = no_guess_by numbers guesses number (ltb (place numbers number) (length numbers)) known none refl
+
+pub new_tested : (numbers guesses : List ℕ) (number at : ℕ) → AreKnown numbers guesses → at ≡ guess_place number → get_or guesses at 0 ≡ 0 → (get_or guesses at 0 == 0) ≡ (place numbers number == length numbers)
+new_tested numbers guesses number at known is none =
+    let new : place numbers number ≡ length numbers = no_guess numbers guesses number known (ap (λ (n : ℕ). get_or guesses n 0) (sym is) ∙ none) in
+    let here : (get_or guesses at 0 == 0) ≡ true = grind (arith, nat_tests) in
+    let there : (place numbers number == length numbers) ≡ true = grind (arith, nat_tests) in
+    here ∙ sym there
+
+pub known_once : (numbers guesses : List ℕ) → AreKnown numbers guesses → AreFirst numbers
+known_once numbers guesses known = known.once
+
+seen_by : (guesses : List ℕ) (at other value : ℕ) (same : Bool) → at < length guesses → 0 < value → (other == at) ≡ same → (same ≡ false → 0 < get_or guesses other 0) → 0 < get_or (set guesses at value) other 0
+seen_by guesses at other value true within some e old =
+    let is : other ≡ at = grind (arith, nat_tests) in
+    let now : get_or (set guesses at value) other 0 ≡ value = get_or-set_at guesses at other value 0 is within in
+    omega arith
+seen_by guesses at other value false within some e old =
+    let apart : other ≢ at = λ is. let same : (other == at) ≡ true = grind (arith, nat_tests) in cc in
+    let kept : get_or (set guesses at value) other 0 ≡ get_or guesses other 0 = get_or-set_other guesses at other value 0 apart in
+    let before : 0 < get_or guesses other 0 = old refl in
+    omega arith
+
+seen_more : (numbers guesses : List ℕ) (number value k : ℕ) (old : Bool) → AreKnown numbers guesses → 0 < value → guess_place number < length guesses → k < length (numbers ++ number ∷ []) → ltb k (length numbers) ≡ old
+    → 0 < get_or (set guesses (guess_place number) value) (guess_place (get_or (numbers ++ number ∷ []) k 0)) 0
+seen_more numbers guesses number value k true known some within low e =
+    let before : k < length numbers = ltb-true k (length numbers) e in
+    let same : get_or (numbers ++ number ∷ []) k 0 ≡ get_or numbers k 0 = get_or-append numbers (number ∷ []) 0 k before in
+    let seen : 0 < get_or guesses (guess_place (get_or numbers k 0)) 0 = known.seen k before in
+    subst (λ (n : ℕ). 0 < get_or (set guesses (guess_place number) value) (guess_place n) 0) (sym same)
+    (seen_by guesses (guess_place number) (guess_place (get_or numbers k 0)) value (guess_place (get_or numbers k 0) == guess_place number) within some refl (λ other. seen))
+seen_more numbers guesses number value k false known some within low e =
+    let high : length numbers ≤ k = ltb-false k (length numbers) e in
+    let long : length (numbers ++ number ∷ []) ≡ length numbers + 1 = length-append numbers (number ∷ []) in
+    let last : k ≡ length numbers = omega arith in
+    let same : get_or (numbers ++ number ∷ []) k 0 ≡ number = rw last (get_or-append_seam numbers number [] 0) in
+    let own : (guess_place number == guess_place number) ≡ true = grind (arith, nat_tests) in
+    subst (λ (n : ℕ). 0 < get_or (set guesses (guess_place number) value) (guess_place n) 0) (sym same)
+    (seen_by guesses (guess_place number) (guess_place number) value true within some own (λ other. absurd (cc)))
+
+pub known_pushed : (numbers new guesses new_guesses : List ℕ) (number value : ℕ) → AreKnown numbers guesses → new ≡ numbers ++ number ∷ [] → place numbers number ≡ length numbers
+    → new_guesses ≡ set guesses (guess_place number) value → 0 < value → guess_place number < length guesses → AreKnown new new_guesses
+known_pushed numbers new guesses new_guesses number value known e none set_is some within =
+    subst (λ (ns : List ℕ). AreKnown ns new_guesses) (sym e)
+    (subst (AreKnown (numbers ++ number ∷ [])) (sym set_is) (record {
+      once = first_new numbers number known.once none;
+      seen = λ k low. seen_more numbers guesses number value k (ltb k (length numbers)) known some within low refl;
+    }))
+
+new_front_by : (seen : List ℕ) (number : ℕ) (below : Bool) → take (length seen) (cond below seen (seen ++ number ∷ [])) ≡ seen
+new_front_by seen number true = take-length seen
+new_front_by seen number false = take-append_seam seen (number ∷ [])
+
+-- the numbers before one more
+pub new_front : (seen : List ℕ) (number : ℕ) → take (length seen) (with_new seen number) ≡ seen
+new_front seen number = ap (take (length seen)) (new_by seen number (ltb (place seen number) (length seen)) refl) ∙ new_front_by seen number (ltb (place seen number) (length seen))
+
+pub ruleset uses = (position_or_len_from, guess_holds)
+
+pub ruleset knowing = (known_none, known_once, new_behind, not_new)

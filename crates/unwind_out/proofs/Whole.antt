@@ -211,7 +211,7 @@ rises_drop zero rows rise = rise
 rises_drop (suc n) [] rise = tt
 rises_drop (suc n) (row ∷ rows) rise = rises_drop n rows rise.1
 
-compressible_by : (rows page : List RegularPageEntry) → (first : IsFirstPage rows page) → (many : Bool) → ltb 511 first.count ≡ many → 511 < length page → IsCompressible page
+pub compressible_by : (rows page : List RegularPageEntry) → (first : IsFirstPage rows page) → (many : Bool) → ltb 511 first.count ≡ many → 511 < length page → IsCompressible page
 compressible_by rows page first true e long =
     subst IsCompressible (sym (first.split ∙ ap (λ (b : Bool). take (cond b first.count 511) rows) e)) first.most.holds
 compressible_by rows page first false e long =

@@ -138,3 +138,7 @@ pub record IsSection (rows : List UnwindRow) (bytes : List ℕ) : Type 0 where
   pub pages : List (List RegularPageEntry)
   pub cut : ArePages (rows_of (personalities rows) rows) pages
   pub spelled : bytes ≡ section_bytes (personalities rows) (lsdas_of rows) (end_of rows) pages
+
+-- so many bytes has the section of these functions
+abbrev pub IsSizeOf : List UnwindRow → ℕ → Type 0
+IsSizeOf rows size = (bytes : List ℕ) → IsSection rows bytes → length bytes ≡ size

@@ -2,7 +2,7 @@ ghost use Rattle.std.specs.Prelude.{◌≡◌, ◌≤◌, ◌<◌, length, take,
 ghost use Rattle.unwind_out.specs.Pages.{encodings as encodings_of, first_function as first_function_of, IsMost, IsFirstPage, ArePages};
 ghost use Rattle.unwind_out.specs.Held.{held, IsHeld};
 
-use crate::numbers::{GUESSES, put_new};
+use crate::numbers::{GUESSES, Guesses, forget, put_new};
 use mo_format::RegularPageEntry;
 use mo_types::OutOfMemory;
 use std::alloc::Global;
@@ -19,18 +19,11 @@ const COMPRESSED_ROOM: usize = 1021;
 /// The distance of a function from the first one of a compressed page is below this.
 const REACH: u64 = 0x100_0000;
 
-/// A page's rows, and how many encodings they have where the page is a compressed one.
-#[derive(Clone, Copy, Debug)]
+/// A page's rows, and where it is a compressed one their encodings, each once, in the order of their first use.
+#[derive(Debug, Drop)]
 pub struct Page<'a> {
     pub rows: &'a [RegularPageEntry],
-    pub encodings: usize,
-}
-
-/// How many rows in front of some one compressed page can hold, and how many encodings they have.
-#[derive(Clone, Copy)]
-struct Most {
-    rows: usize,
-    encodings: usize,
+    pub encodings: Vec<u32>,
 }
 
 /// The function of the first row, and 0 where there is none.
@@ -43,61 +36,57 @@ pub fn first_function(rows: &[RegularPageEntry]) -> u32
     }
 }
 
+// How many rows in front of some one compressed page can hold. Puts their encodings into `numbers`.
 #[tactic(auto, using(crate::proofs::Cutting::meeting))]
 fn most_rows(
     rows: &[RegularPageEntry],
     numbers: &mut Vec<u32>,
-    guesses: &mut [u16],
-) -> Result<Most, OutOfMemory>
+    guesses: &mut Guesses,
+) -> Result<usize, OutOfMemory>
     requires some { 0 < length rows.now }
-    requires guesses { length guesses.old ≡ GUESSES }
-    ensures most { IfOk result (λ most. IsMost rows.now most.rows) }
-    ensures encodings { IfOk result (λ most. most.encodings ≡ length (encodings_of (take most.rows rows.now))) }
+    ensures most { IfOk result (λ most. IsMost rows.now most) }
+    ensures encodings { IfOk result (λ most. numbers.new.items ≡ encodings_of (take most rows.now)) }
 {
-    numbers.clear();
+    forget(numbers, guesses);
     let end = u64::from(first_function(rows)) + REACH;
-    let mut encodings = 0;
     for (at, row) in rows.iter().enumerate() {
         if u64::from(row.function_offset) >= end {
-            return Ok(Most {
-                rows: at,
-                encodings,
-            });
+            return Ok(at);
         }
+        let before = numbers.len();
         put_new(numbers, guesses, row.encoding)?;
         if numbers.len() > MOST_ENCODINGS || at + 1 + numbers.len() > COMPRESSED_ROOM {
-            return Ok(Most {
-                rows: at,
-                encodings,
-            });
+            numbers.truncate(before);
+            return Ok(at);
         }
-        encodings = numbers.len();
     }
-    Ok(Most {
-        rows: rows.len(),
-        encodings,
-    })
+    Ok(rows.len())
 }
 
 // The first page of some rows: a compressed one where that holds more rows than a regular one.
 #[tactic(auto, using(crate::proofs::Cutting::first_pages))]
-fn first_page(rows: &[RegularPageEntry], most: Most) -> Page<'_>
+fn first_page<'a>(
+    alloc: Global,
+    rows: &'a [RegularPageEntry],
+    most: usize,
+    encodings: &[u32],
+) -> Result<Page<'a>, OutOfMemory>
     requires some { 0 < length rows.now }
-    requires most { IsMost rows.now most.rows }
-    requires encodings { most.encodings ≡ length (encodings_of (take most.rows rows.now)) }
-    ensures first { IsFirstPage rows.now result.rows.now }
-    ensures held { IsHeld result }
+    requires most { IsMost rows.now most }
+    requires encodings { encodings.now ≡ encodings_of (take most rows.now) }
+    ensures first { IfOk result (λ page. IsFirstPage rows.now page.rows.now) }
+    ensures held { IfOk result IsHeld }
 {
-    if most.rows > REGULAR_ROWS {
-        Page {
-            rows: &rows[..most.rows],
-            encodings: most.encodings,
-        }
+    if most > REGULAR_ROWS {
+        Ok(Page {
+            rows: &rows[..most],
+            encodings: Vec::from_slice(alloc, encodings)?,
+        })
     } else {
-        Page {
+        Ok(Page {
             rows: &rows[..rows.len().min(REGULAR_ROWS)],
-            encodings: 0,
-        }
+            encodings: Vec::new(alloc),
+        })
     }
 }
 
@@ -113,9 +102,9 @@ pub fn pages(alloc: Global, rows: &[RegularPageEntry]) -> Result<Vec<Page<'_>>, 
     let mut rest = rows;
     while !rest.is_empty() {
         let most = most_rows(rest, &mut numbers, &mut guesses)?;
-        let page = first_page(rest, most);
-        pages.push(page)?;
+        let page = first_page(alloc, rest, most, numbers.as_slice())?;
         rest = &rest[page.rows.len()..];
+        pages.push(page)?;
     }
     Ok(pages)
 }

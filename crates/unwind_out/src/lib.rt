@@ -14,9 +14,11 @@ mod lookup;
 mod numbers;
 mod pages;
 mod row;
+mod size;
 mod table;
 mod write;
 
 pub use lookup::{UnwindHit, find_pc};
 pub use row::{UnwindLimit, UnwindRow, UnwindRows};
+pub use size::unwind_size;
 pub use write::write_unwind;

@@ -6,7 +6,7 @@ ghost use Rattle.unwind_out.specs.Pages.{IsCompressible, compressed_entry, encod
 ghost use Rattle.unwind_out.specs.Held.{AreFirst, AreNear, AreThere, IsHeld};
 
 use crate::cut::{Page, REGULAR_ROWS, first_function};
-use crate::numbers::{GUESSES, place_of, put_new};
+use crate::numbers::{Guesses, guess_all, place_of};
 use mo_format::compact_unwind::{UNWIND_SECOND_LEVEL_COMPRESSED, UNWIND_SECOND_LEVEL_REGULAR};
 use mo_format::{CompressedPageEntry, CompressedPageHeader, RegularPageEntry, RegularPageHeader};
 use mo_types::OutOfMemory;
@@ -46,34 +46,15 @@ fn put_regular(out: &mut Vec<u8>, rows: &[RegularPageEntry]) -> Result<(), OutOf
     put_regular_rows(out, rows)
 }
 
-// The encodings of rows, each once, in the order of their first use.
-#[tactic(auto, using(crate::proofs::Uses::using_rules))]
-fn gather(
-    rows: &[RegularPageEntry],
-    numbers: &mut Vec<u32>,
-    guesses: &mut [u16],
-) -> Result<(), OutOfMemory>
-    requires { length guesses.old ≡ GUESSES }
-    ensures ok { OnOk result (numbers.new.items ≡ encodings rows.now) }
-    ensures once { AreFirst numbers.new.items }
-{
-    numbers.clear();
-    for row in rows {
-        put_new(numbers, guesses, row.encoding)?;
-    }
-    Ok(())
-}
-
 #[tactic(auto, using(crate::proofs::Spelling::compressing))]
 fn put_compressed_rows(
     out: &mut Vec<u8>,
     rows: &[RegularPageEntry],
     first: u32,
     numbers: &[u32],
-    guesses: &mut [u16],
+    guesses: &Guesses,
 ) -> Result<(), OutOfMemory>
     requires once { AreFirst numbers.now }
-    requires guesses { length guesses.old ≡ GUESSES }
     requires near { AreNear first rows.now }
     requires few { length numbers.now ≤ 256 }
     requires there { AreThere numbers.now rows.now }
@@ -89,20 +70,19 @@ fn put_compressed_rows(
     Ok(())
 }
 
-// Appends a compressed page.
+// Appends a compressed page of rows with their encodings.
 #[tactic(auto, using(crate::proofs::Spelling::compressed))]
 fn put_compressed(
     out: &mut Vec<u8>,
     rows: &[RegularPageEntry],
-    numbers: &mut Vec<u32>,
-    guesses: &mut [u16],
+    numbers: &[u32],
+    guesses: &mut Guesses,
 ) -> Result<(), OutOfMemory>
     requires some { 0 < length rows.now }
     requires fits { IsCompressible rows.now }
-    requires guesses { length guesses.old ≡ GUESSES }
+    requires encodings { numbers.now ≡ encodings rows.now }
     ensures { OnOk result (out.new.items ≡ out.old.items ++ compressed_page rows.now) }
 {
-    gather(rows, numbers, guesses)?;
     let rows_end = CompressedPageHeader::SIZE + CompressedPageEntry::SIZE * rows.len();
     let header = CompressedPageHeader {
         kind: UNWIND_SECOND_LEVEL_COMPRESSED,
@@ -112,25 +92,20 @@ fn put_compressed(
         encodings_count: numbers.len() as u16,
     };
     header.write(out)?;
-    put_compressed_rows(out, rows, first_function(rows), numbers.as_slice(), guesses)?;
-    put_numbers(out, numbers.as_slice())?;
+    guess_all(numbers, guesses);
+    put_compressed_rows(out, rows, first_function(rows), numbers, guesses)?;
+    put_numbers(out, numbers)?;
     Ok(())
 }
 
 /// Appends a page.
 #[tactic(auto, using(crate::proofs::Spelling::paging))]
-pub fn put_page(
-    out: &mut Vec<u8>,
-    page: Page,
-    numbers: &mut Vec<u32>,
-    guesses: &mut [u16],
-) -> Result<(), OutOfMemory>
-    requires held { IsHeld page }
-    requires guesses { length guesses.old ≡ GUESSES }
-    ensures { OnOk result (out.new.items ≡ out.old.items ++ page_bytes page.entry.rows.now) }
+pub fn put_page(out: &mut Vec<u8>, page: &Page, guesses: &mut Guesses) -> Result<(), OutOfMemory>
+    requires held { IsHeld page.now }
+    ensures { OnOk result (out.new.items ≡ out.old.items ++ page_bytes page.now.rows.now) }
 {
     if page.rows.len() > REGULAR_ROWS {
-        put_compressed(out, page.rows, numbers, guesses)
+        put_compressed(out, page.rows, page.encodings.as_slice(), guesses)
     } else {
         put_regular(out, page.rows)
     }

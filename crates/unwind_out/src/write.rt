@@ -3,19 +3,17 @@ ghost use Rattle.std.specs.List.{AllByRecursion, flat_map, position_or_len};
 ghost use Rattle.mo_format.specs.Unwind.{unwind_index_entry_bytes, unwind_lsda_entry_bytes};
 ghost use Rattle.unwind_out.specs.Table.{AreApart, personalities};
 ghost use Rattle.unwind_out.specs.Pages.{field as field_of, lsda_place as lsda_place_of, info_header as info_header_of, index_of, page_bytes, section_bytes, IsSection};
-ghost use Rattle.unwind_out.specs.Held.{AreRising, entry_of, held, IsHeld};
+ghost use Rattle.unwind_out.specs.Held.{AreRising, entry_of, held, section_size as section_size_of, IsHeld};
 ghost use Rattle.unwind_out.specs.Law.{AreFields, FindsEach, FindsNoOther};
 
-use crate::cut::{Page, REGULAR_ROWS, first_function, pages};
+use crate::cut::{Page, first_function, pages};
 use crate::numbers::GUESSES;
 use crate::pages::{put_numbers, put_page};
 use crate::row::{UnwindLimit, UnwindRow, UnwindRows};
+use crate::size::{page_size, section_size};
 use crate::table::{end, lsdas, slots, table};
 use mo_format::compact_unwind::UNWIND_SECTION_VERSION;
-use mo_format::{
-    CompressedPageEntry, CompressedPageHeader, RegularPageEntry, RegularPageHeader,
-    UnwindIndexEntry, UnwindInfoHeader, UnwindLsdaEntry,
-};
+use mo_format::{UnwindIndexEntry, UnwindInfoHeader, UnwindLsdaEntry};
 use mo_types::{Bytes, OutOfMemory};
 use std::alloc::Global;
 
@@ -24,20 +22,6 @@ fn field(number: u64) -> u32
     ensures { result ≡ field_of number }
 {
     (number % 0x1_0000_0000) as u32
-}
-
-#[tactic(auto, using(crate::proofs::Spelling::paging))]
-fn page_size(page: Page) -> u64
-    requires { IsHeld page }
-    ensures exact { result ≡ length (page_bytes page.entry.rows.now) }
-    ensures small { result < 8192 }
-{
-    let size = if page.rows.len() > REGULAR_ROWS {
-        CompressedPageHeader::SIZE + CompressedPageEntry::SIZE * (page.rows.len() + page.encodings)
-    } else {
-        RegularPageHeader::SIZE + RegularPageEntry::SIZE * page.rows.len()
-    };
-    size as u64
 }
 
 // How many rows on language-specific data are of functions before another.
@@ -64,12 +48,12 @@ fn put_entry(
     lsda_at: u32,
     lsdas: &[UnwindLsdaEntry],
     at: u32,
-    page: Page,
+    page: &Page,
 ) -> Result<u32, OutOfMemory>
     requires rise { AreRising lsdas.now }
-    requires held { IsHeld page }
-    ensures entry { OnOk result (out.new.items ≡ out.old.items ++ unwind_index_entry_bytes (entry_of lsda_at lsdas.now at page.entry.rows.now)) }
-    ensures next { IfOk result (λ next. next ≡ field_of (at + length (page_bytes page.entry.rows.now))) }
+    requires held { IsHeld page.now }
+    ensures entry { OnOk result (out.new.items ≡ out.old.items ++ unwind_index_entry_bytes (entry_of lsda_at lsdas.now at page.now.rows.now)) }
+    ensures next { IfOk result (λ next. next ≡ field_of (at + length (page_bytes page.now.rows.now))) }
 {
     let first = first_function(page.rows);
     let entry = UnwindIndexEntry {
@@ -95,7 +79,7 @@ fn put_index(
 {
     let mut at = page_at;
     for page in pages {
-        at = put_entry(out, lsda_at, lsdas, at, *page)?;
+        at = put_entry(out, lsda_at, lsdas, at, page)?;
     }
     Ok(())
 }
@@ -111,14 +95,13 @@ fn put_lsdas(out: &mut Vec<u8>, lsdas: &[UnwindLsdaEntry]) -> Result<(), OutOfMe
 }
 
 #[tactic(auto, using(crate::proofs::Loops::putting))]
-fn put_pages(alloc: Global, out: &mut Vec<u8>, pages: &[Page]) -> Result<(), OutOfMemory>
+fn put_pages(out: &mut Vec<u8>, pages: &[Page]) -> Result<(), OutOfMemory>
     requires { All IsHeld pages.now }
     ensures { OnOk result (out.new.items ≡ out.old.items ++ flat_map (λ page. page_bytes page.rows.now) pages.now) }
 {
-    let mut numbers = Vec::new(alloc);
     let mut guesses = [0; GUESSES];
     for page in pages {
-        put_page(out, *page, &mut numbers, &mut guesses)?;
+        put_page(out, page, &mut guesses)?;
     }
     Ok(())
 }
@@ -172,10 +155,11 @@ fn spell(
     requires few { length slots.now ≤ 3 }
     requires rise { AreRising lsdas.now }
     requires held { All IsHeld pages.now }
+    requires small { section_size_of (length slots.now) (length lsdas.now) (held pages.now) < 2 ^ 63 }
     ensures { IfOk result (λ out. out.items ≡ section_bytes slots.now lsdas.now end (held pages.now)) }
 {
     let places = places(slots, lsdas, pages);
-    let mut out = Vec::new(alloc);
+    let mut out = Vec::with_capacity(alloc, section_size(slots, lsdas, pages) as usize)?;
     info_header(slots, pages).write(&mut out)?;
     put_numbers(&mut out, slots)?;
     put_index(&mut out, places.lsdas, lsdas, places.pages, pages)?;
@@ -186,11 +170,11 @@ fn spell(
     };
     last.write(&mut out)?;
     put_lsdas(&mut out, lsdas)?;
-    put_pages(alloc, &mut out, pages)?;
+    put_pages(&mut out, pages)?;
     Ok(out)
 }
 
-#[tactic(auto, using(crate::proofs::Law::lsdas_rise))]
+#[tactic(auto, using(crate::proofs::Law::lsdas_rise, crate::proofs::Sizes::size_small))]
 fn section(alloc: Global, rows: &[UnwindRow]) -> Result<Bytes, UnwindLimit>
     requires { AreApart rows.now }
     ensures exact { IfOk result (λ section. IsSection rows.now section) }

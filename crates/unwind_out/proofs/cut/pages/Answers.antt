@@ -8,7 +8,7 @@ use Rattle.unwind_out.proofs.cut.pages.Goals as goal
 
 pub loop-rest-preserved : goal.loop-rest-preserved
 loop-rest-preserved c = record {
-  cutting = cutting_goes_on c.args.rows.now c.loop-rest.rest.now _ c.loop-rest.pages.items c.push.new.self.items c.first_page-page.result c.loop-rest.invariant.cutting c.first_page-page.ensures.first
-      (take_rest c.loop-rest.rest.now (length c.first_page-page.result.rows.now)) c.in_ok-push.ensures.items;
-  held = subst (All IsHeld) (sym c.in_ok-push.ensures.items) (All-push IsHeld c.loop-rest.pages.items c.first_page-page.result c.loop-rest.invariant.held c.first_page-page.ensures.held);
+  cutting = cutting_goes_on c.args.rows.now c.loop-rest.rest.now _ c.loop-rest.pages.items c.push.new.self.items c.in_ok-page.page c.loop-rest.invariant.cutting c.in_ok-page.ensures.first
+      (take_rest c.loop-rest.rest.now (length c.in_ok-page.page.rows.now)) c.in_ok-push.ensures.items;
+  held = subst (All IsHeld) (sym c.in_ok-push.ensures.items) (All-push IsHeld c.loop-rest.pages.items c.in_ok-page.page c.loop-rest.invariant.held c.in_ok-page.ensures.held);
 }
