@@ -10,13 +10,15 @@
 //! - `names FILES NAMES`: names of a thousand external symbols a file, numbered by `name_ids::gather`
 //! - `places FILES ATOMS`: files of 250 sections with so many atoms each, laid out by `sect_place`, and a million addresses
 //! - `closure LIBRARIES NAMES`: libraries with so many names each, which `lib_bind::closure` binds
+//! - `unwind FUNCTIONS ENCODINGS EACH`: functions with so many encodings, each of which so many in a row have, whose section
+//!   `unwind_out` sizes and writes
 //! - `providers LIBRARIES NAMES`: 100,000 names looked up in them by `lib_bind::provider_of`
 //! - `image PATH ADDRESS COUNT`: so many pointers of an image, read by `image_read::fixup_at`
 //! - `yaml PATH TIMES`: the text of a stub library, read so often by `tbd_yaml::read_yaml`
 //! - `stub PATH TIMES`: what it says, read so often by `tbd_doc::read_stubs`
 //!
 //! A word `then` ends a call's words, and those of another call follow. What each call counted is printed, a line each.
-//! The milliseconds that a call took go to standard error, of `fill` and `patch` the microseconds; `fan`, `image`, `yaml`
+//! The milliseconds that a call took go to standard error, of `fill`, `patch` and `unwind` the microseconds; `fan`, `image`, `yaml`
 //! and `stub` are timed by the program as a whole.
 #![tactic(auto)]
 
@@ -34,6 +36,7 @@ mod order;
 mod places;
 mod tables;
 mod texts;
+mod unwinding;
 
 use crate::branches::fill_by;
 use crate::fields::patch_fields;
@@ -43,6 +46,7 @@ use crate::libraries::{closure_of, providers};
 use crate::places::places;
 use crate::tables::{archive, number_names, slot_lists};
 use crate::texts::{read_stub, read_text};
+use crate::unwinding::unwinding;
 use anyhow::{Result, bail};
 use std::env;
 use std::thread::Threads;
@@ -94,6 +98,12 @@ fn call_on_numbers<T: Threads + Sync>(
             small(*workers)?,
             small(*jobs)?,
             small(*steps)?,
+        ),
+        [functions, encodings, each] if name == "unwind" => unwinding(
+            rt,
+            small(*functions)?,
+            small(*encodings)?,
+            small(*each)?,
         ),
         _ => bail!("want the name of a call and its numbers"),
     }

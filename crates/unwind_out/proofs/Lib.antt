@@ -1,3 +1,4 @@
+pub mod Apart
 pub mod Places
 pub mod Loops
 pub mod Uses

@@ -7,7 +7,7 @@ use Rattle.unwind_out.specs.declared.row.UnwindRow.{UnwindRow}
 use Rattle.unwind_out.specs.Table.{personalities, rows_of, end_of, lsdas_of}
 use Rattle.unwind_out.specs.Pages.{encodings, first_function, IsNear, IsCompressible, IsMost, page_length, IsFirstPage, ArePages, section_bytes, IsSection}
 use Rattle.unwind_out.proofs.Uses.{encodings_none}
-use Rattle.unwind_out.proofs.Cutting.{page_some, page_within}
+use Rattle.unwind_out.proofs.Cutting.{page_some}
 
 -- ---- no more than one
 

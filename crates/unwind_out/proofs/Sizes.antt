@@ -1,8 +1,8 @@
 -- How many bytes a section has.
-use Rattle.std.proofs.Common.{◌≡◌, ℕ, zero, suc, ◌+◌, ◌*◌, ◌-◌, ◌^◌, ◌<◌, ◌≤◌, ◌==◌, ltb, cond, Bool, true, false, inl, inr, List, [], ◌∷◌, ◌++◌, length, get_or, take, drop, refl, sym, ap, subst, ◌∙◌, arith, length-append, length-drop}
+use Rattle.std.proofs.Common.{◌≡◌, ℕ, ◌+◌, ◌*◌, ◌-◌, ◌^◌, ◌<◌, ◌≤◌, ◌==◌, ltb, Bool, true, false, List, [], ◌∷◌, ◌++◌, length, get_or, drop, refl, sym, ap, subst, ◌∙◌, arith, length-append, length-drop}
 use Rattle.std.specs.List.{AllByRecursion, flat_map}
 use Rattle.std.proofs.lemmas.List.{at_drop_more, at_drop_all}
-use Rattle.std.proofs.lemmas.Bool.{lt-ltb, ltb-true, le-ltb, ltb-false}
+use Rattle.std.proofs.lemmas.Bool.{ltb-true}
 use Rattle.mo_bytes.specs.Number.{number_bytes}
 use Rattle.mo_bytes.proofs.Numbers.{length-number_bytes}
 use Rattle.mo_format.specs.Unwind.{unwind_info_header_bytes, unwind_index_entry_bytes, unwind_lsda_entry_bytes}
@@ -10,8 +10,8 @@ use Rattle.mo_format.specs.declared.unwind.UnwindLsdaEntry.{UnwindLsdaEntry}
 use Rattle.mo_format.specs.declared.unwind.RegularPageEntry.{RegularPageEntry}
 use Rattle.unwind_out.specs.declared.row.UnwindRow.{UnwindRow}
 use Rattle.unwind_out.specs.declared.cut.Page.{Page}
-use Rattle.unwind_out.specs.Table.{AreApart, BeginsAfter, personalities, gap, rows_of, end_of, lsda_of, lsdas_of}
-use Rattle.unwind_out.specs.Pages.{IsCompressible, page_bytes, index_of, info_header, last_entry, section_bytes, ArePages, IsFirstPage, IsSection, IsSizeOf}
+use Rattle.unwind_out.specs.Table.{AreApart, personalities, gap, rows_of, end_of, lsda_of, lsdas_of}
+use Rattle.unwind_out.specs.Pages.{IsCompressible, page_bytes, index_of, info_header, last_entry, section_bytes, ArePages, IsFirstPage, IsSizeOf}
 use Rattle.unwind_out.specs.Held.{held, page_sizes, section_size}
 use Rattle.unwind_out.specs.Law.{AreFields}
 use Rattle.unwind_out.proofs.Spelling.{length-flat, length-index_entry, length-lsda_entry, length-info_header, length-regular_page, length-compressed_page}

@@ -19,6 +19,6 @@ mod table;
 mod write;
 
 pub use lookup::{UnwindHit, find_pc};
-pub use row::{UnwindLimit, UnwindRow, UnwindRows};
+pub use row::{UnwindLimit, UnwindRow, UnwindRows, are_apart};
 pub use size::unwind_size;
 pub use write::write_unwind;

@@ -1,4 +1,5 @@
-ghost use Rattle.std.specs.Prelude.{◌≡◌};
+ghost use Rattle.std.specs.Prelude.{◌≡◌, ◌↔◌, IsTrue};
+ghost use Rattle.unwind_out.specs.Table.{AreApart};
 
 use mo_types::{Items, OutOfMemory};
 use std::alloc::{AllocError, AllocFailed};
@@ -21,6 +22,24 @@ pub struct UnwindRow {
 
 /// The functions of an image, by rising offset.
 pub type UnwindRows = Items<UnwindRow>;
+
+/// Whether each function ends after it begins, and not after the next one begins.
+#[tactic(auto, using(crate::proofs::Apart::telling_apart))]
+pub fn are_apart(rows: &[UnwindRow]) -> bool
+    ensures { IsTrue result ↔ AreApart rows.now }
+{
+    let mut place = 0;
+    for row in rows {
+        if row.function < place {
+            return false;
+        }
+        if row.end <= row.function {
+            return false;
+        }
+        place = row.end;
+    }
+    true
+}
 
 /// Why a section of compact unwind isn't written.
 #[derive(Clone, Copy, Debug, PartialEq, Eq)]
