@@ -26,7 +26,7 @@ unfolding personality_number
 number_by slots slot true e = let low = ltb-true (position_or_len (λ other. other == slot) slots) (length slots) e in rw e (omega arith)
 number_by slots slot false e = rw e (omega arith)
 
-number_low : (slots : List ℕ) (slot : ℕ) → personality_number slots slot ≤ length slots
+pub number_low : (slots : List ℕ) (slot : ℕ) → personality_number slots slot ≤ length slots
 number_low slots slot = number_by slots slot (ltb (position_or_len (λ other. other == slot) slots) (length slots)) refl
 
 bit_by : (lsda : ℕ) (none : Bool) → (lsda == 0) ≡ none → lsda_bit lsda ≤ 0x40000000

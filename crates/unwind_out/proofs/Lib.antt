@@ -1,7 +1,9 @@
 pub mod Apart
 pub mod Places
+pub mod Slots
 pub mod Loops
 pub mod Uses
+pub mod Firsts
 pub mod Cutting
 pub mod Spelling
 pub mod Answering
@@ -10,3 +12,4 @@ pub mod Whole
 pub mod One
 pub mod Sizes
 pub mod Law
+pub mod Named

@@ -2,10 +2,11 @@
 use Rattle.std.proofs.Common.{◌≡◌, ℕ, ◌+◌, ◌<◌, ◌≤◌, ◌==◌, ltb, cond, Bool, true, false, List, [], ◌∷◌, ◌++◌, length, take, drop, get_or, is_some, unwrap_or, refl, sym, ap, subst, ◌∙◌, arith, append_assoc, append-nil, length-append, length-take, length-drop}
 use Rattle.std.specs.List.{AllByRecursion, flat_map, insert, position}
 use Rattle.unwind_out.specs.Law.{AreFields}
+use Rattle.unwind_out.proofs.Slots.{with_slot_longer}
 use Rattle.std.proofs.lemmas.List.{at_drop_more, at_drop_all, take_all, take_more, take_rest}
 use Rattle.mo_format.specs.declared.unwind.RegularPageEntry.{RegularPageEntry}
 use Rattle.unwind_out.specs.declared.row.UnwindRow.{UnwindRow}
-use Rattle.unwind_out.specs.Table.{with_slot, with_personality, slots_with, personalities, row_of, gap, rows_of}
+use Rattle.unwind_out.specs.Table.{with_personality, slots_with, personalities, row_of, gap, rows_of}
 
 pub all_push : {X : Type 0} (P : X → Type 0) (xs : List X) (x : X) → AllByRecursion P xs → P x → AllByRecursion P (xs ++ x ∷ [])
 all_push P [] x all here = (here, tt)
@@ -61,13 +62,6 @@ none_left now rows e = rw e refl
 pub gathering_ends : (rows : List UnwindRow) (at : ℕ) (now : List ℕ) → IsGathering rows at now → length rows ≤ at → now ≡ personalities rows
 gathering_ends rows at now gathering past =
     sym (none_left now (drop at rows) (at_drop_all (λ (xs : List UnwindRow). xs) rows at past)) ∙ gathering.rest
-
-inserted_longer : (slots : List ℕ) (slot : ℕ) (found : Bool) (place : ℕ) → length slots ≤ length (cond found slots (insert slots place slot))
-inserted_longer slots slot true place = omega arith
-inserted_longer slots slot false place = simp (length-append, length-take, length-drop) (omega arith)
-
-with_slot_longer : (slot : ℕ) (slots : List ℕ) → length slots ≤ length (with_slot slot slots)
-with_slot_longer slot slots = inserted_longer slots slot (is_some (position (λ other. other == slot) slots)) (unwrap_or (position (λ other. ltb slot other) slots) (length slots))
 
 personality_longer : (row : UnwindRow) (slots : List ℕ) (none : Bool) → (row.personality == 0) ≡ none → length slots ≤ length (with_personality row slots)
 personality_longer row slots true e = rw e (omega arith)

@@ -131,5 +131,3 @@ section_there rows =
     let table = rows_of (personalities rows) rows in
     let pages : (pages : List (List RegularPageEntry)) × ArePages table pages = pages_from (length table) table (omega arith) in
     (section_bytes (personalities rows) (lsdas_of rows) (end_of rows) pages.0, record { pages = pages.0; cut = pages.1; spelled = refl })
-
-pub ruleset one_section = (section_one, section_there)

@@ -38,7 +38,7 @@ guess_holds numbers guess number once within is = sym (once.each guess within) �
 
 -- ---- one number more
 
-new_by : (seen : List ℕ) (number : ℕ) (below : Bool) → ltb (place seen number) (length seen) ≡ below → with_new seen number ≡ cond below seen (seen ++ number ∷ [])
+pub new_by : (seen : List ℕ) (number : ℕ) (below : Bool) → ltb (place seen number) (length seen) ≡ below → with_new seen number ≡ cond below seen (seen ++ number ∷ [])
 new_by seen number true e = rw e refl
 new_by seen number false e = rw e refl
 

@@ -47,7 +47,7 @@ lsdas_between section first last lsdas front from to small stands =
     let count : (last.lsda_offset - first.lsda_offset) / 8 ≡ length lsdas = omega arith in
     rw (count, from) (lsdas_read section front lsdas small stands)
 
-header_read : (section slots : List ℕ) (count : ℕ) → length slots ≤ 3 → Stands section [] (unwind_info_header_bytes (info_header (length slots) count)) → unwind_info_header_at section 0 ≡ info_header (length slots) count
+pub header_read : (section slots : List ℕ) (count : ℕ) → length slots ≤ 3 → Stands section [] (unwind_info_header_bytes (info_header (length slots) count)) → unwind_info_header_at section 0 ≡ info_header (length slots) count
 header_read section slots count few stands =
     let header = info_header (length slots) count in
     let counted = field_small (count + 1) in
@@ -74,15 +74,18 @@ first_of_whole page whole = first_small page whole.small
 
 -- the parts of a section, each behind those before it
 pub record HasParts (section slots : List ℕ) (lsdas : List UnwindLsdaEntry) (end : ℕ) (pages : List (List RegularPageEntry)) : Type 0 where
+  pub slot_front : List ℕ
   pub index_front : List ℕ
   pub last_front : List ℕ
   pub lsda_front : List ℕ
   pub page_front : List ℕ
   pub header : Stands section [] (unwind_info_header_bytes (info_header (length slots) (length pages)))
+  pub slot : Stands section slot_front (flat_map (number_bytes 4) slots)
   pub index : Stands section index_front (flat_map unwind_index_entry_bytes (index_of (length lsda_front) lsdas (length page_front) pages))
   pub last : Stands section last_front (unwind_index_entry_bytes (last_entry end (length page_front)))
   pub lsda : Stands section lsda_front (flat_map unwind_lsda_entry_bytes lsdas)
   pub page : Stands section page_front (flat_map page_bytes pages)
+  pub slot_at : length slot_front ≡ 28
   pub index_at : length index_front ≡ 28 + 4 * length slots
   pub last_at : length last_front ≡ 28 + 4 * length slots + 12 * length pages
   pub lsda_at : length lsda_front ≡ length last_front + 12
@@ -120,17 +123,20 @@ parts_by section slots lsdas end pages lsda_at page_at lsda_is page_is is =
     let lsda_same : lsda_at ≡ length (((a ++ b) ++ c) ++ d) = omega arith in
     let page_same : page_at ≡ length ((((a ++ b) ++ c) ++ d) ++ e) = omega arith in
     record {
+      slot_front = a;
       index_front = a ++ b;
       last_front = (a ++ b) ++ c;
       lsda_front = ((a ++ b) ++ c) ++ d;
       page_front = (((a ++ b) ++ c) ++ d) ++ e;
       header = stands_first section [] a b two';
+      slot = stands_second section [] a b two';
       index =
           subst (λ (n : ℕ). Stands section (a ++ b) (flat_map unwind_index_entry_bytes (index_of (length (((a ++ b) ++ c) ++ d)) lsdas n pages))) page_same
           (subst (λ (n : ℕ). Stands section (a ++ b) (flat_map unwind_index_entry_bytes (index_of n lsdas page_at pages))) lsda_same (stands_second section [] (a ++ b) c three));
       last = subst (λ (n : ℕ). Stands section ((a ++ b) ++ c) (unwind_index_entry_bytes (last_entry end n))) page_same (stands_second section [] ((a ++ b) ++ c) d four');
       lsda = stands_second section [] (((a ++ b) ++ c) ++ d) e five;
       page = stands_second section [] ((((a ++ b) ++ c) ++ d) ++ e) f all;
+      slot_at = la;
       index_at = omega arith;
       last_at = omega arith;
       lsda_at = omega arith;

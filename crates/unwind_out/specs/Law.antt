@@ -1,9 +1,11 @@
 -- What a look-up in a written section gives.
-use Rattle.std.specs.Prelude.{ℕ, ◌≡◌, ◌^◌, ◌<◌, ◌≤◌, List, Option, Some, None, Contains}
-use Rattle.std.specs.List.{AllByRecursion}
+use Rattle.std.specs.Prelude.{ℕ, ◌≡◌, ◌≢◌, ◌^◌, ◌<◌, ◌≤◌, ◌==◌, if◌then◌else◌, List, Option, Some, None, Contains}
+use Rattle.std.specs.List.{AllByRecursion, position_or_len}
+use Rattle.std.specs.List.Sorted.{IsStrictlySortedBy}
+use Rattle.std.specs.Ordering.{nat_cmp, on}
 use Rattle.unwind_out.specs.declared.row.UnwindRow.{UnwindRow}
 use Rattle.unwind_out.specs.declared.lookup.UnwindHit.{UnwindHit}
-use Rattle.unwind_out.specs.Lookup.{unwind}
+use Rattle.unwind_out.specs.Lookup.{unwind, personality_at}
 use Rattle.unwind_out.specs.Table.{personalities, output_encoding}
 
 -- a function's numbers have 32 bits
@@ -11,6 +13,7 @@ pub record AreFields (row : UnwindRow) : Type 0 where
   pub function : row.function < 2 ^ 32
   pub end : row.end < 2 ^ 32
   pub lsda : row.lsda < 2 ^ 32
+  pub personality : row.personality < 2 ^ 32
 
 -- a place in no range of a function
 abbrev pub Outside : ℕ → UnwindRow → Type 0
@@ -30,3 +33,25 @@ FindsEach rows section =
 -- at each other place nothing is, or encoding 0
 abbrev pub FindsNoOther : List UnwindRow → List ℕ → Type 0
 FindsNoOther rows section = (offset : ℕ) → AllByRecursion (Outside offset) rows → IsQuiet (unwind section offset)
+
+-- the section names each function's personality: where its encoding says stands its slot, and where it has none its encoding names none
+abbrev pub NamesEach : List UnwindRow → List ℕ → Type 0
+NamesEach rows section =
+    (row : UnwindRow) → Contains rows row
+    → personality_at section (output_encoding (personalities rows) row) ≡ (if row.personality == 0 then None else Some row.personality)
+
+-- the slots of the functions' personalities, each once, by rising offset
+pub record ArePersonalities (rows : List UnwindRow) (slots : List ℕ) : Type 0 where
+  pub rise : IsStrictlySortedBy nat_cmp slots
+  pub each : (row : UnwindRow) → Contains rows row → row.personality ≢ 0 → Contains slots row.personality
+  pub only : (slot : ℕ) → Contains slots slot → (slot ≢ 0) × (row : UnwindRow) × Contains rows row × (row.personality ≡ slot)
+
+-- where a number first stands
+abbrev pub first_place : List ℕ → ℕ → ℕ
+first_place used number = position_or_len (λ other. other == number) used
+
+-- the numbers that are used, each once, in the order of their first use
+pub record AreFirstUses (used numbers : List ℕ) : Type 0 where
+  pub each : (number : ℕ) → Contains used number → Contains numbers number
+  pub only : (number : ℕ) → Contains numbers number → Contains used number
+  pub order : IsStrictlySortedBy (on (first_place used) nat_cmp) numbers

@@ -1,5 +1,5 @@
 -- What a section of compact unwind says of a place, whatever its bytes are (`compact_unwind_encoding.h`).
-use Rattle.std.specs.Prelude.{ℕ, zero, suc, ◌+◌, ◌-◌, ◌*◌, ◌==◌, ◌&&◌, ◌/◌, nat_lt, nat_le, Bool, if◌then◌else◌, List, [], ◌∷◌, ◌++◌, length, Option, Some, None, unwrap_or}
+use Rattle.std.specs.Prelude.{ℕ, zero, suc, ◌+◌, ◌-◌, ◌*◌, ◌==◌, ◌&&◌, ◌/◌, ◌%◌, ◌^◌, nat_lt, nat_le, Bool, if◌then◌else◌, List, [], ◌∷◌, ◌++◌, length, Option, Some, None, unwrap_or}
 use Rattle.std.specs.Option.{option_map, option_map_or}
 use Rattle.mo_bytes.specs.Number.{number_at}
 use Rattle.mo_format.specs.Unwind.{unwind_info_header_at, unwind_index_entry_at, unwind_lsda_entry_at, regular_page_header_at, regular_page_entry_at, compressed_page_header_at, compressed_page_entry_at}
@@ -121,3 +121,17 @@ unwind_in section header offset =
 
 unfoldable pub unwind : List ℕ → ℕ → Option UnwindHit
 unwind section offset = if lies section 0 28 then unwind_in section (unwind_info_header_at section 0) offset else None
+
+-- ---- personalities
+
+-- the number of the personality that an encoding names, from 1, or 0 for none (UNWIND_PERSONALITY_MASK)
+abbrev pub named_number : ℕ → ℕ
+named_number encoding = encoding / 2 ^ 28 % 4
+
+-- the slot of the personality that an encoding names, where the section has it
+unfoldable pub personality_at : List ℕ → ℕ → Option ℕ
+personality_at section encoding =
+    let header = unwind_info_header_at section 0 in
+    if lies section 0 28 && nat_lt 0 (named_number encoding) && nat_le (named_number encoding) header.personalities_count
+    then number_at 4 section (header.personalities_offset + 4 * (named_number encoding - 1))
+    else None

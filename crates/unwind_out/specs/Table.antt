@@ -1,6 +1,6 @@
 -- The rows of a section of compact unwind, from the functions of an image (`compact_unwind_encoding.h`).
-use Rattle.std.specs.Prelude.{ℕ, ◌+◌, ◌*◌, ◌<◌, ◌≤◌, ◌-◌, ◌==◌, nat_lt, bit_and, if◌then◌else◌, is_some, unwrap_or, List, [], ◌∷◌, ◌++◌, length, slice_index_or}
-use Rattle.std.specs.List.{flat_map, insert, position}
+use Rattle.std.specs.Prelude.{ℕ, ◌+◌, ◌*◌, ◌<◌, ◌≤◌, ◌-◌, ◌==◌, nat_lt, bit_and, if◌then◌else◌, List, [], ◌∷◌, ◌++◌, length, slice_index_or}
+use Rattle.std.specs.List.{flat_map, position}
 use Rattle.std.specs.Option.{option_map_or}
 use Rattle.mo_format.specs.declared.unwind.UnwindLsdaEntry.{UnwindLsdaEntry}
 use Rattle.mo_format.specs.declared.unwind.RegularPageEntry.{RegularPageEntry}
@@ -18,11 +18,13 @@ AreApart (row ∷ rows) = (row.function < row.end) × BeginsAfter row.end rows �
 
 -- ---- personalities
 
--- slots by rising offset, each once, with one more slot at its place
-abbrev pub with_slot : ℕ → List ℕ → List ℕ
-with_slot slot slots =
-    if is_some (position (λ other. other == slot) slots) then slots
-    else insert slots (unwrap_or (position (λ other. nat_lt slot other) slots) (length slots)) slot
+-- slots by rising offset with one more at its place, where it isn't there yet
+unfoldable pub with_slot : ℕ → List ℕ → List ℕ
+with_slot slot [] = slot ∷ []
+with_slot slot (other ∷ slots) =
+    if nat_lt slot other then slot ∷ other ∷ slots
+    else if other == slot then other ∷ slots
+    else other ∷ with_slot slot slots
 
 -- with that of a function's personality, where it has one
 abbrev pub with_personality : UnwindRow → List ℕ → List ℕ

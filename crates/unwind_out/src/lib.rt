@@ -10,6 +10,7 @@
 #![tactic(auto)]
 
 mod cut;
+mod laws;
 mod lookup;
 mod numbers;
 mod pages;
@@ -18,6 +19,7 @@ mod size;
 mod table;
 mod write;
 
+pub use laws::{encodings_by_first_use, one_section, personalities_rise};
 pub use lookup::{UnwindHit, find_pc};
 pub use row::{UnwindLimit, UnwindRow, UnwindRows, are_apart};
 pub use size::unwind_size;

@@ -1,5 +1,5 @@
-ghost use Rattle.std.specs.Prelude.{◌≡◌, ◌≤◌, ◌<◌, ◌++◌, length, OnOk, IfOk, IfErr, IfSome, nat_lt, ◌==◌, ◌∷◌, position, unwrap_or};
-ghost use Rattle.std.specs.List.{AllByRecursion};
+ghost use Rattle.std.specs.Prelude.{◌≡◌, ◌≤◌, ◌<◌, ◌++◌, ◌&&◌, length, OnOk, IfOk, IfErr, IfSome, nat_lt, nat_le, ◌==◌, ◌∷◌, position, slice_index_or};
+ghost use Rattle.std.specs.List.{AllByRecursion, position_or_len};
 ghost use Rattle.unwind_out.specs.Law.{AreFields};
 ghost use Rattle.unwind_out.specs.Table.{personalities, with_slot, with_personality, personality_number, output_encoding, gap, row_of, rows_of, end_of, lsda_of, lsdas_of};
 
@@ -19,33 +19,36 @@ fn place_of(slots: &[u32], slot: u32) -> Option<usize>
     slots.iter().position(|other| *other == slot)
 }
 
-fn first_above(slots: &[u32], slot: u32) -> Option<usize>
-    ensures exact { result ≡ position (λ other. nat_lt slot other) slots.now }
-    ensures within { IfSome result (λ place. place < length slots.now) }
+fn first_from(slots: &[u32], slot: u32) -> Option<usize>
+    ensures { result ≡ position (λ other. nat_le slot other) slots.now }
 {
-    slots.iter().position(|other| slot < *other)
+    slots.iter().position(|other| slot <= *other)
 }
 
-// The place of the first slot above another, or the count of the slots.
-fn place_above(slots: &[u32], slot: u32) -> usize
-    ensures exact { result ≡ unwrap_or (position (λ other. nat_lt slot other) slots.now) (length slots.now) }
+// The place of the first slot that isn't below another, or the count of the slots.
+#[tactic(auto, using(crate::proofs::Slots::placing))]
+fn place_from(slots: &[u32], slot: u32) -> usize
+    ensures exact { result ≡ position_or_len (λ other. nat_le slot other) slots.now }
     ensures within { result ≤ length slots.now }
 {
-    match first_above(slots, slot) {
-        Some(place) => place,
-        None => slots.len(),
-    }
+    first_from(slots, slot).unwrap_or(slots.len())
+}
+
+// Whether a slot stands at a place.
+fn is_at(slots: &[u32], place: usize, slot: u32) -> bool
+    ensures { result ≡ (nat_lt place (length slots.now) && (slice_index_or slots.now place 0 == slot)) }
+{
+    place < slots.len() && slots[place] == slot
 }
 
 // Puts a slot to its place among slots that rise, where it isn't there yet.
 fn put_slot(slots: &mut Vec<u32>, slot: u32) -> Result<(), OutOfMemory>
     ensures { OnOk result (slots.new.items ≡ with_slot slot slots.old.items) }
 {
-    if place_of(slots.as_slice(), slot).is_some() {
-        return Ok(());
+    let place = place_from(slots.as_slice(), slot);
+    if !is_at(slots.as_slice(), place, slot) {
+        slots.insert(place, slot)?;
     }
-    let place = place_above(slots.as_slice(), slot);
-    slots.insert(place, slot)?;
     Ok(())
 }
 

@@ -4,7 +4,7 @@ ghost use Rattle.mo_format.specs.Unwind.{unwind_index_entry_bytes, unwind_lsda_e
 ghost use Rattle.unwind_out.specs.Table.{AreApart, personalities};
 ghost use Rattle.unwind_out.specs.Pages.{field as field_of, lsda_place as lsda_place_of, info_header as info_header_of, index_of, page_bytes, section_bytes, IsSection};
 ghost use Rattle.unwind_out.specs.Held.{AreRising, entry_of, held, section_size as section_size_of, IsHeld};
-ghost use Rattle.unwind_out.specs.Law.{AreFields, FindsEach, FindsNoOther};
+ghost use Rattle.unwind_out.specs.Law.{AreFields, FindsEach, FindsNoOther, NamesEach};
 
 use crate::cut::{Page, first_function, pages};
 use crate::numbers::GUESSES;
@@ -198,7 +198,9 @@ pub fn write_unwind(alloc: Global, entries: &UnwindRows) -> Result<Bytes, Unwind
     requires apart { AreApart entries.now }
     ensures exact { IfOk result (λ section. IsSection entries.now section) }
     ensures few { OnOk result (length (personalities entries.now) ≤ 3) }
-    // What is written is found again where the section has fewer than 2^32 bytes.
+    // What is written is read again.
+    ensures named { IfOk result (NamesEach entries.now) }
+    // It is found again where the section has fewer than 2^32 bytes.
     ensures found { IfOk result (λ section. length section < 2 ^ 32 → FindsEach entries.now section) }
     ensures no_other { IfOk result (λ section. length section < 2 ^ 32 → FindsNoOther entries.now section) }
     ensures many { IfErr result (λ limit. limit ≡ UnwindLimit.Personalities → 4 ≤ length (personalities entries.now)) }
