@@ -1,9 +1,8 @@
 -- Numbers in the order of their first use.
-use Rattle.std.proofs.Common.{◌≡◌, ℕ, ◌+◌, ◌<◌, ◌≤◌, ◌==◌, ◌⊎◌, ltb, cond, Bool, true, false, inl, inr, List, [], ◌∷◌, ◌++◌, length, get_or, refl, sym, ap, subst, ◌∙◌, arith, append_assoc, append-nil, length-append, map}
-use Rattle.std.specs.List.{AllByRecursion, position_or_len}
+use Rattle.std.proofs.Common.{◌≡◌, ℕ, ◌+◌, ◌<◌, ◌==◌, ◌⊎◌, ltb, cond, Bool, true, false, inl, inr, List, [], ◌∷◌, ◌++◌, length, get_or, refl, sym, ap, subst, ◌∙◌, arith, append_assoc, length-append, map}
+use Rattle.std.specs.List.{AllByRecursion}
 use Rattle.std.specs.List.Sorted.{IsStrictlySortedBy}
 use Rattle.std.specs.Ordering.{nat_cmp, on}
-use Rattle.std.specs.declared.cmp.Ordering.{Ordering}
 use Rattle.std.specs.declared.cmp.Ordering.TheVariants.{Less}
 use Rattle.std.proofs.lemmas.Cmp.{on_total, nat_cmp_total}
 use Rattle.std.proofs.lemmas.Bool.{ltb-true, ltb-false}
@@ -12,13 +11,13 @@ use Rattle.std.proofs.lemmas.List.{get_or_default}
 use Rattle.std.proofs.lemmas.List.Sums.{position_or_len_is, passes_at_first}
 use Rattle.std.proofs.Math.ListN.{get_or-append}
 use Rattle.std.proofs.Math.Seq.{get_or-append_seam}
-use Rattle.list_lemmas.proofs.Members.{In, in_from_Contains, Contains_from_in, in_left, in_right, in_either, in_last, from_last, all_weaker, all_in}
+use Rattle.list_lemmas.proofs.Members.{In, in_from_Contains, Contains_from_in, in_left, in_last, from_last, all_weaker}
 use Rattle.list_lemmas.proofs.Rising.{rising_same}
 use Rattle.mo_format.specs.declared.unwind.RegularPageEntry.{RegularPageEntry}
 use Rattle.unwind_out.specs.Pages.{with_new, first_uses, encodings}
 use Rattle.unwind_out.specs.Law.{first_place, AreFirstUses}
-use Rattle.unwind_out.proofs.Uses.{place, new_by, place-le}
-use Rattle.unwind_out.proofs.Slots.{less, less_from}
+use Rattle.unwind_out.proofs.Uses.{place, new_by}
+use Rattle.unwind_out.proofs.Slots.{less}
 
 -- ---- the members
 

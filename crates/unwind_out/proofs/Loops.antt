@@ -1,6 +1,6 @@
 -- Loops that make a list from another one, element by element.
-use Rattle.std.proofs.Common.{◌≡◌, ℕ, ◌+◌, ◌<◌, ◌≤◌, ◌==◌, ltb, cond, Bool, true, false, List, [], ◌∷◌, ◌++◌, length, take, drop, get_or, is_some, unwrap_or, refl, sym, ap, subst, ◌∙◌, arith, append_assoc, append-nil, length-append, length-take, length-drop}
-use Rattle.std.specs.List.{AllByRecursion, flat_map, insert, position}
+use Rattle.std.proofs.Common.{◌≡◌, ℕ, ◌+◌, ◌<◌, ◌≤◌, ◌==◌, Bool, true, false, List, [], ◌∷◌, ◌++◌, length, take, drop, get_or, refl, sym, ap, subst, ◌∙◌, arith, append_assoc, append-nil}
+use Rattle.std.specs.List.{AllByRecursion, flat_map}
 use Rattle.unwind_out.specs.Law.{AreFields}
 use Rattle.unwind_out.proofs.Slots.{with_slot_longer}
 use Rattle.std.proofs.lemmas.List.{at_drop_more, at_drop_all, take_all, take_more, take_rest}

@@ -1,5 +1,5 @@
 -- The personality that a written section names.
-use Rattle.std.proofs.Common.{◌≡◌, ◌≢◌, ℕ, ◌+◌, ◌*◌, ◌-◌, ◌/◌, ◌%◌, ◌^◌, ◌<◌, ◌≤◌, ◌==◌, ◌&&◌, ltb, leb, cond, Bool, true, false, List, [], length, get_or, Option, Some, None, refl, sym, ap, subst, ◌∙◌, arith, bit_and, Contains}
+use Rattle.std.proofs.Common.{◌≡◌, ◌≢◌, ℕ, ◌+◌, ◌*◌, ◌-◌, ◌/◌, ◌%◌, ◌^◌, ◌<◌, ◌≤◌, ◌==◌, ◌&&◌, ltb, leb, cond, Bool, true, false, List, [], length, get_or, Some, None, refl, ap, subst, ◌∙◌, arith, bit_and}
 use Rattle.std.specs.List.{AllByRecursion, position_or_len, flat_map}
 use Rattle.std.proofs.lemmas.Nat.{and_shr, and_mod, and_le_r}
 use Rattle.std.proofs.lemmas.Bool.{lt-ltb, ltb-true, ltb-false, le-ltb, le-leb}
@@ -92,10 +92,10 @@ names_slot section front slots slot number long small stands low is =
 
 slots_small : (rows : List UnwindRow) → AllByRecursion AreFields rows → AllByRecursion Small (personalities rows)
 slots_small rows fields = all_from_in Small (personalities rows) (λ slot there.
-  let from = (personalities_are rows).only slot (Contains_from_in (personalities rows) slot there) in
-  let here : AreFields from.1 = all_in AreFields rows from.1 fields (in_from_Contains rows from.1 from.2) in
-  let small : from.1.personality < 2 ^ 32 = here.personality in
-  subst Small from.3 small)
+    let from = (personalities_are rows).only slot (Contains_from_in (personalities rows) slot there) in
+    let here : AreFields from.1 = all_in AreFields rows from.1 fields (in_from_Contains rows from.1 from.2) in
+    let small : from.1.personality < 2 ^ 32 = here.personality in
+    subst Small from.3 small)
 
 named_by : (rows : List UnwindRow) (section : List ℕ) (pages : ℕ) (front : List ℕ) (row : UnwindRow) (none : Bool) → (row.personality == 0) ≡ none → In row rows → length front ≡ 28 → length (personalities rows) ≤ 3 → AllByRecursion AreFields rows
     → lies section 0 28 ≡ true → unwind_info_header_at section 0 ≡ info_header (length (personalities rows)) pages → Stands section front (flat_map (number_bytes 4) (personalities rows))

@@ -1,4 +1,4 @@
-use Rattle.std.proofs.Common.{ℕ, List, ◌≡◌, ◌==◌, ◌&&◌, true, false, ltb, leb, get_or, length, sym, ap, ◌∙◌, arith}
+use Rattle.std.proofs.Common.{ℕ, List, ◌==◌, ◌&&◌, ltb, leb, get_or, length, sym, ap, ◌∙◌, arith}
 use Rattle.std.specs.List.{position_or_len}
 use Rattle.unwind_out.proofs.Slots.{slot_there, slot_put}
 use Rattle.unwind_out.proofs.table.put_slot.Goals as goal
