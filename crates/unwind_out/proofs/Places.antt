@@ -1,12 +1,12 @@
 -- Loops over the rows at some places.
-use Rattle.std.proofs.Common.{◌≡◌, ℕ, suc, ◌+◌, ◌*◌, ◌-◌, ◌<◌, ◌≤◌, ◌==◌, ltb, Bool, true, false, List, [], ◌∷◌, ◌++◌, Option, Some, None, refl, sym, ap, ◌∙◌, arith}
+use Rattle.std.proofs.Common.{◌≡◌, ℕ, zero, suc, ◌+◌, ◌*◌, ◌-◌, ◌<◌, ◌≤◌, ◌==◌, ltb, Bool, true, false, List, [], ◌∷◌, ◌++◌, length, Option, Some, None, refl, sym, ap, ◌∙◌, arith}
 use Rattle.std.specs.Option.{option_or}
 use Rattle.std.proofs.Math.Nat.{mul-suc}
 use Rattle.std.proofs.Math.Numerals.{add-one}
-use Rattle.std.proofs.lemmas.Bool.{lt-ltb, ltb-true, le-ltb, ltb-false}
+use Rattle.std.proofs.lemmas.Bool.{lt-ltb, ltb-true, le-ltb, ltb-false, lt-leb, leb-false}
 use Rattle.mo_format.specs.declared.unwind.RegularPageEntry.{RegularPageEntry}
 use Rattle.mo_format.specs.declared.unwind.UnwindLsdaEntry.{UnwindLsdaEntry}
-use Rattle.unwind_out.specs.Lookup.{each_at, greater, before, row_at, lsda_found}
+use Rattle.unwind_out.specs.Lookup.{each_at, lies, greater, before, row_at, lsda_row, lsda_found}
 
 pub greater_none : (best : Option RegularPageEntry) → greater best None ≡ best
 greater_none None = refl
@@ -135,4 +135,18 @@ passing_ends f width at count function k passing past =
     let none : each_at f width (at + width * k) (count - k) ≡ [] = none_left f width (at + width * k) (count - k) (omega arith) in
     sym (ap (λ (xs : List UnwindLsdaEntry). lsda_found xs function) none) ∙ passing.rest
 
-pub ruleset passing = (passing_starts, passing_goes_on, passing_found, passing_ends)
+none_past : (section : List ℕ) (at left : ℕ) → length section < at + 8 → each_at (lsda_row section) 8 at left ≡ []
+unfolding each_at lsda_row
+none_past section at zero past = refl
+none_past section at (suc left) past =
+    let away : lies section at 8 ≡ false = lt-leb (at + 8) (length section) past in
+    rw away (none_past section (at + 8) left (omega arith))
+
+-- the rows to come don't lie in the section
+pub passing_past : (section : List ℕ) (at count function k place : ℕ) → IsPassing (lsda_row section) 8 at count function k → place ≡ at + 8 * k → lies section place 8 ≡ false → None ≡ lsda_found (each_at (lsda_row section) 8 at count) function
+passing_past section at count function k place passing here away =
+    let past : length section < place + 8 = leb-false (place + 8) (length section) away in
+    let none : each_at (lsda_row section) 8 (at + 8 * k) (count - k) ≡ [] = none_past section (at + 8 * k) (count - k) (omega arith) in
+    sym (ap (λ (xs : List UnwindLsdaEntry). lsda_found xs function) none) ∙ passing.rest
+
+pub ruleset passing = (passing_starts, passing_goes_on, passing_found, passing_past, passing_ends)

@@ -224,11 +224,9 @@ fn row_before(section: &[u8], header: UnwindInfoHeader, offset: u32) -> Option<R
 // The data of a function by the row on it that lies at a place.
 #[tactic(auto, unfolding(crate::specs::Lookup::lsda_row))]
 fn lsda_at(section: &[u8], at: usize, function: u32) -> Option<u32>
+    requires { at + 8 ≤ length section.now }
     ensures { result ≡ lsda_found (lsda_row section.now at) function }
 {
-    if !lies(section, at, UnwindLsdaEntry::SIZE) {
-        return None;
-    }
     let row = UnwindLsdaEntry::read(section, at);
     if row.function_offset != function {
         return None;
@@ -236,13 +234,17 @@ fn lsda_at(section: &[u8], at: usize, function: u32) -> Option<u32>
     Some(row.lsda_offset)
 }
 
-// The data of a function by the first of so many rows on it.
+// The data of a function by the first of so many rows on it. Behind one that doesn't lie in the section none does.
 #[tactic(auto, using(crate::proofs::Places::passing))]
 fn lsda_among(section: &[u8], first: u32, count: u32, function: u32) -> Option<u32>
     ensures { result ≡ lsda_found (each_at (lsda_row section.now) 8 first count) function }
 {
     for k in 0..count as usize {
-        if let Some(lsda) = lsda_at(section, first as usize + 8 * k, function) {
+        let at = first as usize + UnwindLsdaEntry::SIZE * k;
+        if !lies(section, at, UnwindLsdaEntry::SIZE) {
+            return None;
+        }
+        if let Some(lsda) = lsda_at(section, at, function) {
             return Some(lsda);
         }
     }
