@@ -12,14 +12,15 @@
 //! - `closure LIBRARIES NAMES`: libraries with so many names each, which `lib_bind::closure` binds
 //! - `unwind FUNCTIONS ENCODINGS EACH`: functions with so many encodings, each of which so many in a row have, whose section
 //!   `unwind_out` sizes and writes
+//! - `section PATH FUNCTIONS ENCODINGS EACH`: the same, and the section goes to a file
 //! - `providers LIBRARIES NAMES`: 100,000 names looked up in them by `lib_bind::provider_of`
 //! - `image PATH ADDRESS COUNT`: so many pointers of an image, read by `image_read::fixup_at`
 //! - `yaml PATH TIMES`: the text of a stub library, read so often by `tbd_yaml::read_yaml`
 //! - `stub PATH TIMES`: what it says, read so often by `tbd_doc::read_stubs`
 //!
 //! A word `then` ends a call's words, and those of another call follow. What each call counted is printed, a line each.
-//! The milliseconds that a call took go to standard error, of `fill`, `patch` and `unwind` the microseconds; `fan`, `image`, `yaml`
-//! and `stub` are timed by the program as a whole.
+//! The milliseconds that a call took go to standard error, of `fill`, `patch`, `unwind` and `section` the microseconds;
+//! `fan`, `image`, `yaml` and `stub` are timed by the program as a whole.
 #![tactic(auto)]
 
 mod branches;
@@ -46,7 +47,7 @@ use crate::libraries::{closure_of, providers};
 use crate::places::places;
 use crate::tables::{archive, number_names, slot_lists};
 use crate::texts::{read_stub, read_text};
-use crate::unwinding::unwinding;
+use crate::unwinding::{unwinding, unwinding_to};
 use anyhow::{Result, bail};
 use std::env;
 use std::thread::Threads;
@@ -99,34 +100,39 @@ fn call_on_numbers<T: Threads + Sync>(
             small(*jobs)?,
             small(*steps)?,
         ),
-        [functions, encodings, each] if name == "unwind" => unwinding(
-            rt,
-            small(*functions)?,
-            small(*encodings)?,
-            small(*each)?,
-        ),
+        [functions, encodings, each] if name == "unwind" => {
+            let _section = unwinding(rt, small(*functions)?, small(*encodings)?, small(*each)?)?;
+            Ok(())
+        }
         _ => bail!("want the name of a call and its numbers"),
     }
 }
 
-// Calls on the contents of a file.
+// Calls on a file.
 fn call_on_file(rt: &HostRuntime, name: &str, path: &str, numbers: &[u64]) -> Result<()> {
     match (name, numbers) {
         ("archive", []) => archive(rt, path),
         ("image", [first, count]) => read_fixups(rt, path, *first, *count),
         ("yaml", [times]) => read_text(rt, path, *times),
         ("stub", [times]) => read_stub(rt, path, *times),
+        ("section", [functions, encodings, each]) => unwinding_to(
+            rt,
+            path,
+            small(*functions)?,
+            small(*encodings)?,
+            small(*each)?,
+        ),
         _ => bail!("want the name of a call, a path and numbers"),
     }
 }
 
-fn reads_file(name: &str) -> bool {
-    name == "archive" || name == "image" || name == "yaml" || name == "stub"
+fn has_file(name: &str) -> bool {
+    name == "archive" || name == "image" || name == "yaml" || name == "stub" || name == "section"
 }
 
 fn call<T: Threads + Sync>(rt: &HostRuntime, threads: &T, words: &[String]) -> Result<()> {
     match words {
-        [name, path, rest @ ..] if reads_file(name.as_str()) => {
+        [name, path, rest @ ..] if has_file(name.as_str()) => {
             let numbers = numbers_of(rt, rest)?;
             call_on_file(rt, name.as_str(), path.as_str(), numbers.as_slice())
         }

@@ -1,6 +1,8 @@
 //! Functions whose unwinding is written.
 use anyhow::{Result, bail};
+use mo_types::Bytes;
 use std::alloc::Global;
+use std::fs;
 use std::time::Instant;
 use unwind_out::{UnwindRow, UnwindRows, are_apart, unwind_size, write_unwind};
 
@@ -34,7 +36,7 @@ fn tell(rt: &HostRuntime, start: Instant) -> Result<()> {
     Ok(())
 }
 
-fn write(rt: &HostRuntime, rows: &UnwindRows) -> Result<()> {
+fn written(rt: &HostRuntime, rows: &UnwindRows) -> Result<Bytes> {
     if rows.is_empty() || !are_apart(rows.as_slice()) {
         bail!("the functions are none, or not apart");
     }
@@ -49,12 +51,30 @@ fn write(rt: &HostRuntime, rows: &UnwindRows) -> Result<()> {
     };
     tell(rt, start)?;
     println!(rt; "{size} {}", section.len())?;
-    Ok(())
+    Ok(section)
 }
 
 /// Writes the unwinding of so many functions with so many encodings, each of which so many functions in a row have, and
 /// prints the size of the section twice, as it is told before it is written and as it is.
-pub(crate) fn unwinding(rt: &HostRuntime, count: u32, encodings: u32, each: u32) -> Result<()> {
+pub(crate) fn unwinding(
+    rt: &HostRuntime,
+    count: u32,
+    encodings: u32,
+    each: u32,
+) -> Result<Bytes> {
     let rows = rows_of(rt.alloc(), count, encodings, each)?;
-    write(rt, &rows)
+    written(rt, &rows)
+}
+
+/// Writes the section to a file.
+pub(crate) fn unwinding_to(
+    rt: &HostRuntime,
+    path: &str,
+    count: u32,
+    encodings: u32,
+    each: u32,
+) -> Result<()> {
+    let section = unwinding(rt, count, encodings, each)?;
+    fs::write(rt, path, section.as_slice())?;
+    Ok(())
 }
