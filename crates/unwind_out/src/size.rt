@@ -69,7 +69,8 @@ fn size(alloc: Global, rows: &[UnwindRow]) -> Result<u64, UnwindLimit>
     Ok(section_size(slots, lsdas.as_slice(), pages.as_slice()))
 }
 
-/// How many bytes `write_unwind` writes for some functions. It wants memory for the rows of the section alone.
+/// How many bytes `write_unwind` writes for some functions. It takes memory for the section's rows and pages,
+/// and none for its bytes.
 pub fn unwind_size(alloc: Global, entries: &UnwindRows) -> Result<u64, UnwindLimit>
     requires apart { AreApart entries.now }
     ensures exact { IfOk result (IsSizeOf entries.now) }
