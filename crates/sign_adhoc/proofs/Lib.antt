@@ -1,4 +1,5 @@
 pub mod AnswerLemmas
+pub mod ChangedLemmas
 pub mod GoodLemmas
 pub mod PageLemmas
 pub mod SizeLemmas

@@ -1,3 +1,4 @@
+pub mod Changed
 pub mod Pages
 pub mod Signature
 pub mod Standing

@@ -12,17 +12,15 @@ use mo_format::{BlobIndex, CodeDirectory, SuperBlob};
 use mo_types::OutOfMemory;
 use std::alloc::Global;
 
-// The bytes of the super blob with its entry, and of the fields of the code directory.
-pub(crate) const DIRECTORY_AT: usize = 20;
-
-pub(crate) const DIRECTORY_FIELDS: usize = 88;
+// Where the code directory stands, behind the super blob and its entry.
+pub(crate) const DIRECTORY_AT: usize = SuperBlob::SIZE + BlobIndex::SIZE;
 
 // Where the hashes stand in the code directory.
 pub(crate) fn hashes_begin(identifier: usize) -> usize
     requires { identifier < 2 ^ 62 }
     ensures { result ≡ signature.hashes_begin identifier }
 {
-    DIRECTORY_FIELDS + identifier + 1
+    CodeDirectory::SIZE + identifier + 1
 }
 
 /// How many bytes a signature has, without the zeros.
@@ -74,7 +72,7 @@ pub(crate) fn directory(
         version: CS_SUPPORTSEXECSEG,
         flags: CS_ADHOC + CS_LINKER_SIGNED,
         hash_offset: hash_offset as u32,
-        ident_offset: DIRECTORY_FIELDS as u32,
+        ident_offset: CodeDirectory::SIZE as u32,
         n_special_slots: 0,
         n_code_slots: pages as u32,
         code_limit: limit as u32,

@@ -5,11 +5,14 @@
 //! answers those bytes and no others.
 //!
 //! `check` reads all bytes: `specs/Standing.antt` says what stands where the command of an image says, and which page is
-//! the first whose hash is another. A check has one answer, and it is `Good` of what was signed.
+//! the first whose hash is another. A check has one answer (`one_answer`), it is `Good` of what was signed
+//! (`what_is_signed_is_found_so`), and of a signed image that was changed before its signature it tells the first page
+//! whose hash is another than before (`a_change_is_told_of`). So a check that stops at a good page, or hashes the last
+//! page whole, isn't proved.
 //!
-//! `identify` writes the UUID, which the hashes of the pages make with zeros in its place, and answers the hashes that
-//! then hold, each page being hashed once but for those that have the UUID. The pages are hashed by `rayon`, in pieces of
-//! 64 pages or more.
+//! `identify` writes the UUID, which the hashes of the pages make with zeros in its place, whatever stood there
+//! (`the_place_of_a_uuid_counts_for_nothing`), and answers the hashes that then hold, each page being hashed once but for
+//! those that have the UUID. The pages are hashed by `rayon`, in pieces of 64 pages or more.
 #![tactic(auto)]
 
 mod answer;
@@ -25,7 +28,10 @@ pub use answer::Check;
 pub use blob::{sign_hashes, signature_size};
 pub use checking::check;
 pub use identity::identify;
-pub use laws::{one_answer, the_place_of_a_uuid_counts_for_nothing, what_is_signed_is_found_so};
+pub use laws::{
+    a_change_is_told_of, one_answer, the_place_of_a_uuid_counts_for_nothing,
+    what_is_signed_is_found_so,
+};
 pub use pages::hash_pages;
 pub use signing::sign;
 pub use standing::Standing;

@@ -8,9 +8,7 @@ ghost use Rattle.sign_adhoc.specs.Standing as standing;
 ghost use Rattle.sign_adhoc.specs.Standing.{AreZeros, HasEnds, IsSignature, IsStanding};
 ghost use Rattle.sign_adhoc.specs.inner.Told as told;
 
-use crate::blob::{
-    DIRECTORY_AT, DIRECTORY_FIELDS, blob_size, directory, directory_entry, padded_size, super_blob,
-};
+use crate::blob::{DIRECTORY_AT, blob_size, directory, directory_entry, padded_size, super_blob};
 use image_read::{cmd, cmdsize, fits, ncmds};
 use mo_format::loader::LC_CODE_SIGNATURE;
 use mo_format::{BlobIndex, CodeDirectory, LinkeditDataCommand, SuperBlob};
@@ -80,14 +78,14 @@ fn told(image: &[u8], from: usize, size: usize) -> Option<Standing>
     ensures within { IfSome result (λ s. (108 < s.size) × (s.from + s.size ≤ length image.now)) }
     ensures same { IfSome result (λ s. (s.from ≡ from) × (s.size ≡ size)) }
 {
-    if size <= DIRECTORY_AT + DIRECTORY_FIELDS || image.len() < from + size {
+    if size <= DIRECTORY_AT + CodeDirectory::SIZE || image.len() < from + size {
         return None;
     }
     let directory = CodeDirectory::read(image, from + DIRECTORY_AT);
     Some(Standing {
         from,
         size,
-        identifier: (directory.hash_offset as usize).saturating_sub(DIRECTORY_FIELDS + 1),
+        identifier: (directory.hash_offset as usize).saturating_sub(CodeDirectory::SIZE + 1),
         text_size: directory.exec_seg_limit,
         main: directory.exec_seg_flags == 1,
     })
@@ -131,7 +129,7 @@ fn has_ends(image: &[u8], s: Standing) -> bool
     requires few { s.identifier < 2 ^ 32 }
     ensures { IsTrue result ↔ HasEnds image.now s }
 {
-    let nul = s.from + DIRECTORY_AT + DIRECTORY_FIELDS + s.identifier;
+    let nul = s.from + DIRECTORY_AT + CodeDirectory::SIZE + s.identifier;
     let end = s.from + blob_size(s.identifier, s.from);
     image[nul] == 0 && are_zeros(&image[end..s.from + s.size])
 }
