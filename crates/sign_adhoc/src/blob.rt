@@ -3,7 +3,7 @@
 ghost use Rattle.std.specs.Prelude.{◌≡◌, ◌+◌, ◌<◌, ◌≤◌, ◌^◌, ◌++◌, length, IfOk, OnOk};
 ghost use Rattle.sign_adhoc.specs.Signature as signature;
 
-use crate::pages::page_count;
+use crate::pages::{HASH_SIZE, page_count};
 use mo_format::cs_blobs::{
     CS_ADHOC, CS_EXECSEG_MAIN_BINARY, CS_HASHTYPE_SHA256, CS_LINKER_SIGNED, CS_SHA256_LEN,
     CS_SUPPORTSEXECSEG, CSMAGIC_CODEDIRECTORY, CSMAGIC_EMBEDDED_SIGNATURE, CSSLOT_CODEDIRECTORY,
@@ -29,7 +29,7 @@ pub(crate) fn blob_size(identifier: usize, limit: usize) -> usize
     requires { identifier < 2 ^ 62 }
     ensures { result ≡ signature.blob_size identifier limit }
 {
-    DIRECTORY_AT + hashes_begin(identifier) + 32 * page_count(limit)
+    DIRECTORY_AT + hashes_begin(identifier) + HASH_SIZE * page_count(limit)
 }
 
 #[tactic(auto, using(crate::proofs::PageLemmas::sizes))]
@@ -68,7 +68,7 @@ pub(crate) fn directory(
     let pages = page_count(limit);
     CodeDirectory {
         magic: CSMAGIC_CODEDIRECTORY,
-        length: (hash_offset + 32 * pages) as u32,
+        length: (hash_offset + HASH_SIZE * pages) as u32,
         version: CS_SUPPORTSEXECSEG,
         flags: CS_ADHOC + CS_LINKER_SIGNED,
         hash_offset: hash_offset as u32,

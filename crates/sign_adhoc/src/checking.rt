@@ -8,7 +8,7 @@ ghost use Rattle.sign_adhoc.specs.Standing.{AreHashed, IsAnswer, IsFirstChanged,
 use crate::answer::Check;
 use crate::blob;
 use crate::blob::DIRECTORY_AT;
-use crate::pages::{page_count, page_hash};
+use crate::pages::{HASH_SIZE, page_count, page_hash};
 use crate::standing::{Standing, signature_of};
 
 fn is_hashed(image: &[u8], s: Standing, number: usize) -> bool
@@ -17,9 +17,9 @@ fn is_hashed(image: &[u8], s: Standing, number: usize) -> bool
     requires few { s.identifier < 2 ^ 32 }
     ensures { IsTrue result ↔ IsHashed image.now s number }
 {
-    let at = s.from + DIRECTORY_AT + blob::hashes_begin(s.identifier) + 32 * number;
+    let at = s.from + DIRECTORY_AT + blob::hashes_begin(s.identifier) + HASH_SIZE * number;
     let hash = page_hash(&image[..s.from], number);
-    hash.as_slice() == &image[at..at + 32]
+    hash.as_slice() == &image[at..at + HASH_SIZE]
 }
 
 // The first page whose hash is another.

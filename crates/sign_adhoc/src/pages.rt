@@ -3,6 +3,7 @@
 ghost use Rattle.std.specs.Prelude.{◌≡◌, ◌≤◌, ◌<◌, ◌*◌, ◌+◌, length, IfOk};
 ghost use Rattle.sign_adhoc.specs.Pages as pages;
 
+use mo_format::cs_blobs::CS_SHA256_LEN;
 use mo_types::OutOfMemory;
 use rayon::prelude::*;
 use sha2::{Digest, Sha256};
@@ -11,6 +12,9 @@ use std::thread::Threads;
 
 /// How many bytes a page has, but for the last one.
 pub(crate) const PAGE_SIZE: usize = 4096;
+
+/// How many bytes the hash of a page has.
+pub(crate) const HASH_SIZE: usize = CS_SHA256_LEN as usize;
 
 /// The fewest pages that are worth a thread.
 const LEAST_PIECE: usize = 64;
