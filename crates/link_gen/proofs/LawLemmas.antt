@@ -4,6 +4,7 @@ use Rattle.std.specs.Prelude.{◌==◌, min, nat_le, nat_lt, Some, slice_get, if
 use Rattle.std.specs.List.{position_or_len, range_with_len}
 use Rattle.std.proofs.lemmas.Bool.{and_parts, cases_eq, eq-eqb, eqb-true, leb-true, ltb-true}
 use Rattle.std.proofs.lemmas.List.Sums.{passes_at_first}
+use Rattle.std.proofs.lemmas.Option.{slice_get-get_or}
 use Rattle.list_lemmas.proofs.Members.{In, in_filter, in_left, in_map, in_right}
 use Rattle.link_gen.proofs.NumberLemmas.{is_named}
 use Rattle.link_gen.proofs.OutsideLemmas.{in_range, is_outside}
@@ -47,11 +48,6 @@ found_below {X = X} p (y ∷ ys) x h passes = by (p y) refl h (λ later. found_b
     by false away (inl e) behind = let passes_here : p y ≡ true = ap p e ∙ passes in cc
     by false away (inr later) behind = let rest : position_or_len p ys < length ys = behind later in rw away (omega arith)
 
-get_at : {X : Type 0} (xs : List X) (k : ℕ) (d : X) → k < length xs → slice_get xs k ≡ Some (get_or xs k d)
-get_at [] k d low = absurd (omega arith)
-get_at (x ∷ xs) zero d low = refl
-get_at (x ∷ xs) (suc k) d low = get_at xs k d (omega arith)
-
 numbered : (list : List MadeSymbol) (name : SymbolName) → (name ≡ Main → ⊥) → HasName list name → LeadsTo list (number_of list name) name
 unfolding number_of
 numbered list name other (symbol, there, is) =
@@ -59,7 +55,7 @@ numbered list name other (symbol, there, is) =
     let below = found_below (is_named name) list symbol there passes in
     record {
       symbol = get_or list (position_or_len (is_named name) list) symbol;
-      is = get_at list (position_or_len (is_named name) list) symbol below;
+      is = slice_get-get_or list (position_or_len (is_named name) list) symbol below;
       name_is = same_name (get_or list (position_or_len (is_named name) list) symbol).name name (passes_at_first (is_named name) list symbol below);
     }
 

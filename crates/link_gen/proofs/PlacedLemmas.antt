@@ -116,7 +116,7 @@ symtab_there places rest few =
     plus : (a b c : ℕ) → a ≡ 32 → b ≡ 72 → c ≡ 80 → a + b + c ≡ 184
     plus a b c p q r = omega arith
 
-length_front : (places : Places) → AreFew places → length (front_bytes places) ≡ 208
+pub length_front : (places : Places) → AreFew places → length (front_bytes places) ≡ 208
 unfolding front_bytes
 length_front places few =
     let one : length (mach_header_bytes header) ≡ 32 = length_spelled (mach_header_fields header) header_fits in
@@ -177,25 +177,25 @@ two_numbers a b =
     let four = length-number_bytes 4 b in
     omega arith
 
-same_size : (made : MadeObject) (r : ℕ) → length (relocation_info_bytes (relocation made r)) ≡ 8
+pub same_size : (made : MadeObject) (r : ℕ) → length (relocation_info_bytes (relocation made r)) ≡ 8
 same_size made r = two_numbers (relocation made r).r_address (packed (relocation made r))
 
-length_padding : (places : Places) → 208 + places.text_size + length (padding places) ≡ relocation_place places
+pub length_padding : (places : Places) → 208 + places.text_size + length (padding places) ≡ relocation_place places
 unfolding least_multiple
 length_padding places =
     let long : length (padding places) ≡ relocation_place places - (208 + places.text_size) = length-replicate (relocation_place places - (208 + places.text_size)) 0 in
     omega arith
 
-length_text : (made : MadeObject) → length (flat_map (number_bytes 4) (instructions made)) ≡ text_size made
+pub length_text : (made : MadeObject) → length (flat_map (number_bytes 4) (instructions made)) ≡ text_size made
 length_text made =
     let long = length_chunks (number_bytes 4) (instruction made) 4 0 (4 * function_count made + length (own_weaks made)) (λ j. length-number_bytes 4 (instruction made j)) in
     omega arith
 
 -- what stands before the relocations
-before : MadeObject → List ℕ
+unfoldable pub before : MadeObject → List ℕ
 before made = front_bytes (places_of made) ++ (flat_map (number_bytes 4) (instructions made) ++ padding (places_of made))
 
-length_before : (made : MadeObject) → AreFew (places_of made) → length (before made) ≡ relocation_place (places_of made)
+pub length_before : (made : MadeObject) → AreFew (places_of made) → length (before made) ≡ relocation_place (places_of made)
 unfolding before
 length_before made few =
     let one = length-append (front_bytes (places_of made)) (flat_map (number_bytes 4) (instructions made) ++ padding (places_of made)) in
