@@ -1,0 +1,9 @@
+pub mod Few
+pub mod Symbolic
+pub mod Spelled
+pub mod Reading
+pub mod Rules
+pub mod Calls
+pub mod Features
+pub mod Law
+pub mod Whole
