@@ -1,7 +1,12 @@
+pub mod AddressLemmas
 pub mod Appends
 pub mod BlobLemmas
+pub mod EncodeLemmas
 pub mod ImportLemmas
 pub mod NearLemmas
+pub mod OneLemmas
 pub mod PlaceLemmas
 pub mod PoolLemmas
 pub mod StartLemmas
+pub mod TurnLemmas
+pub mod WalkLemmas

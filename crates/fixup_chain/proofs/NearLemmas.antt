@@ -3,7 +3,7 @@ use Rattle.std.proofs.Common.{◌≡◌, ℕ, zero, suc, ◌+◌, ◌-◌, ◌/�
 use Rattle.std.specs.List.Sorted.{IsPartitionPoint}
 use Rattle.std.specs.Option.{option_map}
 use Rattle.std.proofs.lemmas.Bool.{lt-ltb, le-leb, ltb-true, leb-true, eqb-true, eq-eqb, cases_lt}
-use Rattle.fixup_chain.specs.declared.chains.Span.{Span}
+use Rattle.sect_place.specs.declared.layout.Segment.{Segment}
 use Rattle.fixup_chain.specs.Encoded.{AreApart}
 use Rattle.fixup_chain.specs.Places.{PAGE, page_of, addresses_of, steps_to_next, page_start, pages_of}
 use Rattle.fixup_chain.specs.inner.Near.{IsThere, address_at, last_address, pages_by, start_by, steps_by}
@@ -85,7 +85,7 @@ no_start : (page : ℕ) → page_start (addresses_of []) page ≡ DYLD_CHAINED_P
 unfolding page_start addresses_of
 no_start page = refl
 
-no_pages : (segment : Span) → pages_of (addresses_of []) segment ≡ 0
+no_pages : (segment : Segment) → pages_of (addresses_of []) segment ≡ 0
 unfolding pages_of addresses_of
 no_pages segment = refl
 
@@ -124,7 +124,7 @@ pub ruleset starting = (start_is)
 
 -- ---- the last one of a segment
 
-pub pages_are : (fixups : List Fixup) (segment : Span) (end count : ℕ) (last : Option ℕ) (result : ℕ) → AreApart fixups → end ≡ segment.address + segment.size → IsPartitionPoint (λ (f : Fixup). nat_lt f.address end ≡ true) (λ (f : Fixup). nat_lt f.address end ≡ false) fixups count → count ≤ length fixups → last ≡ last_address fixups count → result ≡ pages_by segment.address last → result ≡ pages_of (addresses_of fixups) segment
+pub pages_are : (fixups : List Fixup) (segment : Segment) (end count : ℕ) (last : Option ℕ) (result : ℕ) → AreApart fixups → end ≡ segment.address + segment.vmsize → IsPartitionPoint (λ (f : Fixup). nat_lt f.address end ≡ true) (λ (f : Fixup). nat_lt f.address end ≡ false) fixups count → count ≤ length fixups → last ≡ last_address fixups count → result ≡ pages_by segment.address last → result ≡ pages_of (addresses_of fixups) segment
 pages_are fixups segment end count last result apart ends parted bound l r = by_count count refl
   where
     under : (d : Fixup) (k : ℕ) → k < count → (get_or fixups k d).address < end

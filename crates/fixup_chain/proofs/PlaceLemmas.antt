@@ -6,7 +6,7 @@ use Rattle.std.specs.List.Sorted.{IsNonDecreasingBy}
 use Rattle.std.proofs.lemmas.Bool.{lt-ltb, le-leb, ltb-true, eqb-true, eq-eqb, leb-true, cases_lt}
 use Rattle.std.proofs.lemmas.List.{get_or_default}
 use Rattle.list_lemmas.proofs.Members.{In, in_from_Contains, Contains_from_in, in_filter, from_filter, in_map, from_map}
-use Rattle.fixup_chain.specs.declared.chains.Span.{Span}
+use Rattle.sect_place.specs.declared.layout.Segment.{Segment}
 use Rattle.fixup_chain.specs.Encoded.{AreApart}
 use Rattle.fixup_chain.specs.Places.{PAGE, page_of, addresses_of, least, greatest, is_after, next_after, steps_to_next, page_start, is_in, page_in, pages_of}
 use Rattle.fixup_chain.specs.declared.chains.Fixup.{Fixup}
@@ -24,7 +24,7 @@ min_cases n r = elim (cases_lt n r) [
   | inr more ↦ inr (omega (arith, more))
 ]
 
-none_is : (ns : List ℕ) → least ns ≡ None → (n : ℕ) → In n ns → ⊥
+pub none_is : (ns : List ℕ) → least ns ≡ None → (n : ℕ) → In n ns → ⊥
 none_is [] e n h = absurd h
 none_is (m ∷ ns) e n h = cc
 
@@ -207,7 +207,7 @@ steps_missing fixups i d apart within other = steps_none (addresses_of fixups) (
 
 -- ---- the first pointer of a page
 
-start_by : (addresses : List ℕ) (page : ℕ) (o : Option ℕ) → least (filter (λ address. page_of address == page) addresses) ≡ o → page_start addresses page ≡ option_map_or (λ first. first % PAGE) o DYLD_CHAINED_PTR_START_NONE
+pub start_by : (addresses : List ℕ) (page : ℕ) (o : Option ℕ) → least (filter (λ address. page_of address == page) addresses) ≡ o → page_start addresses page ≡ option_map_or (λ first. first % PAGE) o DYLD_CHAINED_PTR_START_NONE
 unfolding page_start
 start_by addresses page o e = rw e refl
 
@@ -246,19 +246,19 @@ start_missing fixups page first d apart before past =
 
 -- ---- the last pointer of a segment
 
-in_true : (segment : Span) (n : ℕ) → is_in segment n ≡ true → (segment.address ≤ n) × (n < segment.address + segment.size)
+in_true : (segment : Segment) (n : ℕ) → is_in segment n ≡ true → (segment.address ≤ n) × (n < segment.address + segment.vmsize)
 in_true segment n e =
-    let p = both (nat_le segment.address n) (nat_lt (n - segment.address) segment.size) e in
+    let p = both (nat_le segment.address n) (nat_lt (n - segment.address) segment.vmsize) e in
     let low : segment.address ≤ n = leb-true segment.address n p.0 in
-    let high : n - segment.address < segment.size = ltb-true (n - segment.address) segment.size p.1 in
+    let high : n - segment.address < segment.vmsize = ltb-true (n - segment.address) segment.vmsize p.1 in
     (low, omega (arith, low, high))
 
-true_in : (segment : Span) (n : ℕ) → segment.address ≤ n → n < segment.address + segment.size → is_in segment n ≡ true
+true_in : (segment : Segment) (n : ℕ) → segment.address ≤ n → n < segment.address + segment.vmsize → is_in segment n ≡ true
 true_in segment n low high =
-    let near : n - segment.address < segment.size = omega (arith, low, high) in
-    rw (le-leb segment.address n low, lt-ltb (n - segment.address) segment.size near) refl
+    let near : n - segment.address < segment.vmsize = omega (arith, low, high) in
+    rw (le-leb segment.address n low, lt-ltb (n - segment.address) segment.vmsize near) refl
 
-pub pages_there : (fixups : List Fixup) (segment : Span) (last : ℕ) (d : Fixup) → AreApart fixups → last < length fixups → segment.address ≤ (get_or fixups last d).address → (get_or fixups last d).address < segment.address + segment.size → (last + 1 < length fixups → segment.address + segment.size ≤ (get_or fixups (last + 1) d).address) → pages_of (addresses_of fixups) segment ≡ ((get_or fixups last d).address - segment.address) / PAGE + 1
+pub pages_there : (fixups : List Fixup) (segment : Segment) (last : ℕ) (d : Fixup) → AreApart fixups → last < length fixups → segment.address ≤ (get_or fixups last d).address → (get_or fixups last d).address < segment.address + segment.vmsize → (last + 1 < length fixups → segment.address + segment.vmsize ≤ (get_or fixups (last + 1) d).address) → pages_of (addresses_of fixups) segment ≡ ((get_or fixups last d).address - segment.address) / PAGE + 1
 unfolding pages_of
 pages_there fixups segment last d apart within low high past =
     let a = (get_or fixups last d).address in
@@ -274,7 +274,7 @@ pages_there fixups segment last d apart within low high past =
     let is : (get_or fixups place.k d).address ≡ n = place.is d in
     let below : n ≤ a = (elim (cases_lt last place.k) [
       | inl less ↦
-          (let next : segment.address + segment.size ≤ (get_or fixups (last + 1) d).address = past (omega (arith, less, place.within)) in
+          (let next : segment.address + segment.vmsize ≤ (get_or fixups (last + 1) d).address = past (omega (arith, less, place.within)) in
           let up : (get_or fixups (last + 1) d).address ≤ (get_or fixups place.k d).address = not_below fixups (last + 1) place.k d apart (omega (arith, less)) place.within in
           absurd (omega (arith, next, up, is, inside.1)))
       | inr more ↦ subst (λ (m : ℕ). m ≤ a) is (not_below fixups place.k last d apart (omega (arith, more)) within)
@@ -282,7 +282,7 @@ pages_there fixups segment last d apart within low high past =
     let counts : page_in segment n + 1 ≡ m = counted.2 in
     omega (arith, below, counts))
 
-pub pages_missing : (fixups : List Fixup) (segment : Span) (end : ℕ) (d : Fixup) → AreApart fixups → ((k : ℕ) → k < end → (get_or fixups k d).address < segment.address) → (end < length fixups → segment.address + segment.size ≤ (get_or fixups end d).address) → pages_of (addresses_of fixups) segment ≡ 0
+pub pages_missing : (fixups : List Fixup) (segment : Segment) (end : ℕ) (d : Fixup) → AreApart fixups → ((k : ℕ) → k < end → (get_or fixups k d).address < segment.address) → (end < length fixups → segment.address + segment.vmsize ≤ (get_or fixups end d).address) → pages_of (addresses_of fixups) segment ≡ 0
 unfolding pages_of
 pages_missing fixups segment end d apart before past =
     let count = λ (address : ℕ). page_in segment address + 1 in
@@ -298,6 +298,6 @@ pages_missing fixups segment end d apart before past =
       | inl less ↦ (let low : (get_or fixups place.k d).address < segment.address = before place.k less in omega (arith, low, is, inside.0))
       | inr more ↦
           (let up : (get_or fixups end d).address ≤ (get_or fixups place.k d).address = not_below fixups end place.k d apart (omega (arith, more)) place.within in
-          let next : segment.address + segment.size ≤ (get_or fixups end d).address = past (omega (arith, more, place.within)) in
+          let next : segment.address + segment.vmsize ≤ (get_or fixups end d).address = past (omega (arith, more, place.within)) in
           omega (arith, up, next, is, inside.1))
     ])

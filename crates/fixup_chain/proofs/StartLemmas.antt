@@ -2,7 +2,7 @@
 use Rattle.std.proofs.Common.{◌≡◌, ℕ, zero, suc, ◌+◌, ◌-◌, ◌%◌, ◌^◌, ◌<◌, ◌≤◌, List, [], ◌∷◌, ◌++◌, length, get_or, drop, refl, sym, ap, ◌∙◌, arith, append_assoc, append-nil, length-append}
 use Rattle.mo_bytes.specs.Number.{number_bytes}
 use Rattle.fixup_chain.specs.Places.{addresses_of, page_start}
-use Rattle.fixup_chain.specs.declared.chains.Span.{Span}
+use Rattle.sect_place.specs.declared.layout.Segment.{Segment}
 use Rattle.std.proofs.lemmas.List.{drop_all, drop_more, length-replicate}
 use Rattle.fixup_chain.specs.Starts.{lead, offset_of, offsets_from, page_starts, part_of, parts_from, starts_bytes, zeros_to}
 use Rattle.mo_format.specs.ChainedFixups.{chained_starts_in_image_bytes}
@@ -62,15 +62,15 @@ pub ruleset zeros = (zeros_long)
 
 -- ---- segment by segment
 
-pub record IsListing (addresses : List ℕ) (base : ℕ) (segments : List Span) (k : ℕ) (made others : List ℕ) : Type 0 where
+pub record IsListing (addresses : List ℕ) (base : ℕ) (segments : List Segment) (k : ℕ) (made others : List ℕ) : Type 0 where
   pub offsets : made ++ offsets_from addresses base (lead segments + length others) (drop k segments) ≡ offsets_from addresses base (lead segments) segments
   pub parts : others ++ parts_from addresses base (lead segments + length others) (drop k segments) ≡ parts_from addresses base (lead segments) segments
 
-offset_first : (addresses : List ℕ) (base at : ℕ) (x : Span) (rest : List Span) → offsets_from addresses base at (x ∷ rest) ≡ number_bytes 4 (offset_of addresses at x % 2 ^ 32) ++ offsets_from addresses base (at + length (part_of addresses base at x)) rest
+offset_first : (addresses : List ℕ) (base at : ℕ) (x : Segment) (rest : List Segment) → offsets_from addresses base at (x ∷ rest) ≡ number_bytes 4 (offset_of addresses at x % 2 ^ 32) ++ offsets_from addresses base (at + length (part_of addresses base at x)) rest
 unfolding offsets_from
 offset_first addresses base at x rest = refl
 
-part_first : (addresses : List ℕ) (base at : ℕ) (x : Span) (rest : List Span) → parts_from addresses base at (x ∷ rest) ≡ part_of addresses base at x ++ parts_from addresses base (at + length (part_of addresses base at x)) rest
+part_first : (addresses : List ℕ) (base at : ℕ) (x : Segment) (rest : List Segment) → parts_from addresses base at (x ∷ rest) ≡ part_of addresses base at x ++ parts_from addresses base (at + length (part_of addresses base at x)) rest
 unfolding parts_from
 part_first addresses base at x rest = refl
 
@@ -82,7 +82,7 @@ no_parts : (addresses : List ℕ) (base at : ℕ) → parts_from addresses base 
 unfolding parts_from
 no_parts addresses base at = refl
 
-pub listing_starts : (addresses : List ℕ) (base : ℕ) (segments : List Span) (offsets parts : List ℕ) → offsets ≡ [] → parts ≡ [] → IsListing addresses base segments 0 offsets parts
+pub listing_starts : (addresses : List ℕ) (base : ℕ) (segments : List Segment) (offsets parts : List ℕ) → offsets ≡ [] → parts ≡ [] → IsListing addresses base segments 0 offsets parts
 listing_starts addresses base segments offsets parts e f =
     let none : lead segments + 0 ≡ lead segments = omega arith in
     record {
@@ -90,7 +90,7 @@ listing_starts addresses base segments offsets parts e f =
       parts = rw f (ap (λ (n : ℕ). parts_from addresses base n segments) none);
     }
 
-pub listing_goes_on : (addresses : List ℕ) (base : ℕ) (segments : List Span) (k at : ℕ) (offsets parts new_offsets new_parts : List ℕ) (x : Span) (offset : ℕ) → IsListing addresses base segments k offsets parts → k < length segments → x ≡ get_or segments k x → at ≡ lead segments + length parts → offset ≡ offset_of addresses at x % 2 ^ 32 → new_offsets ≡ offsets ++ number_bytes 4 offset → new_parts ≡ parts ++ part_of addresses base at x → IsListing addresses base segments (k + 1) new_offsets new_parts
+pub listing_goes_on : (addresses : List ℕ) (base : ℕ) (segments : List Segment) (k at : ℕ) (offsets parts new_offsets new_parts : List ℕ) (x : Segment) (offset : ℕ) → IsListing addresses base segments k offsets parts → k < length segments → x ≡ get_or segments k x → at ≡ lead segments + length parts → offset ≡ offset_of addresses at x % 2 ^ 32 → new_offsets ≡ offsets ++ number_bytes 4 offset → new_parts ≡ parts ++ part_of addresses base at x → IsListing addresses base segments (k + 1) new_offsets new_parts
 listing_goes_on addresses base segments k at offsets parts new_offsets new_parts x offset listing within is place o n m =
     let rest = drop (k + 1) segments in
     let here = lead segments + length parts in
@@ -114,13 +114,13 @@ listing_goes_on addresses base segments k at offsets parts new_offsets new_parts
           ∙ listing.parts;
     }
 
-pub offsets_end : (addresses : List ℕ) (base : ℕ) (segments : List Span) (k : ℕ) (offsets parts : List ℕ) → IsListing addresses base segments k offsets parts → length segments ≤ k → offsets ≡ offsets_from addresses base (lead segments) segments
+pub offsets_end : (addresses : List ℕ) (base : ℕ) (segments : List Segment) (k : ℕ) (offsets parts : List ℕ) → IsListing addresses base segments k offsets parts → length segments ≤ k → offsets ≡ offsets_from addresses base (lead segments) segments
 offsets_end addresses base segments k offsets parts listing past =
     sym (append-nil offsets)
     ∙ sym (ap (λ (z : List ℕ). offsets ++ z) (ap (offsets_from addresses base (lead segments + length parts)) (drop_all k segments past) ∙ no_offsets addresses base (lead segments + length parts)))
     ∙ listing.offsets
 
-pub parts_end : (addresses : List ℕ) (base : ℕ) (segments : List Span) (k : ℕ) (offsets parts : List ℕ) → IsListing addresses base segments k offsets parts → length segments ≤ k → parts ≡ parts_from addresses base (lead segments) segments
+pub parts_end : (addresses : List ℕ) (base : ℕ) (segments : List Segment) (k : ℕ) (offsets parts : List ℕ) → IsListing addresses base segments k offsets parts → length segments ≤ k → parts ≡ parts_from addresses base (lead segments) segments
 parts_end addresses base segments k offsets parts listing past =
     sym (append-nil parts)
     ∙ sym (ap (λ (z : List ℕ). parts ++ z) (ap (parts_from addresses base (lead segments + length parts)) (drop_all k segments past) ∙ no_parts addresses base (lead segments + length parts)))
@@ -128,7 +128,7 @@ parts_end addresses base segments k offsets parts listing past =
 
 pub ruleset listing = (listing_starts, listing_goes_on, offsets_end, parts_end)
 
-pub starts_are : (addresses : List ℕ) (base n : ℕ) (segments : List Span) (none one two three offsets parts a b : List ℕ) → none ≡ [] → n ≡ length segments → one ≡ none ++ chained_starts_in_image_bytes (record { seg_count = n % 4294967296 }) → a ≡ offsets → two ≡ one ++ a → b ≡ parts → three ≡ two ++ b → offsets ≡ offsets_from addresses base (lead segments) segments → parts ≡ parts_from addresses base (lead segments) segments → three ≡ starts_bytes addresses base segments
+pub starts_are : (addresses : List ℕ) (base n : ℕ) (segments : List Segment) (none one two three offsets parts a b : List ℕ) → none ≡ [] → n ≡ length segments → one ≡ none ++ chained_starts_in_image_bytes (record { seg_count = n % 4294967296 }) → a ≡ offsets → two ≡ one ++ a → b ≡ parts → three ≡ two ++ b → offsets ≡ offsets_from addresses base (lead segments) segments → parts ≡ parts_from addresses base (lead segments) segments → three ≡ starts_bytes addresses base segments
 unfolding starts_bytes
 starts_are addresses base n segments none one two three offsets parts a b e0 count e1 fa e2 fb e3 o p =
     let head = chained_starts_in_image_bytes (record { seg_count = length segments % 4294967296 }) in

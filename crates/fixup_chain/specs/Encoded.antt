@@ -9,7 +9,7 @@ use Rattle.fixup_chain.specs.Imports.{pool_of}
 use Rattle.fixup_chain.specs.Pool.{rows_from}
 use Rattle.fixup_chain.specs.Starts.{starts_bytes, zeros_to}
 use Rattle.fixup_chain.specs.declared.chains.Fixup.{Fixup}
-use Rattle.fixup_chain.specs.declared.chains.Span.{Span}
+use Rattle.sect_place.specs.declared.layout.Segment.{Segment}
 
 -- each pointer has 8 bytes, and none begins before the one before it ends
 abbrev pub AreApart : List Fixup → Type 0
@@ -49,6 +49,6 @@ joined wide count starts rows pool =
 unfoldable pub padded : List ℕ → List ℕ
 padded bytes = bytes ++ zeros_to 8 (length bytes)
 
-unfoldable pub blob_of : List ℕ → ℕ → List Span → Bool → List Import → List ℕ
+unfoldable pub blob_of : List ℕ → ℕ → List Segment → Bool → List Import → List ℕ
 blob_of addresses base segments wide imports =
     padded (joined wide (length imports) (starts_bytes addresses base segments) (rows_from wide 1 imports) (pool_of imports))

@@ -1,4 +1,6 @@
+pub mod Chained
 pub mod Encoded
+pub mod Faults
 pub mod ImportOrder
 pub mod Imports
 pub mod Places

@@ -5,7 +5,7 @@ use Rattle.std.specs.List.{filter}
 use Rattle.std.specs.Option.{option_map_or}
 use Rattle.fixup_chain.specs.declared.chains.Fixup.{Fixup}
 use Rattle.mo_format.specs.declared.fixup_chains.TheConstants.{DYLD_CHAINED_PTR_START_NONE}
-use Rattle.fixup_chain.specs.declared.chains.Span.{Span}
+use Rattle.sect_place.specs.declared.layout.Segment.{Segment}
 
 -- the bytes of a page
 abbrev pub PAGE : ℕ
@@ -46,13 +46,13 @@ page_start addresses page =
     option_map_or (λ first. first % PAGE) (least (filter (λ address. page_of address == page) addresses)) DYLD_CHAINED_PTR_START_NONE
 
 -- an address is one of a segment's
-abbrev pub is_in : Span → ℕ → Bool
-is_in segment address = nat_le segment.address address && nat_lt (address - segment.address) segment.size
+abbrev pub is_in : Segment → ℕ → Bool
+is_in segment address = nat_le segment.address address && nat_lt (address - segment.address) segment.vmsize
 
 -- the number of the page that an address of a segment is on, from the segment's first one
-abbrev pub page_in : Span → ℕ → ℕ
+abbrev pub page_in : Segment → ℕ → ℕ
 page_in segment address = (address - segment.address) / PAGE
 
 -- how many pages a segment has up to the last one with a pointer; none where it has no pointer
-unfoldable pub pages_of : List ℕ → Span → ℕ
+unfoldable pub pages_of : List ℕ → Segment → ℕ
 pages_of addresses segment = greatest (map (λ address. page_in segment address + 1) (filter (is_in segment) addresses))

@@ -30,7 +30,13 @@ word_by wide imports target next fixup =
     then bind_word (record { ordinal = number_of imports (import_of wide fixup); addend = word_addend wide fixup.addend; reserved = 0; next = next })
     else rebase_word (record { target = unwrap_or (in_rebase target) 0; high8 = 0; reserved = 0; next = next })
 
+-- the word of a pointer among those of some addresses, and its place
+unfoldable pub chain_word : (Fixup → ℤ) → Bool → List Import → List ℕ → Fixup → ChainWord
+chain_word target wide imports addresses fixup = record {
+  address = fixup.address;
+  word = word_by wide imports (target fixup) (steps_to_next addresses fixup.address) fixup;
+}
+
 -- the words of all pointers, by where each leads
 unfoldable pub words_of : (Fixup → ℤ) → Bool → List Import → List Fixup → List ChainWord
-words_of target wide imports fixups =
-    map (λ fixup. record { address = fixup.address; word = word_by wide imports (target fixup) (steps_to_next (addresses_of fixups) fixup.address) fixup }) fixups
+words_of target wide imports fixups = map (chain_word target wide imports (addresses_of fixups)) fixups

@@ -1,3 +1,4 @@
 pub mod Fed
 pub mod Held
 pub mod Near
+pub mod Turn

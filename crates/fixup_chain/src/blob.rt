@@ -1,5 +1,5 @@
 //! The part that tells the loader of the chains.
-ghost use Rattle.std.specs.Prelude.{◌≡◌, ◌++◌, ◌<◌, ◌^◌, length, IfOk, OnOk};
+ghost use Rattle.std.specs.Prelude.{◌≡◌, ◌++◌, IfOk, OnOk};
 ghost use Rattle.fixup_chain.specs.Encoded as encoded;
 
 use crate::pool::Table;
@@ -18,7 +18,6 @@ fn put_header(
     rows: usize,
     count: u32,
 ) -> Result<(), OutOfMemory>
-    requires { starts < 2 ^ 62 }
     ensures { OnOk result (out.new.items ≡ out.old.items ++ encoded.header_bytes wide starts rows count) }
 {
     let unit = if wide { 8 } else { 4 };
@@ -50,7 +49,6 @@ pub(crate) fn joined(
     starts: &[u8],
     table: &Table,
 ) -> Result<Vec<u8>, OutOfMemory>
-    requires { length starts.now < 2 ^ 62 }
     ensures { IfOk result (λ made. made.items ≡ encoded.padded (encoded.joined wide count starts.now table.now.rows.items table.now.pool.items)) }
 {
     let mut made = Vec::new(alloc);

@@ -14,15 +14,6 @@ pub struct Fixup {
     pub addend: i64,
 }
 
-/// The memory of a segment (`loader.h`: segment_command_64).
-#[derive(Clone, Copy, Debug, PartialEq, Eq)]
-pub struct Span {
-    /// A multiple of 0x4000.
-    pub address: u64,
-    /// In bytes.
-    pub size: u64,
-}
-
 /// Pointers in the order of their addresses.
 pub type FixupList = Items<Fixup>;
 

@@ -76,21 +76,20 @@ fn is_wide(fixups: &[Fixup], pool: &[u8]) -> bool
     has_large(fixups) || pool.len() >= NARROW_POOL
 }
 
-// The imports of a form in their order, by those of the narrow one.
-fn in_form<'a>(
-    alloc: Global,
-    wide: bool,
-    fixups: &'a [Fixup],
-    narrow: IndexSet<Import<'a>>,
-) -> Result<IndexSet<Import<'a>>, OutOfMemory>
-    requires { spec.AreImports (spec.imports_by false fixups.now) narrow.keys }
-    ensures { IfOk result (λ imports. spec.AreImports (spec.imports_by wide fixups.now) imports.keys) }
+// The imports of a form, and their bytes.
+fn formed_in<'a>(alloc: Global, wide: bool, fixups: &'a [Fixup]) -> Result<Formed<'a>, OutOfMemory>
+    ensures form { IfOk result (λ formed. formed.wide ≡ wide) }
+    ensures imports { IfOk result (λ formed. spec.AreImports (spec.imports_by wide fixups.now) formed.imports.keys) }
+    ensures rows { IfOk result (λ formed. formed.table.rows.items ≡ rows_from wide 1 formed.imports.keys) }
+    ensures pool { IfOk result (λ formed. formed.table.pool.items ≡ spec.pool_of formed.imports.keys) }
 {
-    if wide {
-        in_order(alloc, true, fixups)
-    } else {
-        Ok(narrow)
-    }
+    let imports = in_order(alloc, wide, fixups)?;
+    let table = table_of(alloc, wide, imports.as_slice())?;
+    Ok(Formed {
+        wide,
+        imports,
+        table,
+    })
 }
 
 /// The imports of some pointers, in the form that has room for them.
@@ -100,14 +99,10 @@ pub(crate) fn imports_of<'a>(alloc: Global, fixups: &'a [Fixup]) -> Result<Forme
     ensures rows { IfOk result (λ formed. formed.table.rows.items ≡ rows_from formed.wide 1 formed.imports.keys) }
     ensures pool { IfOk result (λ formed. formed.table.pool.items ≡ spec.pool_of formed.imports.keys) }
 {
-    let narrow = in_order(alloc, false, fixups)?;
-    let first = table_of(alloc, false, narrow.as_slice())?;
-    let wide = is_wide(fixups, first.pool.as_slice());
-    let imports = in_form(alloc, wide, fixups, narrow)?;
-    let table = table_of(alloc, wide, imports.as_slice())?;
-    Ok(Formed {
-        wide,
-        imports,
-        table,
-    })
+    let narrow = formed_in(alloc, false, fixups)?;
+    if is_wide(fixups, narrow.table.pool.as_slice()) {
+        formed_in(alloc, true, fixups)
+    } else {
+        Ok(narrow)
+    }
 }

@@ -1,22 +1,34 @@
-//! The parts of an image's chains of fixups (`fixup-chains.h`), each by itself. Pointers of one 16 KiB page make up a
-//! chain: each tells the distance to the next greater one of its page (`steps_to_next`), and a segment's starts tell where
-//! the chain of each page begins, up to the last page with a pointer (`page_start`, `pages_of`). All three are said of the
-//! set of the pointers' addresses.
+//! The chains of an image's pointers (`fixup-chains.h`): `encode` gives the word of each pointer, and the part of
+//! `__LINKEDIT` that tells the loader of them.
+//!
+//! Pointers of one 16 KiB page make up a chain: each tells the distance to the next greater one of its page
+//! (`steps_to_next`), and a segment's starts tell where the chain of each page begins, up to the last page with a pointer
+//! (`page_start`, `pages_of`). All three are said of the set of the pointers' addresses, so that a distance that skips a
+//! pointer and a chain that runs on into the next page are refused.
 //!
 //! The imports are what pointers are bound to, each once, by name and signed addend (`AreImports`): in the narrow form,
-//! or in the wide one where an addend or the pool of names has no room there (`AreFormed`). `word_by` is the word of a
-//! pointer, `starts_bytes` the starts of all chains, `joined` the part of `__LINKEDIT` with its header. The call that puts
-//! the chains of a layout together, and the faults of pointers, aren't here.
+//! or in the wide one where an addend or the pool of names has no room there (`AreFormed`). `AreChains` is the whole
+//! answer: the words (`words_of`) and the part with its header (`blob_of`).
+//!
+//! There are none where there are 2^24 imports or more (`AreMany`), and else where a pointer stands where none may, or
+//! leads too far (`fault_of`): the first one is told of, slots before atoms (`IsFirstFault`). An answer is one thing,
+//! but for want of memory (`an_answer_is_one`). What the loader finds is said in `chain_laws`.
 #![tactic(auto)]
 
 mod blob;
 mod chains;
+mod encoding;
+mod faults;
 mod goals;
 mod import;
 mod imports;
+mod laws;
 mod places;
 mod pool;
 mod starts;
+mod targets;
 mod words;
 
-pub use chains::{ChainFault, ChainWord, Chains, Fixup, FixupList, Span, WordList};
+pub use chains::{ChainFault, ChainWord, Chains, Fixup, FixupList, WordList};
+pub use encoding::encode;
+pub use laws::an_answer_is_one;

@@ -5,8 +5,9 @@ ghost use Rattle.fixup_chain.specs.Encoded.{AreApart};
 ghost use Rattle.fixup_chain.specs.Places as places;
 ghost use Rattle.fixup_chain.specs.inner.Near as near;
 
-use crate::chains::{Fixup, Span};
+use crate::chains::Fixup;
 use mo_format::fixup_chains::DYLD_CHAINED_PTR_START_NONE;
+use sect_place::Segment;
 
 /// The bytes of a page.
 pub(crate) const PAGE: u64 = 0x4000;
@@ -43,7 +44,6 @@ pub(crate) fn steps_to_next(fixups: &[Fixup], at: usize, address: u64) -> u16
     ensures value { result ≡ places.steps_to_next (places.addresses_of fixups.now) address }
     ensures few { result < 2 ^ 12 }
 {
-    let _count = fixups.len();
     let next = address_at(fixups, at + 1);
     steps_by(address, next)
 }
@@ -110,12 +110,12 @@ fn pages_by(start: u64, last: Option<u64>) -> u64
 
 /// How many pages a segment has up to the last one with a pointer.
 #[tactic(auto, using(crate::proofs::NearLemmas::counting))]
-pub(crate) fn pages_of(fixups: &[Fixup], segment: Span) -> u64
+pub(crate) fn pages_of(fixups: &[Fixup], segment: &Segment) -> u64
     requires { AreApart fixups.now }
-    ensures value { result ≡ places.pages_of (places.addresses_of fixups.now) segment }
+    ensures value { result ≡ places.pages_of (places.addresses_of fixups.now) segment.now }
     ensures few { result < 2 ^ 51 }
 {
-    let end = u128::from(segment.address) + u128::from(segment.size);
+    let end = u128::from(segment.address) + u128::from(segment.vmsize);
     let count = below(fixups, end);
     let last = last_address(fixups, count);
     pages_by(segment.address, last)

@@ -5,11 +5,12 @@ ghost use Rattle.fixup_chain.specs.Encoded.{AreApart};
 ghost use Rattle.fixup_chain.specs.Places.{addresses_of};
 ghost use Rattle.fixup_chain.specs.Starts as starts;
 
-use crate::chains::{Fixup, Span};
+use crate::chains::Fixup;
 use crate::places::{PAGE, page_start, pages_of};
 use mo_format::fixup_chains::DYLD_CHAINED_PTR_64_OFFSET;
 use mo_format::{ChainedStartsInImage, ChainedStartsInSegment};
 use mo_types::OutOfMemory;
+use sect_place::Segment;
 use std::alloc::Global;
 
 #[tactic(auto, unfolding(mo_bytes::specs::Number::number_bytes))]
@@ -60,12 +61,12 @@ fn put_segment(
     out: &mut Vec<u8>,
     fixups: &[Fixup],
     base: u64,
-    segment: Span,
+    segment: &Segment,
     count: u64,
 ) -> Result<(), OutOfMemory>
     requires apart { AreApart fixups.now }
     requires few { count < 2 ^ 51 }
-    ensures { OnOk result (out.new.items ≡ out.old.items ++ starts.segment_bytes (addresses_of fixups.now) base segment count) }
+    ensures { OnOk result (out.new.items ≡ out.old.items ++ starts.segment_bytes (addresses_of fixups.now) base segment.now count) }
 {
     ChainedStartsInSegment {
         size: ((22 + 2 * count) % 0x1_0000_0000) as u32,
@@ -85,27 +86,27 @@ fn put_part(
     out: &mut Vec<u8>,
     fixups: &[Fixup],
     base: u64,
-    segment: &Span,
+    segment: &Segment,
     at: usize,
 ) -> Result<(), OutOfMemory>
     requires apart { AreApart fixups.now }
     ensures { OnOk result (out.new.items ≡ out.old.items ++ starts.part_of (addresses_of fixups.now) base at segment.now) }
 {
-    let count = pages_of(fixups, *segment);
+    let count = pages_of(fixups, segment);
     if count == 0 {
         return Ok(());
     }
     put_zeros(out, 8, at)?;
-    put_segment(out, fixups, base, *segment, count)
+    put_segment(out, fixups, base, segment, count)
 }
 
 // Where the starts of a segment are that stand behind so many bytes, or 0.
 #[tactic(auto, using(crate::proofs::StartLemmas::zeros), unfolding(crate::specs::Starts::offset_of))]
-fn offset_of(fixups: &[Fixup], segment: &Span, at: usize) -> u32
+fn offset_of(fixups: &[Fixup], segment: &Segment, at: usize) -> u32
     requires { AreApart fixups.now }
     ensures { result ≡ starts.offset_of (addresses_of fixups.now) at segment.now % 2 ^ 32 }
 {
-    if pages_of(fixups, *segment) == 0 {
+    if pages_of(fixups, segment) == 0 {
         0
     } else {
         ((at as u128 + ((8 - at % 8) % 8) as u128) % 0x1_0000_0000) as u32
@@ -124,7 +125,7 @@ fn listed(
     alloc: Global,
     fixups: &[Fixup],
     base: u64,
-    segments: &[Span],
+    segments: &[Segment],
 ) -> Result<Listing, OutOfMemory>
     requires { AreApart fixups.now }
     ensures offsets { IfOk result (λ listed. listed.offsets.items ≡ starts.offsets_from (addresses_of fixups.now) base (starts.lead segments.now) segments.now) }
@@ -148,7 +149,7 @@ pub(crate) fn starts_of(
     alloc: Global,
     fixups: &[Fixup],
     base: u64,
-    segments: &[Span],
+    segments: &[Segment],
 ) -> Result<Vec<u8>, OutOfMemory>
     requires { AreApart fixups.now }
     ensures { IfOk result (λ made. made.items ≡ starts.starts_bytes (addresses_of fixups.now) base segments.now) }

@@ -1,0 +1,5 @@
+use Rattle.fixup_chain.proofs.AddressLemmas.{address_is}
+use Rattle.fixup_chain.proofs.targets.address_of.Goals as goal
+
+pub returns : goal.returns
+returns c = address_is c.args.layout.now.placed c.args.atom c.address.result c.requires c.address.ensures

@@ -1,0 +1,117 @@
+//! The chains of an image whole.
+ghost use Rattle.std.specs.Prelude.{◌≡◌, ◌<◌, ◌^◌, IfErr, IfOk, length};
+ghost use Rattle.fixup_chain.specs.Chained.{AreChains, IsCause};
+ghost use Rattle.fixup_chain.specs.Encoded as encoded;
+ghost use Rattle.fixup_chain.specs.Encoded.{AreApart};
+ghost use Rattle.fixup_chain.specs.Faults as faults;
+ghost use Rattle.fixup_chain.specs.Imports.{pool_of};
+ghost use Rattle.fixup_chain.specs.Places.{addresses_of};
+ghost use Rattle.fixup_chain.specs.Pool.{rows_from};
+ghost use Rattle.fixup_chain.specs.Words as words;
+ghost use Rattle.fixup_chain.specs.inner.Turn.{IsFirst};
+
+use crate::blob::joined;
+use crate::chains::{ChainFault, ChainWord, Chains, Fixup, FixupList, WordList};
+use crate::faults::{first_fault, first_with};
+use crate::imports::{Formed, imports_of};
+use crate::places::steps_to_next;
+use crate::starts::starts_of;
+use crate::targets::{base_of, target_of};
+use crate::words::word_by;
+use mo_types::{Bytes, Items, OutOfMemory, Which};
+use sect_place::Layout;
+use std::alloc::Global;
+
+// Words have room for fewer imports than these.
+const IMPORTS: usize = 1 << 24;
+
+// The words of pointers, and the index of the first pointer with a fault.
+#[derive(Drop)]
+struct Walked {
+    words: WordList,
+    first: Option<usize>,
+}
+
+// The walk through all pointers of an image that begins at `base`.
+#[tactic(auto, using(crate::proofs::WalkLemmas::walking))]
+fn walk(
+    alloc: Global,
+    layout: &Layout,
+    base: u64,
+    formed: &Formed<'_>,
+    fixups: &[Fixup],
+) -> Result<Walked, OutOfMemory>
+    requires apart { AreApart fixups.now }
+    requires once { faults.AreOnce layout.now.placed }
+    requires base { base ≡ faults.base_of layout.now.segments }
+    requires few { length formed.now.imports.keys < encoded.IMPORTS }
+    ensures words { IfOk result (λ walked. walked.words ≡ words.words_of (faults.target_of layout.now) formed.now.wide formed.now.imports.keys fixups.now) }
+    ensures first { IfOk result (λ walked. IsFirst layout.now fixups.now (length fixups.now) walked.first) }
+{
+    let mut words = Vec::with_capacity(alloc, fixups.len())?;
+    let mut first = None;
+    for (at, fixup) in fixups.iter().enumerate() {
+        let target = target_of(layout, base, fixup);
+        first = first_with(layout, base, fixups, first, at, target);
+        let next = steps_to_next(fixups, at, fixup.address);
+        words.push(ChainWord {
+            address: fixup.address,
+            word: word_by(formed, target, next, fixup),
+        })?;
+    }
+    Ok(Walked {
+        words: Items::from_vec(words),
+        first,
+    })
+}
+
+// The part that tells the loader of the chains of an image that begins at `base`.
+#[tactic(auto, unfolding(crate::specs::Encoded::blob_of))]
+fn blob_of(
+    alloc: Global,
+    layout: &Layout,
+    base: u64,
+    formed: &Formed<'_>,
+    fixups: &[Fixup],
+) -> Result<Bytes, OutOfMemory>
+    requires apart { AreApart fixups.now }
+    requires few { length formed.now.imports.keys < encoded.IMPORTS }
+    requires rows { formed.now.table.rows.items ≡ rows_from formed.now.wide 1 formed.now.imports.keys }
+    requires pool { formed.now.table.pool.items ≡ pool_of formed.now.imports.keys }
+    ensures { IfOk result (λ blob. blob ≡ encoded.blob_of (addresses_of fixups.now) base layout.now.segments formed.now.wide formed.now.imports.keys) }
+{
+    let starts = starts_of(alloc, fixups, base, layout.segments.as_slice())?;
+    let count = formed.imports.len() as u32;
+    let blob = joined(alloc, formed.wide, count, starts.as_slice(), &formed.table)?;
+    Bytes::from_vec(blob)
+}
+
+/// The chains of the pointers of an image, whose addresses rise by 8 at least: a word for each, and the part of
+/// `__LINKEDIT` that tells the loader of them (`fixup-chains.h`).
+///
+/// `Limit(Imports)` where there are 2^24 imports or more. Else `Range` where a pointer is in `__TEXT`, not at a
+/// multiple of 4 bytes, on two pages of 0x4000 bytes, or on page 0xffff of its segment or a later one (`FixupPlace`); or
+/// where it is rebased to an offset that isn't from 0 to 2^36 - 1 (`RebaseTarget`, before the other). That of the slot
+/// with the least address comes first, then that of the least atom and place.
+pub fn encode(alloc: Global, fixups: &FixupList, layout: &Layout) -> Result<Chains, ChainFault>
+    requires apart { AreApart fixups.now }
+    requires once { faults.AreOnce layout.now.placed }
+    ensures chains { IfOk result (AreChains layout.now fixups.now) }
+    ensures fault { IfErr result (IsCause layout.now fixups.now) }
+{
+    let fixups = fixups.as_slice();
+    let base = base_of(layout.segments.as_slice());
+    let formed = imports_of(alloc, fixups)?;
+    if formed.imports.len() >= IMPORTS {
+        return Err(ChainFault::Limit(Which::Imports));
+    }
+    let walked = walk(alloc, layout, base, &formed, fixups)?;
+    if let Some(fault) = first_fault(layout, base, fixups, walked.first) {
+        return Err(fault);
+    }
+    let blob = blob_of(alloc, layout, base, &formed, fixups)?;
+    Ok(Chains {
+        words: walked.words,
+        blob,
+    })
+}
