@@ -1,0 +1,12 @@
+pub mod Blob
+pub mod Finding
+pub mod FoundLemmas
+pub mod Holding
+pub mod ImportReading
+pub mod ImportStanding
+pub mod Standing
+pub mod StartReading
+pub mod StartStanding
+pub mod Steps
+pub mod Walking
+pub mod WordReading
