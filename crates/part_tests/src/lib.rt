@@ -3,6 +3,8 @@
 #![tactic(auto)]
 
 #[cfg(test)]
+mod chains;
+#[cfg(test)]
 mod link_gen_tests;
 #[cfg(test)]
 mod signatures;
