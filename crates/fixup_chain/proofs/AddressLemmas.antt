@@ -1,5 +1,5 @@
 -- The address that a layout gives for an atom is that of its list of places.
-use Rattle.std.proofs.Common.{◌≡◌, ◌<◌, ℕ, Bool, true, false, List, get_or, length, Option, Some, None, refl, sym, ap, ◌∙◌, subst, inl, inr, arith, unwrap_or}
+use Rattle.std.proofs.Common.{◌≡◌, ℕ, Bool, true, false, List, get_or, Option, Some, None, refl, sym, ap, ◌∙◌, subst, inl, inr, arith}
 use Rattle.std.specs.Prelude.{Contains, MatchOption}
 use Rattle.std.specs.List.{find}
 use Rattle.std.specs.Option.{option_map}

@@ -1,5 +1,5 @@
 -- The answers of the whole call.
-use Rattle.std.proofs.Common.{◌≡◌, ◌<◌, Bool, true, false, pos, ◌-ℤ◌, List, length, Option, Some, None, if◌then◌else◌, subst}
+use Rattle.std.proofs.Common.{◌≡◌, ◌<◌, Bool, true, false, pos, ◌-ℤ◌, List, length, Some, None, if◌then◌else◌, subst}
 use Rattle.mo_types.specs.declared.cause.RangeKind.TheVariants.{FixupPlace, RebaseTarget}
 use Rattle.mo_types.specs.declared.cause.Which.{Which}
 use Rattle.sect_place.specs.declared.layout.Layout.{Layout}

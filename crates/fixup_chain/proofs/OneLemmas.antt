@@ -7,16 +7,15 @@ use Rattle.std.specs.declared.cmp.Ordering.{Ordering}
 use Rattle.std.specs.declared.cmp.Ordering.TheVariants.{Less, Equal, Greater}
 use Rattle.std.proofs.lemmas.Bool.{cases_eq, cases_lt}
 use Rattle.std.proofs.lemmas.List.{get_or_default}
-use Rattle.list_lemmas.proofs.Members.{In, in_from_Contains, Contains_from_in}
+use Rattle.list_lemmas.proofs.Members.{in_from_Contains, Contains_from_in}
 use Rattle.list_lemmas.proofs.Rising.{rising_same}
 use Rattle.list_lemmas.proofs.Ties.{same_number, tied_second}
 use Rattle.mo_types.specs.Keys.{compare_keys}
-use Rattle.mo_types.specs.declared.cause.Which.TheVariants as which
 use Rattle.sect_place.specs.declared.layout.Layout.{Layout}
-use Rattle.fixup_chain.specs.Chained.{AreChains, AreMany, IsCause, IsRefused}
+use Rattle.fixup_chain.specs.Chained.{AreChains, AreMany, IsCause}
 use Rattle.fixup_chain.specs.Encoded.{AreApart, IMPORTS, blob_of}
 use Rattle.fixup_chain.specs.Faults.{IsFirstFault, base_of, compare_turns, fault_of, target_of}
-use Rattle.fixup_chain.specs.ImportOrder.{Import, compare_imports, compare_imports_total}
+use Rattle.fixup_chain.specs.ImportOrder.{Import, compare_imports_total}
 use Rattle.fixup_chain.specs.Imports.{AreFormed, AreImports, imports_by, is_wide, pool_of}
 use Rattle.fixup_chain.specs.Places.{addresses_of}
 use Rattle.fixup_chain.specs.Words.{words_of}

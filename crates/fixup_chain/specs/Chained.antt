@@ -1,5 +1,5 @@
 -- What is answered for the pointers of a layout: their chains, or why there are none.
-use Rattle.std.specs.Prelude.{ℕ, ◌≡◌, ◌<◌, ◌≤◌, Bool, List, length, Contains, None}
+use Rattle.std.specs.Prelude.{◌≡◌, ◌<◌, ◌≤◌, Bool, List, length, Contains, None}
 use Rattle.mo_types.specs.declared.cause.Which.TheVariants as which
 use Rattle.sect_place.specs.declared.layout.Layout.{Layout}
 use Rattle.fixup_chain.specs.Encoded.{IMPORTS, blob_of}
