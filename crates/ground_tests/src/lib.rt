@@ -1,6 +1,9 @@
-//! Tests of the public calls of several crates: the check of a crate's tests proves the crate once more, and here it needn't.
+//! Tests of what all of a link stands on and of formats, of words, workers and races, outside of their crates: the check
+//! of a crate's tests proves the crate once more, and here it needn't.
 #![tactic(auto)]
 
+#[cfg(test)]
+mod fixups;
 #[cfg(test)]
 mod instructions;
 #[cfg(test)]
@@ -19,6 +22,8 @@ mod races;
 mod shared_races;
 #[cfg(test)]
 mod structures;
+#[cfg(test)]
+mod tries;
 #[cfg(test)]
 mod types;
 #[cfg(test)]

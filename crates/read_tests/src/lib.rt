@@ -1,5 +1,5 @@
-//! Tests of the readers of objects and archives, outside of their crates: the check of a crate's tests proves the crate
-//! once more, and here it needn't.
+//! Tests of what reads objects, archives and stub libraries, and of what finds their files and binds the libraries, outside
+//! of their crates: the check of a crate's tests proves the crate once more, and here it needn't.
 #![tactic(auto)]
 
 #[cfg(test)]
@@ -7,10 +7,22 @@ mod archives;
 #[cfg(test)]
 mod atoms;
 #[cfg(test)]
+mod closures;
+#[cfg(test)]
 mod edits;
+#[cfg(test)]
+mod fetches;
+#[cfg(test)]
+mod libraries;
 #[cfg(test)]
 mod objects;
 #[cfg(test)]
 mod references;
 #[cfg(test)]
 mod strings;
+#[cfg(test)]
+mod stubs;
+#[cfg(test)]
+mod texts;
+#[cfg(test)]
+mod words;

@@ -5,13 +5,23 @@
 #[cfg(test)]
 mod clang_names;
 #[cfg(test)]
+mod files;
+#[cfg(test)]
+mod forms;
+#[cfg(test)]
 mod given;
 #[cfg(test)]
 mod goals;
 #[cfg(test)]
+mod inputs;
+#[cfg(test)]
 mod libraries;
 #[cfg(test)]
+mod loading;
+#[cfg(test)]
 mod numbers;
+#[cfg(test)]
+mod racing;
 #[cfg(test)]
 mod referring;
 #[cfg(test)]

@@ -1,0 +1,24 @@
+//! Tests of what lays images out and writes them, outside of their crates: the check of a crate's tests proves the crate
+//! once more, and here it needn't.
+#![tactic(auto)]
+
+#[cfg(test)]
+mod commands;
+#[cfg(test)]
+mod fields;
+#[cfg(test)]
+mod given;
+#[cfg(test)]
+mod images;
+#[cfg(test)]
+mod kept;
+#[cfg(test)]
+mod layouts;
+#[cfg(test)]
+mod listed;
+#[cfg(test)]
+mod order;
+#[cfg(test)]
+mod slots;
+#[cfg(test)]
+mod templates;
