@@ -4,9 +4,7 @@ mod images;
 use crate::given::{command_of, slots_of};
 use crate::order::{are_low, are_low_sections, is_rising};
 use mo_cmd::Command;
-use mo_types::{
-    Atom, AtomKey, AtomList, Goal, KeyList, OutOfMemory, OutSection, OutSections,
-};
+use mo_types::{Atom, AtomKey, AtomList, Goal, KeyList, OutOfMemory, OutSection, OutSections};
 use sect_place::{
     AreaList, BranchTarget, BranchTargetList, IslandArea, IslandPlan, IslandShifts, Layout,
     PlaceFault, PlaceSizes, PlacedSection, Segment, WayList, address, address_with, place,
@@ -458,11 +456,7 @@ fn empty_dylib(alloc: Global, words: Words, size: u64) -> bool {
 }
 
 // The layout of sections in an executable without stubs.
-fn plain(
-    alloc: Global,
-    rows: &[Row],
-    parts: &OutSections,
-) -> Result<Layout, PlaceFault> {
+fn plain(alloc: Global, rows: &[Row], parts: &OutSections) -> Result<Layout, PlaceFault> {
     let case = NOTHING;
     let Ok(command) = command_of(alloc, text_of(case.words)) else {
         return Err(PlaceFault::OutOfMemory);

@@ -1,7 +1,5 @@
 //! Layouts against the headers of images that were written without this linker.
-use super::{
-    Name, Row, SectionRow, SegmentRow, has_sections, has_segments, key, plain, section,
-};
+use super::{Name, Row, SectionRow, SegmentRow, has_sections, has_segments, key, plain, section};
 use mo_types::{Bytes, OutOfMemory, OutSection, OutSections};
 use sect_place::{Layout, PlaceFault, PlacedSection, address};
 use std::alloc::Global;
