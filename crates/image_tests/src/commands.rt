@@ -179,16 +179,15 @@ fn made(
 
 // Those of a case, or nothing where it has none.
 fn made_of(alloc: Global, case: &Case) -> Result<Bytes, OutOfMemory> {
-    let Ok(command) = command_of(alloc, case.words) else {
-        return Ok(Bytes::new());
-    };
-    let Some(libs) = libraries_of(alloc, case.libs)? else {
-        return Ok(Bytes::new());
-    };
-    Ok(match made(alloc, case, &command, &libs) {
-        Ok(bytes) => bytes,
-        Err(_) => Bytes::new(),
-    })
+    let libs = libraries_of(alloc, case.libs)?;
+    let command = command_of(alloc, case.words);
+    match (&command, &libs) {
+        (Ok(command), Some(libs)) => match made(alloc, case, command, libs) {
+            Ok(bytes) => Ok(bytes),
+            Err(_) => Ok(Bytes::new()),
+        },
+        _ => Ok(Bytes::new()),
+    }
 }
 
 // Whether the header and the load commands are these bytes.

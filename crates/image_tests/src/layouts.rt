@@ -3,7 +3,6 @@ mod images;
 
 use crate::given::{command_of, slots_of};
 use crate::order::{are_low, are_low_sections, is_rising};
-use mo_cmd::Command;
 use mo_types::{Atom, AtomKey, AtomList, Goal, KeyList, OutOfMemory, OutSection, OutSections};
 use sect_place::{
     AreaList, BranchTarget, BranchTargetList, IslandArea, IslandPlan, IslandShifts, Layout,
@@ -199,7 +198,6 @@ fn place_all(
     kept: &AtomList,
     parts: &OutSections,
     case: &Case,
-    command: &Command,
 ) -> Result<Layout, PlaceFault> {
     if is_rising(kept.as_slice())
         && are_low(kept.as_slice())
@@ -211,19 +209,20 @@ fn place_all(
             commands: case.commands,
             unwind: case.unwind,
         };
-        place(alloc, kept, parts, &slots, &islands, &sizes, command)
+        let command = command_of(alloc, text_of(case.words));
+        match &command {
+            Ok(command) => place(alloc, kept, parts, &slots, &islands, &sizes, command),
+            Err(_) => Err(PlaceFault::OutOfMemory),
+        }
     } else {
         Err(PlaceFault::OutOfMemory)
     }
 }
 
 fn placed(alloc: Global, rows: &[Row], parts: &[Part], case: &Case) -> Result<Layout, PlaceFault> {
-    let Ok(command) = command_of(alloc, text_of(case.words)) else {
-        return Err(PlaceFault::OutOfMemory);
-    };
     let kept = atoms(alloc, rows)?;
     let parts = sections(alloc, parts)?;
-    place_all(alloc, &kept, &parts, case, &command)
+    place_all(alloc, &kept, &parts, case)
 }
 
 // A segment of an image: its name, address, bytes of memory, place in the file, bytes there, and count of sections.
@@ -457,11 +456,7 @@ fn empty_dylib(alloc: Global, words: Words, size: u64) -> bool {
 
 // The layout of sections in an executable without stubs.
 fn plain(alloc: Global, rows: &[Row], parts: &OutSections) -> Result<Layout, PlaceFault> {
-    let case = NOTHING;
-    let Ok(command) = command_of(alloc, text_of(case.words)) else {
-        return Err(PlaceFault::OutOfMemory);
-    };
-    place_all(alloc, &atoms(alloc, rows)?, parts, &case, &command)
+    place_all(alloc, &atoms(alloc, rows)?, parts, &NOTHING)
 }
 
 fn size_of_fault(answer: &Result<Layout, PlaceFault>) -> Option<i128> {

@@ -97,7 +97,8 @@ fn closed(
     files: FileList,
     failing: u64,
 ) -> Result<Option<Libraries>, BindFault> {
-    let Some(command) = command_of(alloc, words)? else {
+    let command = command_of(alloc, words)?;
+    let Some(command) = &command else {
         return Ok(None);
     };
     if !are_distinct(files.as_slice())
@@ -108,7 +109,7 @@ fn closed(
     let mut calls = Items::new(alloc);
     calls.push(failing)?;
     let mut files = MemFiles::new(files, calls);
-    Ok(Some(closure(alloc, &command, &mut files, named)?))
+    Ok(Some(closure(alloc, command, &mut files, named)?))
 }
 
 #[test]

@@ -110,7 +110,19 @@ fn said_of(
     Ok(said)
 }
 
-// Whether a row's words and file have what it says.
+// Whether a row's command and file have what it says.
+fn has(
+    alloc: Global,
+    command: &Command,
+    path: &str,
+    failing: &str,
+    said: &str,
+) -> Result<bool, OutOfMemory> {
+    let failing = failing.parse::<u64>().unwrap_or(0);
+    let found = said_of(alloc, &fetched(alloc, command, path, failing))?;
+    Ok(found.as_slice() == said.as_bytes())
+}
+
 fn is_right(
     alloc: Global,
     words: &str,
@@ -118,12 +130,11 @@ fn is_right(
     failing: &str,
     said: &str,
 ) -> Result<bool, OutOfMemory> {
-    let Some(command) = command_of(alloc, words)? else {
-        return Ok(false);
-    };
-    let failing = failing.parse::<u64>().unwrap_or(0);
-    let found = said_of(alloc, &fetched(alloc, &command, path, failing))?;
-    Ok(found.as_slice() == said.as_bytes())
+    let command = command_of(alloc, words)?;
+    match &command {
+        Some(command) => has(alloc, command, path, failing, said),
+        None => Ok(false),
+    }
 }
 
 // The first row that doesn't hold.
@@ -140,12 +151,19 @@ fn wrong_row(alloc: Global) -> Result<Option<&'static str>, OutOfMemory> {
     Ok(None)
 }
 
+fn are_many(contents: &Result<ContentList, FetchStop>) -> bool {
+    match contents {
+        Ok(contents) => contents.len() == MANY,
+        Err(_) => false,
+    }
+}
+
 fn many_are_fetched(alloc: Global) -> Result<bool, OutOfMemory> {
-    let Some(command) = many_inputs(alloc, "-lx")? else {
-        return Ok(false);
-    };
-    let contents = fetched(alloc, &command, "/usr/local/lib/libx.a", 0);
-    Ok(matches!(&contents, Ok(contents) if contents.len() == MANY))
+    let command = many_inputs(alloc, "-lx")?;
+    match &command {
+        Some(command) => Ok(are_many(&fetched(alloc, command, "/usr/local/lib/libx.a", 0))),
+        None => Ok(false),
+    }
 }
 
 #[test]
