@@ -17,10 +17,12 @@
 //! - `image PATH ADDRESS COUNT`: so many pointers of an image, read by `image_read::fixup_at`
 //! - `yaml PATH TIMES`: the text of a stub library, read so often by `tbd_yaml::read_yaml`
 //! - `stub PATH TIMES`: what it says, read so often by `tbd_doc::read_stubs`
+//! - `generate COUNT`: the objects of an input of so many functions, made by `link_gen::generate`
+//! - `object PATH COUNT NUMBER`: one of them, which is written to a file
 //!
 //! A word `then` ends a call's words, and those of another call follow. What each call counted is printed, a line each.
-//! The milliseconds that a call took go to standard error, of `fill`, `patch`, `unwind` and `section` the microseconds;
-//! `fan`, `image`, `yaml` and `stub` are timed by the program as a whole.
+//! The milliseconds that a call took go to standard error, of `fill`, `patch`, `unwind`, `section` and `generate` the
+//! microseconds; `fan`, `image`, `yaml` and `stub` are timed by the program as a whole.
 #![tactic(auto)]
 
 mod branches;
@@ -29,6 +31,7 @@ mod fixups;
 mod given;
 mod jobs;
 mod libraries;
+mod made;
 mod names;
 mod needs;
 mod objects;
@@ -44,6 +47,7 @@ use crate::fields::patch_fields;
 use crate::fixups::read_fixups;
 use crate::jobs::fan_out;
 use crate::libraries::{closure_of, providers};
+use crate::made::{make_objects, write_object};
 use crate::places::places;
 use crate::tables::{archive, number_names, slot_lists};
 use crate::texts::{read_stub, read_text};
@@ -92,6 +96,7 @@ fn call_on_numbers<T: Threads + Sync>(
 ) -> Result<()> {
     match numbers {
         [atoms] if name == "patch" => patch_fields(rt, *atoms),
+        [count] if name == "generate" => make_objects(rt, small(*count)?),
         [first, second] => call_on_pair(rt, threads, name, small(*first)?, small(*second)?),
         [workers, jobs, steps] if name == "fan" => fan_out(
             rt,
@@ -122,12 +127,18 @@ fn call_on_file(rt: &HostRuntime, name: &str, path: &str, numbers: &[u64]) -> Re
             small(*encodings)?,
             small(*each)?,
         ),
+        ("object", [count, number]) => write_object(rt, path, *count, *number),
         _ => bail!("want the name of a call, a path and numbers"),
     }
 }
 
 fn has_file(name: &str) -> bool {
-    name == "archive" || name == "image" || name == "yaml" || name == "stub" || name == "section"
+    name == "archive"
+        || name == "image"
+        || name == "yaml"
+        || name == "stub"
+        || name == "section"
+        || name == "object"
 }
 
 fn call<T: Threads + Sync>(rt: &HostRuntime, threads: &T, words: &[String]) -> Result<()> {

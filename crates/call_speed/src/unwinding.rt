@@ -56,12 +56,7 @@ fn written(rt: &HostRuntime, rows: &UnwindRows) -> Result<Bytes> {
 
 /// Writes the unwinding of so many functions with so many encodings, each of which so many functions in a row have, and
 /// prints the size of the section twice, as it is told before it is written and as it is.
-pub(crate) fn unwinding(
-    rt: &HostRuntime,
-    count: u32,
-    encodings: u32,
-    each: u32,
-) -> Result<Bytes> {
+pub(crate) fn unwinding(rt: &HostRuntime, count: u32, encodings: u32, each: u32) -> Result<Bytes> {
     let rows = rows_of(rt.alloc(), count, encodings, each)?;
     written(rt, &rows)
 }
