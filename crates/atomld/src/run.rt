@@ -1,10 +1,10 @@
 //! The program, over any words, files, output and messages.
 
 ghost use Rattle.std.specs.Prelude.{◌≡◌, ◌≢◌, ◌⊎◌, List, ℕ, IfOk, IfErr};
-ghost use Rattle.mo_outside.specs.Faults.{Rises};
 ghost use Rattle.lib_bind.specs.Asking.{seen};
 ghost use Rattle.link_engine.specs.Asks.{Answered, places_by};
 ghost use Rattle.link_engine.specs.Command.{command_of};
+ghost use Rattle.link_engine.specs.Settles.{output_seen};
 ghost use Rattle.link_engine.specs.Verdict.{IsVerdict};
 ghost use Rattle.atomld.specs.Exits.{Exits};
 
@@ -25,9 +25,8 @@ fn link_words<R: Threads + Sync, F: Files, O: Out, D: Diag>(
     diag: &mut D,
 ) -> u8
     ensures { Answered F.answers (places_by (command_of words.now)) (result ≢ 4)
-        (λ told. Exits (IsVerdict words.now told) result (Rises (O.faults out.old) (O.faults out.new)) (¬ Rises (D.faults diag.old) (D.faults diag.new))
-        (record { files = O.files out.old; calls = O.calls out.old; lines = D.lines diag.old })
-        (record { files = O.files out.new; calls = O.calls out.new; lines = D.lines diag.new }))
+        (λ told. Exits (IsVerdict words.now told) result
+        (output_seen O.files O.calls O.faults D.lines D.faults out.old diag.old) (output_seen O.files O.calls O.faults D.lines D.faults out.new diag.new))
         (seen F.holds F.asked F.faults files.old) (seen F.holds F.asked F.faults files.new) }
 {
     link(rt, alloc, words, files, out, diag, &FreeGate).code()
@@ -44,9 +43,8 @@ pub fn run<R: Threads + Sync, F: Files, O: Out, D: Diag>(
     diag: &mut D,
 ) -> u8
     ensures exits { IfOk words (λ words. Answered F.answers (places_by (command_of words)) (result ≢ 4)
-        (λ told. Exits (IsVerdict words told) result (Rises (O.faults out.old) (O.faults out.new)) (¬ Rises (D.faults diag.old) (D.faults diag.new))
-        (record { files = O.files out.old; calls = O.calls out.old; lines = D.lines diag.old })
-        (record { files = O.files out.new; calls = O.calls out.new; lines = D.lines diag.new }))
+        (λ told. Exits (IsVerdict words told) result
+        (output_seen O.files O.calls O.faults D.lines D.faults out.old diag.old) (output_seen O.files O.calls O.faults D.lines D.faults out.new diag.new))
         (seen F.holds F.asked F.faults files.old) (seen F.holds F.asked F.faults files.new)) }
     ensures memory { IfErr words (λ fault. result ≡ 4) }
 {

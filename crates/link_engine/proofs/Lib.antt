@@ -1,12 +1,10 @@
-pub mod CauseLemmas
+pub mod AskedLemmas
 pub mod FilesLemmas
 pub mod InputLemmas
 pub mod KeptLemmas
+pub mod LawLemmas
 pub mod LinkLemmas
-pub mod OneLemmas
-pub mod PlanLemmas
 pub mod ReadLemmas
 pub mod SaysLemmas
-pub mod StepLemmas
-pub mod StopLemmas
+pub mod WordLemmas
 pub mod WritingLemmas

@@ -1,11 +1,21 @@
--- Which files a link asks for.
-use Rattle.std.specs.Prelude.{ℕ, ◌≡◌, ◌++◌, List, [], take, Result, Ok, Err}
+-- Which files a link asks for, and what they answer.
+use Rattle.std.specs.Prelude.{ℕ, ◌≡◌, ◌≤◌, ◌++◌, List, [], take, IfErr, IfOk, Result, Ok, Err}
 use Rattle.input_fetch.specs.Contents.{asked_for, places_of}
-use Rattle.input_fetch.specs.Fetching.{answers_in}
+use Rattle.input_fetch.specs.Fetching.{Fetching, IsFetchStop, answers_in}
+use Rattle.input_fetch.specs.declared.content.Content.{Content}
+use Rattle.input_fetch.specs.declared.stop.FetchStop.{FetchStop}
 use Rattle.lib_bind.specs.Asking.{AllAgree, AreNew, Asks, FilesSeen, Gave, paths_in}
+use Rattle.lib_bind.specs.Closing.{IsBindFault}
+use Rattle.lib_bind.specs.Closure.{Closes}
+use Rattle.lib_bind.specs.Graph.{IsWhole}
+use Rattle.lib_bind.specs.declared.bind_fault.BindFault.{BindFault}
+use Rattle.lib_bind.specs.declared.library.LibraryGraph.{LibraryGraph}
+use Rattle.lib_bind.specs.declared.named.NamedStub.{NamedStub}
 use Rattle.mo_cmd.specs.declared.command.Command.{Command}
 use Rattle.mo_outside.specs.Answers.{Answer, Asked, Chain}
 use Rattle.mo_outside.specs.Tells.{Tells}
+use Rattle.link_engine.specs.Kept.{KeepsFiles}
+use Rattle.link_engine.specs.Stop.{bind_fault_for, fetch_fault_for, stopped}
 use Rattle.link_engine.specs.Told.{Told}
 use Rattle.link_engine.specs.declared.stop.Stop.{Stop}
 
@@ -29,3 +39,48 @@ pub record Answered {S : Type 0} (fetches : S → List ℕ → Answer → S → 
   pub some : (count : ℕ) × (paths_in inputs ≡ take count (asked_for places (answers_in inputs)))
   pub once : AreNew [] (paths_in more)
   pub holds : (look : List ℕ → Answer) → Gave look more → meets (record { answers = answers_in inputs; look = look; more = paths_in more })
+
+-- ---- the steps that ask
+
+-- the files were asked for the inputs of a command, which are these, or one couldn't be read or isn't there
+pub record FetchesInputs {S : Type 0} (fetches : S → List ℕ → Answer → S → Type 0) (command : Command)
+    (old : FilesSeen S) (given : Result (List Content) Stop) (new : FilesSeen S) : Type 0 where
+  pub end : Result (List Content) FetchStop
+  pub fetching : Fetching fetches (places_of command) end old new
+  pub real : IfErr end IsFetchStop
+  pub told : given ≡ stopped fetch_fault_for end
+  pub keeps : KeepsFiles given old new
+
+-- the files were asked for what stub libraries re-export, and the libraries are these, or there are none
+pub record BindsLibraries {S : Type 0} (fetches : S → List ℕ → Answer → S → Type 0) (command : Command) (stubs : List NamedStub)
+    (old : FilesSeen S) (given : Result LibraryGraph Stop) (new : FilesSeen S) : Type 0 where
+  pub end : Result LibraryGraph BindFault
+  pub closes : Closes fetches command stubs end old new
+  pub whole : IfOk end IsWhole
+  pub real : IfErr end IsBindFault
+  pub told : given ≡ stopped bind_fault_for end
+  pub keeps : KeepsFiles given old new
+
+-- ---- the same, however a step ended
+
+-- The files were asked for paths, none of them twice. They hold what they held, and their count of faults didn't fall.
+pub record AsksMore {S : Type 0} (fetches : S → List ℕ → Answer → S → Type 0) (old new : FilesSeen S) : Type 0 where
+  pub asked : List Asked
+  pub chain : Chain fetches old.self asked new.self
+  pub agree : AllAgree old.holds asked
+  pub logged : Tells (Asks (paths_in asked)) old.told new.told
+  pub once : AreNew [] (paths_in asked)
+  pub holds : new.holds ≡ old.holds
+  pub faults : old.faults ≤ new.faults
+
+-- they were asked for the first of the paths of inputs before
+pub record AsksFor {S : Type 0} (fetches : S → List ℕ → Answer → S → Type 0) (places : List (List (List ℕ))) (old new : FilesSeen S) : Type 0 where
+  pub inputs : List Asked
+  pub more : List Asked
+  pub chain : Chain fetches old.self (inputs ++ more) new.self
+  pub agree : AllAgree old.holds (inputs ++ more)
+  pub logged : Tells (Asks (paths_in (inputs ++ more))) old.told new.told
+  pub some : (count : ℕ) × (paths_in inputs ≡ take count (asked_for places (answers_in inputs)))
+  pub once : AreNew [] (paths_in more)
+  pub holds : new.holds ≡ old.holds
+  pub faults : old.faults ≤ new.faults

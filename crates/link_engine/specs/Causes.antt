@@ -1,5 +1,5 @@
--- The cause of each refusal: it stands, and none that is told before it does.
-use Rattle.std.specs.Prelude.{ℕ, ◌≡◌, ◌+◌, ◌≤◌, ◌^◌, ◌⊎◌, List, [], length, Some, Ok, Err}
+-- Why there is no plan: the cause of each stop, in the order of the steps. It stands, and none before it does.
+use Rattle.std.specs.Prelude.{ℕ, ◌≡◌, ◌+◌, ◌++◌, ◌≤◌, ◌^◌, List, [], length, Some, Ok, Err}
 use Rattle.std.specs.List.{range_with_len}
 use Rattle.std.specs.Result.{result_err}
 use Rattle.input_fetch.specs.Contents.{contents_of, places_of}
@@ -8,88 +8,115 @@ use Rattle.input_fetch.specs.declared.stop.FetchStop.TheVariants as fetch
 use Rattle.input_read.specs.Opened.{Contents}
 use Rattle.input_read.specs.Opened as opened
 use Rattle.input_read.specs.Opening.{opening_of}
+use Rattle.lib_bind.specs.Closing.{IsBindFault}
 use Rattle.lib_bind.specs.Closure.{bound_after}
-use Rattle.lib_bind.specs.declared.bind_fault.BindFault.TheVariants as bind
+use Rattle.lib_bind.specs.declared.bind_fault.BindFault.{BindFault}
 use Rattle.lib_bind.specs.declared.library.LibraryGraph.{LibraryGraph}
+use Rattle.lib_bind.specs.declared.named.NamedStub.{NamedStub}
 use Rattle.link_files.specs.Causes.{LinkCause}
 use Rattle.link_files.specs.Names.{wanted}
+use Rattle.link_steps.specs.Asking.{Cause, asked, never, refuses, stands}
+use Rattle.link_steps.specs.Steps.{◌>>=◌, ◌>>◌}
 use Rattle.input_files.specs.Files.{all_ids}
 use Rattle.member_rounds.specs.Rounds.{loaded_of, round_fault}
 use Rattle.input_files.specs.declared.fault.LoadFault.TheVariants as rounds
+use Rattle.input_files.specs.declared.input.Input.{Input}
 use Rattle.mo_cmd.specs.Command.{command_by}
 use Rattle.mo_cmd.specs.declared.command.Command.{Command}
+use Rattle.mo_outside.specs.Answers.{Answer}
 use Rattle.mo_types.specs.Scan.{first_some}
-use Rattle.mo_types.specs.declared.answer.Refusal.{Refusal}
 use Rattle.mo_types.specs.declared.answer.Refusal.TheVariants.{Limit, Missing}
 use Rattle.mo_types.specs.declared.cause.Which.TheVariants.{Inputs}
+use Rattle.mo_types.specs.declared.loaded.Loaded.{Loaded}
 use Rattle.mo_types.specs.declared.loaded.LoadedFile.{LoadedFile}
-use Rattle.link_engine.specs.Command.{command_of, linked_rows}
+use Rattle.link_engine.specs.Bound.{BoundBy}
+use Rattle.link_engine.specs.Command.{commanded, linked_rows}
 use Rattle.link_engine.specs.Input.{inputs_with}
+use Rattle.link_engine.specs.Stop.{bind_fault_for, stop_in}
 use Rattle.link_engine.specs.Told.{Told}
-use Rattle.link_engine.specs.Verdict.{IsBound}
+use Rattle.link_engine.specs.Verdict.{IsImage}
+use Rattle.link_engine.specs.declared.stop.Stop.{Stop}
+use Rattle.link_engine.specs.declared.stop.Stop.TheVariants.{ReadFault, Refused, Usage}
 
--- the words are a command with 2^16 inputs or more
-pub record IsCrowded (words : List (List ℕ)) (told : Told) (why : Refusal) : Type 0 where
-  pub command : Command
-  pub read : command_by linked_rows words ≡ Ok command
-  pub many : 2 ^ 16 ≤ length command.inputs
-  pub is : why ≡ Limit Inputs
-  pub nothing : told.more ≡ []
+-- the words aren't a command: the least word that has a fault has this one
+abbrev pub IsMisused : List (List ℕ) → Stop → Type 0
+IsMisused words (Usage word rule) = commanded words ≡ Err (Usage word rule)
+IsMisused words _ = ⊥
 
--- the first input of the command that isn't there under any of its paths has this one first
-pub record IsAbsent (words : List (List ℕ)) (told : Told) (why : Refusal) : Type 0 where
-  pub command : Command
-  pub path : List ℕ
-  pub read : command_of words ≡ Ok command
-  pub absent : contents_of (places_of command) told.answers ≡ Err (fetch.Missing path)
-  pub is : why ≡ Missing path
-  pub nothing : told.more ≡ []
+-- they are this command
+abbrev pub IsCommand : List (List ℕ) → Command → Type 0
+IsCommand words command = command_by linked_rows words ≡ Ok command
 
--- the command's inputs are there
-pub record AreThere (words : List (List ℕ)) (told : Told) : Type 0 where
-  pub command : Command
-  pub found : List Content
-  pub read : command_of words ≡ Ok command
-  pub there : contents_of (places_of command) told.answers ≡ Ok found
+-- it has 2^16 inputs or more
+abbrev pub IsCrowded : Command → Stop → Type 0
+IsCrowded command why = (2 ^ 16 ≤ length command.inputs) × (why ≡ Refused (Limit Inputs))
+
+-- a path of the first of its inputs that isn't found couldn't be read, or none of that input's paths is there and this is the
+-- first of them
+abbrev pub IsAbsent : Command → List Answer → Stop → Type 0
+IsAbsent command answers (ReadFault path) = contents_of (places_of command) answers ≡ Err (fetch.ReadFault path)
+IsAbsent command answers (Refused (Missing path)) = contents_of (places_of command) answers ≡ Err (fetch.Missing path)
+IsAbsent command answers _ = ⊥
+
+-- its inputs are there
+abbrev pub AreThere : Command → List Answer → List Content → Type 0
+AreThere command answers found = contents_of (places_of command) answers ≡ Ok found
 
 -- the first of them that can't be read has this fault
-pub record IsFaulty (words : List (List ℕ)) (told : Told) (why : Refusal) : Type 0 where
-  pub inputs : AreThere words told
-  pub first : first_some (λ input. result_err (opening_of input)) (inputs_with inputs.command inputs.found) ≡ Some (rounds.Refused why)
-  pub nothing : told.more ≡ []
+abbrev pub IsFaulty : Command → List Content → Stop → Type 0
+IsFaulty command found (Refused why) = first_some (λ input. result_err (opening_of input)) (inputs_with command found) ≡ Some (rounds.Refused why)
+IsFaulty command found _ = ⊥
 
--- the command's inputs could be read
-pub record AreOpen (words : List (List ℕ)) (told : Told) : Type 0 where
-  pub inputs : AreThere words told
-  pub contents : Contents
-  pub opened_are : opened.contents_of (inputs_with inputs.command inputs.found) ≡ Ok contents
+-- they could be read
+abbrev pub AreOpen : Command → List Content → Contents → Type 0
+AreOpen command found contents = opened.contents_of (inputs_with command found) ≡ Ok contents
 
 -- there are too many libraries, or what they re-export isn't there or can't be read, after these paths
-pub record IsUnbound (words : List (List ℕ)) (told : Told) (why : Refusal) : Type 0 where
-  pub are_open : AreOpen words told
+pub record IsUnbound (look : List ℕ → Answer) (command : Command) (stubs : List NamedStub)
+    (old : List (List ℕ)) (why : Stop) (new : List (List ℕ)) : Type 0 where
+  pub paths : List (List ℕ)
+  pub asked : new ≡ old ++ paths
+  pub end : BindFault
+  pub real : IsBindFault end
+  pub is : why ≡ stop_in (bind_fault_for end)
   pub count : ℕ
-  pub ends : bound_after told.look are_open.inputs.command are_open.contents.stubs count ≡ Err (record { why = bind.Refused why; asked = told.more })
+  pub ends : bound_after look command stubs count ≡ Err (record { why = end; asked = paths })
 
--- the command's libraries are these
-pub record AreBound (words : List (List ℕ)) (told : Told) : Type 0 where
-  pub are_open : AreOpen words told
-  pub libs : LibraryGraph
-  pub bound : IsBound told.look are_open.inputs.command are_open.contents.stubs told.more (Ok libs)
+-- the libraries are these, after these paths
+abbrev pub AreBound : (List ℕ → Answer) → Command → List NamedStub → LibraryGraph → List (List ℕ) → List (List ℕ) → Type 0
+AreBound look command stubs libs old new = BoundBy look command stubs old (Ok libs) new
 
 -- the first round of which a member can't be read, or that has too many names, has this fault
-pub record IsUnloaded (words : List (List ℕ)) (told : Told) (why : Refusal) : Type 0 where
-  pub are_bound : AreBound words told
-  pub first : first_some (round_fault are_bound.are_open.contents.inputs are_bound.libs (wanted are_bound.are_open.inputs.command)) (range_with_len 0 (length (all_ids are_bound.are_open.contents.inputs) + 1)) ≡ Some (rounds.Refused why)
+abbrev pub IsUnloaded : Command → List Input → LibraryGraph → Stop → Type 0
+IsUnloaded command inputs libs (Refused why) =
+    first_some (round_fault inputs libs (wanted command)) (range_with_len 0 (length (all_ids inputs) + 1)) ≡ Some (rounds.Refused why)
+IsUnloaded command inputs libs _ = ⊥
+
+-- these files are loaded
+abbrev pub AreLoaded : Command → List Input → LibraryGraph → Loaded → Type 0
+AreLoaded command inputs libs loaded = loaded_of inputs libs (wanted command) ≡ Ok loaded
 
 -- what the loaded files are is refused
-pub record IsUnlinked (words : List (List ℕ)) (told : Told) (why : Refusal) : Type 0 where
-  pub are_bound : AreBound words told
-  pub files : List LoadedFile
-  pub loaded : loaded_of are_bound.are_open.contents.inputs are_bound.libs (wanted are_bound.are_open.inputs.command) ≡ Ok (record { files = files })
-  pub cause : LinkCause are_bound.are_open.inputs.command are_bound.libs files why
+abbrev pub IsUnlinked : Command → LibraryGraph → List LoadedFile → Stop → Type 0
+IsUnlinked command libs files (Refused why) = LinkCause command libs files why
+IsUnlinked command libs files _ = ⊥
 
--- the cause of a refusal: too many inputs, one that isn't there, one that can't be read, the libraries, the members, or what
--- the loaded files are; before the libraries no other path was asked for
-abbrev pub Cause : List (List ℕ) → Told → Refusal → Type 0
-Cause words told why =
-    IsCrowded words told why ⊎ (IsAbsent words told why ⊎ (IsFaulty words told why ⊎ (IsUnbound words told why ⊎ (IsUnloaded words told why ⊎ IsUnlinked words told why))))
+-- they link to this image
+abbrev pub IsLinkedTo : Command → LibraryGraph → List LoadedFile → List ℕ → Type 0
+IsLinkedTo command libs files image = IsImage command libs files (Ok image)
+
+-- the cause of each stop, where files answer so for the paths of the inputs and by this look-up for others
+abbrev pub causes : List Answer → (List ℕ → Answer) → List (List ℕ) → Cause (List (List ℕ)) Stop
+causes answers look words = do
+  command ← stands (IsMisused words) (IsCommand words)
+  refuses (IsCrowded command)
+  found ← stands (IsAbsent command answers) (AreThere command answers)
+  contents ← stands (IsFaulty command found) (AreOpen command found)
+  libs ← asked (IsUnbound look command contents.stubs) (AreBound look command contents.stubs)
+  loaded ← stands (IsUnloaded command contents.inputs libs) (AreLoaded command contents.inputs libs)
+  image ← stands (IsUnlinked command libs loaded.files) (IsLinkedTo command libs loaded.files)
+  never
+
+-- the same by what the files told: before the libraries no path but those of the inputs was asked for
+abbrev pub StopCause : List (List ℕ) → Told → Stop → Type 0
+StopCause words told why = causes told.answers told.look words [] why told.more

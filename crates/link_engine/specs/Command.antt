@@ -1,9 +1,9 @@
 -- The command that the words of a command line are.
-use Rattle.std.specs.Prelude.{ℕ, ◌^◌, nat_lt, List, length, Result, Ok, Err, if◌then◌else◌}
+use Rattle.std.specs.Prelude.{ℕ, ◌^◌, nat_lt, List, length, Option, Some, None, Result, Ok, Err, if◌then◌else◌}
 use Rattle.mo_cmd.specs.Command.{command_by}
 use Rattle.mo_cmd.specs.declared.command.Command.{Command}
 use Rattle.mo_cmd.specs.declared.command.UsageFault.{UsageFault}
-use Rattle.mo_cmd.specs.declared.command.UsageFault.TheVariants as fault
+use Rattle.mo_cmd.specs.declared.command.UsageFault.TheVariants as usage
 use Rattle.mo_cmd.specs.declared.parts.Rows.{Rows}
 use Rattle.mo_cmd.specs.declared.parts.Rows.TheVariants as rows
 use Rattle.mo_types.specs.Gives.{◌>>=◌}
@@ -20,13 +20,21 @@ linked_rows = rows.Libraries
 -- A fault of the words as the link answers it. No words lack memory: that row only makes the table whole.
 abbrev pub told : Result Command UsageFault → Result Command Stop
 told (Ok command) = Ok command
-told (Err (fault.At word rule)) = Err (Usage word rule)
-told (Err fault.OutOfMemory) = Err (Usage 0 NoInput)
+told (Err (usage.At word rule)) = Err (Usage word rule)
+told (Err usage.OutOfMemory) = Err (Usage 0 NoInput)
+
+-- the command of the words, or the fault of the least word that has one
+abbrev pub commanded : List (List ℕ) → Result Command Stop
+commanded words = told (command_by linked_rows words)
 
 -- each input has a position, a number of 16 bits
-abbrev pub counted : Command → Result Command Stop
-counted command = if nat_lt (length command.inputs) (2 ^ 16) then Ok command else Err (Refused (Limit Inputs))
+abbrev pub crowd_stop : Command → Option Stop
+crowd_stop command = if nat_lt (length command.inputs) (2 ^ 16) then None else Some (Refused (Limit Inputs))
 
--- the command of the words, or the fault of the least word that has one, or that there are too many inputs
+abbrev pub unless_crowded : Option Stop → Command → Result Command Stop
+unless_crowded None command = Ok command
+unless_crowded (Some why) command = Err why
+
+-- the command of the words where it has no more inputs than have positions
 unfoldable pub command_of : List (List ℕ) → Result Command Stop
-command_of words = told (command_by linked_rows words) >>= counted
+command_of words = commanded words >>= λ command. unless_crowded (crowd_stop command) command

@@ -1,10 +1,11 @@
 pub mod Asks
-pub mod Binding
+pub mod Bound
 pub mod Causes
 pub mod Command
 pub mod Input
+pub mod Kept
+pub mod Read
 pub mod Settles
-pub mod Steps
 pub mod Stop
 pub mod Told
 pub mod Verdict

@@ -1,17 +1,18 @@
 -- Why the words and the files have no image, and the answer that tells it.
-use Rattle.std.specs.Prelude.{◌≡◌, Result, Ok, Err}
+use Rattle.std.specs.Prelude.{[], Result, Ok, Err}
 use Rattle.input_fetch.specs.declared.stop.FetchStop.{FetchStop}
 use Rattle.input_fetch.specs.declared.stop.FetchStop.TheVariants as fetch
 use Rattle.lib_bind.specs.declared.bind_fault.BindFault.{BindFault}
 use Rattle.lib_bind.specs.declared.bind_fault.BindFault.TheVariants as bind
+use Rattle.link_steps.specs.declared.fault.StepFault.{StepFault}
+use Rattle.link_steps.specs.declared.fault.StepFault.TheVariants as fault
 use Rattle.input_files.specs.declared.fault.LoadFault.{LoadFault}
 use Rattle.input_files.specs.declared.fault.LoadFault.TheVariants as rounds
 use Rattle.mo_types.specs.declared.answer.Refusal.{Refusal}
 use Rattle.mo_types.specs.declared.answer.Refusal.TheVariants as refusal
 use Rattle.mo_types.specs.declared.answer.Status.{Status}
 use Rattle.mo_types.specs.declared.answer.Status.TheVariants as answer
-use Rattle.link_engine.specs.declared.stop.StepFault.{StepFault}
-use Rattle.link_engine.specs.declared.stop.StepFault.TheVariants as fault
+use Rattle.mo_types.specs.declared.cause.Rule.TheVariants.{NotAnInput}
 use Rattle.link_engine.specs.declared.stop.Stop.{Stop}
 use Rattle.link_engine.specs.declared.stop.Stop.TheVariants.{Usage, ReadFault, Refused}
 
@@ -22,44 +23,40 @@ status_of (ReadFault path) = answer.ReadFault path
 status_of (Refused refusal) = answer.Refused refusal
 
 -- the answer that tells a step's fault
-abbrev pub status_for : StepFault → Status
+abbrev pub status_for : StepFault Stop → Status
 status_for (fault.Stop why) = status_of why
 status_for fault.OutOfMemory = answer.OutOfMemory
 
-abbrev pub refused_for : Refusal → StepFault
-refused_for refusal = fault.Stop (Refused refusal)
+-- ---- the faults of the layers below as the link's
 
--- the fault of files that aren't loaded or linked
-abbrev pub fault_for : LoadFault → StepFault
-fault_for (rounds.Refused refusal) = refused_for refusal
-fault_for rounds.OutOfMemory = fault.OutOfMemory
-
--- the fault of inputs that aren't fetched
-abbrev pub fetch_fault_for : FetchStop → StepFault
+-- of inputs that aren't fetched
+abbrev pub fetch_fault_for : FetchStop → StepFault Stop
 fetch_fault_for (fetch.ReadFault path) = fault.Stop (ReadFault path)
-fetch_fault_for (fetch.Missing path) = refused_for (refusal.Missing path)
+fetch_fault_for (fetch.Missing path) = fault.Stop (Refused (refusal.Missing path))
 fetch_fault_for fetch.OutOfMemory = fault.OutOfMemory
 
--- the fault of libraries
-abbrev pub bind_fault_for : BindFault → StepFault
+-- of inputs that aren't read, and of files that aren't loaded
+abbrev pub load_fault_for : LoadFault → StepFault Stop
+load_fault_for (rounds.Refused why) = fault.Stop (Refused why)
+load_fault_for rounds.OutOfMemory = fault.OutOfMemory
+
+-- of libraries
+abbrev pub bind_fault_for : BindFault → StepFault Stop
 bind_fault_for (bind.ReadFault path) = fault.Stop (ReadFault path)
-bind_fault_for (bind.Refused why) = refused_for why
+bind_fault_for (bind.Refused why) = fault.Stop (Refused why)
 bind_fault_for bind.OutOfMemory = fault.OutOfMemory
 
--- What a step returned is what its definition gives. Want of memory is left to the code.
-abbrev pub Answers : {A : Type 0} → Result A StepFault → Result A Stop → Type 0
-Answers (Ok x) given = given ≡ Ok x
-Answers (Err (fault.Stop why)) given = given ≡ Err why
-Answers (Err fault.OutOfMemory) given = Unit {0}
+-- of files that don't link
+abbrev pub refused_for : StepFault Refusal → StepFault Stop
+refused_for (fault.Stop why) = fault.Stop (Refused why)
+refused_for fault.OutOfMemory = fault.OutOfMemory
 
--- What a step returned is one of what is given. Want of memory is left to the code.
-abbrev pub Meets : {A : Type 0} → (Result A Stop → Type 0) → Result A StepFault → Type 0
-Meets is (Ok x) = is (Ok x)
-Meets is (Err (fault.Stop why)) = is (Err why)
-Meets is (Err fault.OutOfMemory) = Unit {0}
+-- The stop that a fault tells. No definition lacks memory: that row only makes the table whole.
+abbrev pub stop_in : StepFault Stop → Stop
+stop_in (fault.Stop why) = why
+stop_in fault.OutOfMemory = Refused (refusal.Malformed [] 0 NotAnInput)
 
--- What a step returned is, as definitions see it, what its definition gives. Want of memory is left to the code.
-abbrev pub Shows : {A B : Type 0} → (A → B) → Result A StepFault → Result B Stop → Type 0
-Shows view (Ok x) given = given ≡ Ok (view x)
-Shows view (Err (fault.Stop why)) given = given ≡ Err why
-Shows view (Err fault.OutOfMemory) given = Unit {0}
+-- an answer of a layer below, with its fault as the link's stop
+abbrev pub stopped : {A E : Type 0} → (E → StepFault Stop) → Result A E → Result A Stop
+stopped fault (Ok x) = Ok x
+stopped fault (Err why) = Err (stop_in (fault why))

@@ -1,118 +1,76 @@
--- What a link answers: the definitions, by what the files told.
-use Rattle.std.specs.Prelude.{ℕ, ◌≡◌, List, [], ◌∷◌, IfErr, IfOk, Result, Ok, Err}
+-- What a link answers, by what the files told: one line for each step, in the order in which refusals count.
+use Rattle.std.specs.Prelude.{ℕ, List, [], ◌∷◌, Result, Ok, Err}
 use Rattle.input_fetch.specs.Contents.{answers_from, contents_of, places_of}
 use Rattle.input_fetch.specs.declared.content.Content.{Content}
-use Rattle.input_fetch.specs.declared.stop.FetchStop.{FetchStop}
-use Rattle.input_fetch.specs.declared.stop.FetchStop.TheVariants as fetch
 use Rattle.input_read.specs.Opened.{Contents}
 use Rattle.input_read.specs.Opened as opened
-use Rattle.lib_bind.specs.Closing.{IsBindFault}
-use Rattle.lib_bind.specs.Closure.{Binds, bound_after}
-use Rattle.lib_bind.specs.Graph.{IsWhole}
-use Rattle.lib_bind.specs.declared.bind_fault.BindFault.{BindFault}
-use Rattle.lib_bind.specs.declared.bind_fault.BindFault.TheVariants as bind
 use Rattle.lib_bind.specs.declared.library.LibraryGraph.{LibraryGraph}
 use Rattle.lib_bind.specs.declared.named.NamedStub.{NamedStub}
 use Rattle.link_files.specs.Linked.{IsLinked}
 use Rattle.link_files.specs.Names.{wanted}
-use Rattle.link_files.specs.Steps.{Then}
+use Rattle.link_steps.specs.Asking.{Reply, asks, gives, last, tries, unless}
+use Rattle.link_steps.specs.Steps.{Answer, ◌>>=◌, ◌>>◌}
 use Rattle.member_rounds.specs.Rounds.{loaded_of}
-use Rattle.input_files.specs.declared.fault.LoadFault.{LoadFault}
-use Rattle.input_files.specs.declared.fault.LoadFault.TheVariants as rounds
 use Rattle.input_files.specs.declared.input.Input.{Input}
 use Rattle.mo_cmd.specs.declared.command.Command.{Command}
-use Rattle.mo_outside.specs.Answers.{Answer}
+use Rattle.mo_outside.specs.Answers as outside
 use Rattle.mo_outside.specs.Files.{FileMap}
-use Rattle.mo_types.specs.declared.answer.Refusal.{Refusal}
-use Rattle.mo_types.specs.declared.answer.Refusal.TheVariants as refusal
-use Rattle.mo_types.specs.declared.cause.Rule.TheVariants.{NotAnInput}
+use Rattle.mo_types.specs.declared.loaded.Loaded.{Loaded}
 use Rattle.mo_types.specs.declared.loaded.LoadedFile.{LoadedFile}
 use Rattle.link_engine.specs.declared.plan.Plan.{Plan}
 use Rattle.link_engine.specs.declared.stop.Stop.{Stop}
-use Rattle.link_engine.specs.declared.stop.Stop.TheVariants.{ReadFault, Refused}
+use Rattle.link_engine.specs.declared.stop.Stop.TheVariants.{Refused}
 use Rattle.link_engine.specs.Asks.{places_by}
-use Rattle.link_engine.specs.Command.{command_of}
+use Rattle.link_engine.specs.Bound.{BoundBy}
+use Rattle.link_engine.specs.Command.{command_of, commanded, crowd_stop}
 use Rattle.link_engine.specs.Input.{inputs_with}
+use Rattle.link_engine.specs.Stop.{fetch_fault_for, load_fault_for, stopped}
 use Rattle.link_engine.specs.Told.{Told, look_in}
-
--- ---- each step's fault as the link tells it
-
--- No step lacks memory: that row only makes these tables whole.
-abbrev pub no_memory : Stop
-no_memory = Refused (refusal.Malformed [] 0 NotAnInput)
-
-abbrev pub fetch_stop : FetchStop → Stop
-fetch_stop (fetch.ReadFault path) = ReadFault path
-fetch_stop (fetch.Missing path) = Refused (refusal.Missing path)
-fetch_stop fetch.OutOfMemory = no_memory
-
-abbrev pub round_stop : LoadFault → Stop
-round_stop (rounds.Refused why) = Refused why
-round_stop rounds.OutOfMemory = no_memory
-
-abbrev pub bind_stop : BindFault → Stop
-bind_stop (bind.ReadFault path) = ReadFault path
-bind_stop (bind.Refused why) = Refused why
-bind_stop bind.OutOfMemory = no_memory
-
-abbrev pub stopped : {A E : Type 0} → (E → Stop) → Result A E → Result A Stop
-stopped stop (Ok x) = Ok x
-stopped stop (Err why) = Err (stop why)
 
 -- ---- the steps
 
--- a step before the first of which files are asked for libraries' paths
-abbrev pub Early : {A : Type 0} → Result A Stop → List (List ℕ) → Result Plan Stop → (A → Type 0) → Type 0
-Early (Ok x) paths given next = next x
-Early (Err why) paths given next = (given ≡ Err why) × (paths ≡ [])
+-- the files of the inputs, all of which are fetched before the first is read
+abbrev pub found_by : List outside.Answer → Command → Result (List Content) Stop
+found_by answers command = stopped fetch_fault_for (contents_of (places_of command) answers)
 
--- what is to be written for a command: the image, and no line
+-- what they are, or the refusal of the first that has one
+abbrev pub contents_with : Command → List Content → Result Contents Stop
+contents_with command found = stopped load_fault_for (opened.contents_of (inputs_with command found))
+
+-- the files that are loaded round by round
+abbrev pub files_for : Command → List Input → LibraryGraph → Result Loaded Stop
+files_for command inputs libs = stopped load_fault_for (loaded_of inputs libs (wanted command))
+
+-- the image to which they link, or its refusal
+abbrev pub IsImage : Command → LibraryGraph → List LoadedFile → Answer Stop (List ℕ)
+IsImage command libs files (Ok image) = IsLinked command libs files (Ok image)
+IsImage command libs files (Err (Refused why)) = IsLinked command libs files (Err why)
+IsImage command libs files (Err _) = ⊥
+
+-- what is written: the image, and no line
 abbrev pub plan_of : Command → List ℕ → Plan
 plan_of command image = record { files = (command.output, image) ∷ []; line = [] }
 
-abbrev pub planned_as : Command → Result (List ℕ) Refusal → Result Plan Stop
-planned_as command (Ok image) = Ok (plan_of command image)
-planned_as command (Err why) = Err (Refused why)
+-- ---- all steps
 
--- with the loaded files: what they link to
-pub record AsLoaded (command : Command) (libs : LibraryGraph) (files : List LoadedFile) (given : Result Plan Stop) : Type 0 where
-  pub linked : Result (List ℕ) Refusal
-  pub is_linked : IsLinked command libs files linked
-  pub told : given ≡ planned_as command linked
+-- What is to be written for the words, or the first stop in this order. `fetch` says what files answer to the paths of a
+-- command's inputs, and `bind` what they answer to those of the libraries that its stub libraries re-export.
+abbrev pub plan_by : {W : Type 0} → (Command → Reply W Stop (List Content)) → (Command → List NamedStub → Reply W Stop LibraryGraph)
+    → List (List ℕ) → Reply W Stop Plan
+plan_by fetch bind words = do
+  command ← gives (commanded words)
+  unless (crowd_stop command)
+  found ← asks (fetch command)
+  contents ← gives (contents_with command found)
+  libs ← asks (bind command contents.stubs)
+  loaded ← gives (files_for command contents.inputs libs)
+  image ← tries (IsImage command libs loaded.files)
+  last (Ok (plan_of command image))
 
--- with the libraries: the files that are loaded round by round
-abbrev pub AsBound : Command → List Input → LibraryGraph → Result Plan Stop → Type 0
-AsBound command inputs libs given =
-    Then (stopped round_stop (loaded_of inputs libs (wanted command))) given (λ loaded. AsLoaded command libs loaded.files given)
-
--- the libraries of stub libraries and what these re-export, or why there are none, by a look-up and after these paths were
--- asked for
-pub record IsBound (look : List ℕ → Answer) (command : Command) (stubs : List NamedStub) (paths : List (List ℕ)) (bound : Result LibraryGraph BindFault) : Type 0 where
-  pub count : ℕ
-  pub binds : Binds paths count bound (bound_after look command stubs count)
-  pub whole : IfOk bound IsWhole
-  pub fault : IfErr bound IsBindFault
-
--- with what the inputs are: the libraries
-pub record AsOpened (command : Command) (contents : Contents) (look : List ℕ → Answer) (paths : List (List ℕ)) (given : Result Plan Stop) : Type 0 where
-  pub bound : Result LibraryGraph BindFault
-  pub is_bound : IsBound look command contents.stubs paths bound
-  pub next : Then (stopped bind_stop bound) given (λ libs. AsBound command contents.inputs libs given)
-
--- with the bytes of all inputs: what these are
-abbrev pub AsFetched : Command → List Content → (List ℕ → Answer) → List (List ℕ) → Result Plan Stop → Type 0
-AsFetched command found look paths given =
-    Early (stopped round_stop (opened.contents_of (inputs_with command found))) paths given (λ contents. AsOpened command contents look paths given)
-
--- with the command: all inputs are fetched before the first is read
-abbrev pub AsCommanded : Command → Told → Result Plan Stop → Type 0
-AsCommanded command told given =
-    Early (stopped fetch_stop (contents_of (places_of command) told.answers)) told.more given (λ found. AsFetched command found told.look told.more given)
-
--- What is to be written for the words and what the files told, or the first stop in the order of the steps. There is one
+-- The same by what the files told: no path but those of the inputs is asked for before the libraries are bound. There is one
 -- verdict at most.
 unfoldable pub IsVerdict : List (List ℕ) → Told → Result Plan Stop → Type 0
-IsVerdict words told given = Early (command_of words) told.more given (λ command. AsCommanded command told given)
+IsVerdict words told given = plan_by (λ command. last (found_by told.answers command)) (BoundBy told.look) words [] given told.more
 
 -- what files that can all be read tell, after some paths more
 abbrev pub told_by : FileMap → List (List ℕ) → List (List ℕ) → Told

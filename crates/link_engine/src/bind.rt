@@ -1,12 +1,13 @@
 //! The libraries of a link.
-ghost use Rattle.std.specs.Prelude.{◌≡◌, length, true, IfErr};
+ghost use Rattle.std.specs.Prelude.{◌≡◌, length, true};
 ghost use Rattle.lib_bind.specs.Asking.{seen};
 ghost use Rattle.lib_bind.specs.Named.{are_named};
-ghost use Rattle.link_engine.specs.Binding.{AsksMore, BoundAs};
-ghost use Rattle.link_engine.specs.Steps.{IsFileStop, KeepsFiles};
+ghost use Rattle.link_engine.specs.Asks.{AsksMore, BindsLibraries};
+ghost use Rattle.link_steps.specs.Asking.{Acts};
 
-use crate::stop::{StepFault, bind_fault};
+use crate::stop::{Stop, bind_fault};
 use lib_bind::{Libraries, StubFileList, closure};
+use link_steps::StepFault;
 use mo_cmd::Command;
 use mo_outside::Files;
 use std::alloc::Global;
@@ -17,14 +18,11 @@ pub fn bind<F: Files>(
     files: &mut F,
     command: &Command,
     stubs: StubFileList,
-) -> Result<Libraries, StepFault>
+) -> Result<Libraries, StepFault<Stop>>
     requires named { are_named (length command.now.inputs) 0 stubs ≡ true }
-    ensures files { KeepsFiles result (seen F.holds F.asked F.faults files.old) (seen F.holds F.asked F.faults files.new) }
-    ensures kind { IfErr result IsFileStop }
-    ensures bound { AsksMore F.answers (BoundAs command.now stubs) result (seen F.holds F.asked F.faults files.old) (seen F.holds F.asked F.faults files.new) }
+    ensures exact { Acts (BindsLibraries F.answers command.now stubs)
+        (seen F.holds F.asked F.faults files.old) result (seen F.holds F.asked F.faults files.new) }
+    ensures asks { AsksMore F.answers (seen F.holds F.asked F.faults files.old) (seen F.holds F.asked F.faults files.new) }
 {
-    match closure(alloc, command, files, stubs) {
-        Ok(libs) => Ok(libs),
-        Err(fault) => Err(bind_fault(fault)),
-    }
+    closure(alloc, command, files, stubs).map_err(bind_fault)
 }

@@ -1,7 +1,18 @@
 //! The link: from the words of a command line and the files that they name to an image.
 //!
-//! `make_plan` is a line of steps, one for each place where a link may be refused, in the order in which
-//! refusals count. Each step has one contract, by one definition of `specs/`.
+//! `make_plan` is the link up to writing, in one body from the top down: a line for each step at which a link may be refused,
+//! in the order in which refusals count (the words, how many inputs there are, fetching them, reading them, the libraries, the
+//! rounds in which members are loaded, the link of what was loaded, and what is written). Its definition `IsVerdict`
+//! (`specs/Verdict.antt`) and the causes of its stops (`specs/Causes.antt`) have the same lines in the same order. What the
+//! files tell is a value there (`Told`); `link` says for which paths they are asked (`Answered`), and that its answer, what it
+//! writes and what it puts on the messages are the verdict's on what they told (`Settles`).
+//!
+//! Laws on the definition: there is one verdict at most (`a_verdict_is_one`), and it is a stop exactly where that stop's cause
+//! stands (`every_refusal_has_its_cause`). Clauses on the program's own call: each answer comes only where its cause stands, and
+//! where one stands it comes, unless memory ran out; nothing is written before the whole image is there.
+//!
+//! A body that refuses every link, that leaves out stub libraries or a step, or that begins a file twice doesn't meet its
+//! contract. That memory is found, and that workers ran, is shown by tests alone.
 #![tactic(auto)]
 
 ghost use Rattle.std.specs.Prelude.{◌≡◌, ◌≢◌, ◌≤◌, ℕ, List, IfSome};
@@ -11,15 +22,16 @@ ghost use Rattle.mo_types.specs.declared.answer.Status.TheVariants.{OutOfMemory,
 ghost use Rattle.mo_types.specs.declared.cause.UsageRule.{UsageRule};
 ghost use Rattle.link_engine.specs.Asks.{Answered, places_by};
 ghost use Rattle.link_engine.specs.Command.{command_of};
-ghost use Rattle.link_engine.specs.Settles.{ExactlyWhere, Settles, Stopped};
-ghost use Rattle.link_engine.specs.Steps.{IsReadWell, IsStop};
+ghost use Rattle.link_engine.specs.Kept.{IsReadWell, IsStop};
+ghost use Rattle.link_engine.specs.Settles.{ExactlyWhere, Settles, Stopped, output_seen};
 ghost use Rattle.link_engine.specs.declared.stop.Stop.TheVariants as stop;
 ghost use Rattle.link_engine.specs.Verdict.{IsVerdict, IsVerdictOver};
 
 mod bind;
+mod files;
+mod inputs;
 mod laws;
 mod plan;
-mod read;
 mod run;
 mod stop;
 mod words;
@@ -28,6 +40,7 @@ mod write;
 pub use crate::laws::{a_verdict_is_one, every_refusal_has_its_cause};
 use crate::plan::make_plan;
 use crate::run::{carry_out, ended};
+use crate::stop::status_of;
 use mo_outside::{Diag, Files, Gate, Out};
 use mo_types::{ArgList, Status};
 use std::alloc::Global;
@@ -52,20 +65,16 @@ pub fn link<R: Threads + Sync, F: Files, O: Out, D: Diag, G: Gate + Sync>(
     // The files were asked for the inputs' paths and for those of re-exported libraries, and gave answers; the answer, and
     // what was written and told, is the verdict's on these.
     ensures settles { Answered F.answers (places_by (command_of words.now)) (result ≢ OutOfMemory)
-        (λ told. Settles (IsVerdict words.now told) result (Rises (O.faults out.old) (O.faults out.new)) (¬ Rises (D.faults diag.old) (D.faults diag.new))
-        (record { files = O.files out.old; calls = O.calls out.old; lines = D.lines diag.old })
-        (record { files = O.files out.new; calls = O.calls out.new; lines = D.lines diag.new }))
+        (λ told. Settles (IsVerdict words.now told) result
+        (output_seen O.files O.calls O.faults D.lines D.faults out.old diag.old) (output_seen O.files O.calls O.faults D.lines D.faults out.new diag.new))
         (seen F.holds F.asked F.faults files.old) (seen F.holds F.asked F.faults files.new) }
     // Where the files tell what they hold, and each was read, it is the verdict on that.
-    ensures told { IfSome (F.holds files.old) (λ held. IsReadWell result
-        → Settles (IsVerdictOver words.now held) result (Rises (O.faults out.old) (O.faults out.new)) (¬ Rises (D.faults diag.old) (D.faults diag.new))
-        (record { files = O.files out.old; calls = O.calls out.old; lines = D.lines diag.old })
-        (record { files = O.files out.new; calls = O.calls out.new; lines = D.lines diag.new })) }
+    ensures told { IfSome (F.holds files.old) (λ held. IsReadWell result → Settles (IsVerdictOver words.now held) result
+        (output_seen O.files O.calls O.faults D.lines D.faults out.old diag.old) (output_seen O.files O.calls O.faults D.lines D.faults out.new diag.new)) }
     ensures usage { (word : ℕ) (rule : UsageRule)
         → ExactlyWhere (command_of words.now ≡ Err (stop.Usage word rule)) (Usage word rule) result }
-    ensures stopped { IsStop result → Stopped result (¬ Rises (D.faults diag.old) (D.faults diag.new))
-        (record { files = O.files out.old; calls = O.calls out.old; lines = D.lines diag.old })
-        (record { files = O.files out.new; calls = O.calls out.new; lines = D.lines diag.new }) }
+    ensures stopped { IsStop result → Stopped result
+        (output_seen O.files O.calls O.faults D.lines D.faults out.old diag.old) (output_seen O.files O.calls O.faults D.lines D.faults out.new diag.new) }
 
     // The faults.
     ensures read_fault { (path : List ℕ) → result ≡ ReadFault path → Rises (F.faults files.old) (F.faults files.new) }
@@ -81,6 +90,6 @@ pub fn link<R: Threads + Sync, F: Files, O: Out, D: Diag, G: Gate + Sync>(
 {
     match make_plan(rt, alloc, gate, words, files) {
         Ok(plan) => carry_out(out, diag, &plan),
-        Err(fault) => ended(diag, b"", fault.into_status()),
+        Err(fault) => ended(diag, b"", status_of(fault)),
     }
 }

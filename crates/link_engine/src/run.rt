@@ -4,7 +4,7 @@ ghost use Rattle.std.specs.Prelude.{◌≡◌, ◌≤◌, ◌⊎◌};
 ghost use Rattle.mo_outside.specs.Faults.{Rises};
 ghost use Rattle.mo_types.specs.Message.{line_of};
 ghost use Rattle.mo_types.specs.declared.answer.Status.TheVariants.{Done, WriteFault};
-ghost use Rattle.link_engine.specs.Settles.{Carries, CarriesPart, Says};
+ghost use Rattle.link_engine.specs.Settles.{Carries, CarriesPart, Says, output_seen};
 
 use crate::plan::Plan;
 use crate::write::write_files;
@@ -41,12 +41,10 @@ pub fn carry_out<O: Out, D: Diag>(out: &mut O, diag: &mut D, plan: &Plan) -> Sta
     ensures kind { (result ≡ Done) ⊎ (result ≡ WriteFault) }
     ensures still { result ≡ Done → O.faults out.new ≡ O.faults out.old }
     ensures failed { result ≡ WriteFault → Rises (O.faults out.old) (O.faults out.new) }
-    ensures done { result ≡ Done → Carries plan.now (¬ Rises (D.faults diag.old) (D.faults diag.new))
-        (record { files = O.files out.old; calls = O.calls out.old; lines = D.lines diag.old })
-        (record { files = O.files out.new; calls = O.calls out.new; lines = D.lines diag.new }) }
-    ensures part { result ≡ WriteFault → CarriesPart plan.now (¬ Rises (D.faults diag.old) (D.faults diag.new))
-        (record { files = O.files out.old; calls = O.calls out.old; lines = D.lines diag.old })
-        (record { files = O.files out.new; calls = O.calls out.new; lines = D.lines diag.new }) }
+    ensures done { result ≡ Done → Carries plan.now
+        (output_seen O.files O.calls O.faults D.lines D.faults out.old diag.old) (output_seen O.files O.calls O.faults D.lines D.faults out.new diag.new) }
+    ensures part { result ≡ WriteFault → CarriesPart plan.now
+        (output_seen O.files O.calls O.faults D.lines D.faults out.old diag.old) (output_seen O.files O.calls O.faults D.lines D.faults out.new diag.new) }
 {
     let files = plan.files.as_slice();
     match write_files(out, files) {

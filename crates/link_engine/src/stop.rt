@@ -1,14 +1,13 @@
-//! Why a link ends before anything is written.
+//! Why a link ends before anything is written, and what the faults of the layers below tell of that.
 
-ghost use Rattle.std.specs.Prelude.{◌≡◌, Err, Ok, Result};
-ghost use Rattle.mo_types.specs.declared.answer.Refusal.{Refusal};
-ghost use Rattle.link_engine.specs.Stop.{bind_fault_for, fault_for, fetch_fault_for, refused_for, status_for};
+ghost use Rattle.std.specs.Prelude.{◌≡◌};
+ghost use Rattle.link_engine.specs.Stop.{bind_fault_for, fetch_fault_for, refused_for, load_fault_for, status_for};
 
 use input_fetch::FetchStop;
 use input_files::LoadFault;
 use lib_bind::BindFault;
-use mo_types::{Bytes, OutOfMemory, Refusal, Status, UsageRule};
-use std::alloc::{AllocError, AllocFailed};
+use link_steps::StepFault;
+use mo_types::{Bytes, Refusal, Status, UsageRule};
 
 /// Why the words and the files have no image.
 #[derive(Debug, Drop)]
@@ -21,94 +20,56 @@ pub enum Stop {
     Refused(Refusal),
 }
 
-/// Why a step has no value.
-#[derive(Debug, Drop)]
-pub enum StepFault {
-    /// The words and the files have no image.
-    Stop(Stop),
-    /// Memory was asked for and refused.
-    OutOfMemory,
-}
-
-impl StepFault {
-    /// The answer that tells it.
-    pub fn into_status(self) -> Status
-        ensures { result ≡ status_for self }
-    {
-        match self {
-            StepFault::Stop(Stop::Usage { word, rule }) => Status::Usage { word, rule },
-            StepFault::Stop(Stop::ReadFault { path }) => Status::ReadFault { path },
-            StepFault::Stop(Stop::Refused(refusal)) => Status::Refused(refusal),
-            StepFault::OutOfMemory => Status::OutOfMemory,
-        }
-    }
-}
-
-/// The fault of inputs that are refused.
-pub fn refused(refusal: Refusal) -> StepFault
-    ensures { result ≡ refused_for refusal }
-{
-    StepFault::Stop(Stop::Refused(refusal))
-}
-
-/// The fault of files that aren't loaded or linked.
-pub fn fault_of(fault: LoadFault) -> StepFault
-    ensures { result ≡ fault_for fault }
+/// The answer that tells a step's fault.
+pub fn status_of(fault: StepFault<Stop>) -> Status
+    ensures { result ≡ status_for fault }
 {
     match fault {
-        LoadFault::Refused(refusal) => refused(refusal),
-        LoadFault::OutOfMemory => StepFault::OutOfMemory,
+        StepFault::Stop(Stop::Usage { word, rule }) => Status::Usage { word, rule },
+        StepFault::Stop(Stop::ReadFault { path }) => Status::ReadFault { path },
+        StepFault::Stop(Stop::Refused(refusal)) => Status::Refused(refusal),
+        StepFault::OutOfMemory => Status::OutOfMemory,
     }
 }
 
 /// The fault of inputs that aren't fetched.
-pub fn fetch_fault(fault: FetchStop) -> StepFault
+pub fn fetch_fault(fault: FetchStop) -> StepFault<Stop>
     ensures { result ≡ fetch_fault_for fault }
 {
     match fault {
         FetchStop::ReadFault { path } => StepFault::Stop(Stop::ReadFault { path }),
-        FetchStop::Missing { path } => refused(Refusal::Missing { path }),
+        FetchStop::Missing { path } => StepFault::Stop(Stop::Refused(Refusal::Missing { path })),
         FetchStop::OutOfMemory => StepFault::OutOfMemory,
     }
 }
 
+/// The fault of inputs that aren't read, and of files that aren't loaded.
+pub fn load_fault(fault: LoadFault) -> StepFault<Stop>
+    ensures { result ≡ load_fault_for fault }
+{
+    match fault {
+        LoadFault::Refused(refusal) => StepFault::Stop(Stop::Refused(refusal)),
+        LoadFault::OutOfMemory => StepFault::OutOfMemory,
+    }
+}
+
 /// The fault of libraries.
-pub fn bind_fault(fault: BindFault) -> StepFault
+pub fn bind_fault(fault: BindFault) -> StepFault<Stop>
     ensures { result ≡ bind_fault_for fault }
 {
     match fault {
         BindFault::ReadFault { path } => StepFault::Stop(Stop::ReadFault { path }),
-        BindFault::Refused(refusal) => refused(refusal),
+        BindFault::Refused(refusal) => StepFault::Stop(Stop::Refused(refusal)),
         BindFault::OutOfMemory => StepFault::OutOfMemory,
     }
 }
 
-impl From<OutOfMemory> for StepFault {
-    ghost use Rattle.link_engine.specs.declared.stop.StepFault.TheVariants as fault;
-
-    ghost from_gives = { λ _ e. e ≡ fault.OutOfMemory };
-
-    fn from(_e: OutOfMemory) -> StepFault {
-        StepFault::OutOfMemory
-    }
-}
-
-impl From<AllocError> for StepFault {
-    ghost use Rattle.link_engine.specs.declared.stop.StepFault.TheVariants as fault;
-
-    ghost from_gives = { λ _ e. e ≡ fault.OutOfMemory };
-
-    fn from(_e: AllocError) -> StepFault {
-        StepFault::OutOfMemory
-    }
-}
-
-impl<T: Drop> From<AllocFailed<T>> for StepFault {
-    ghost use Rattle.link_engine.specs.declared.stop.StepFault.TheVariants as fault;
-
-    ghost from_gives = { λ _ e. e ≡ fault.OutOfMemory };
-
-    fn from(_e: AllocFailed<T>) -> StepFault {
-        StepFault::OutOfMemory
+/// The fault of files that don't link.
+pub fn refused(fault: StepFault<Refusal>) -> StepFault<Stop>
+    ensures { result ≡ refused_for fault }
+{
+    match fault {
+        StepFault::Stop(refusal) => StepFault::Stop(Stop::Refused(refusal)),
+        StepFault::OutOfMemory => StepFault::OutOfMemory,
     }
 }

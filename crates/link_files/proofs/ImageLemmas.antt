@@ -16,8 +16,11 @@ use Rattle.sect_place.specs.declared.island.IslandPlan.{IslandPlan}
 use Rattle.slot_plan.specs.Slots.{AreSlots, needed, in_got, in_stubs, in_tlv}
 use Rattle.slot_plan.specs.declared.list.Slots.{Slots}
 use Rattle.slot_plan.specs.declared.need.Need.{Need}
-use Rattle.link_files.specs.Linked.{AsMade, IsAnswer, making, no_islands, no_slots}
+use Rattle.link_files.specs.Flags.{header_flags}
+use Rattle.link_files.specs.Linked.{AsImage, IsAnswer, making, no_islands, no_slots}
 use Rattle.link_files.specs.Refusals.{refusal_of}
+use Rattle.link_files.specs.Resolved.{IsResolved, files_of, table_of}
+use Rattle.link_files.specs.declared.resolved.Resolved.{Resolved}
 
 -- ---- no needs have no slots
 
@@ -42,33 +45,47 @@ pub ruleset empties = (no_slots_are)
 
 -- ---- what is made
 
-same_making : (command : Command) (libs : LibraryGraph) (files : List LoadedFile) (flags : ℕ) (keys : List AtomKey) (goals : List (List Goal)) (literals : List Representative) (entry : Goal) (slots : Slots) (islands : IslandPlan)
-    → goals ≡ goal_table files libs command → literals ≡ representatives_of files → entry ≡ goal_of_name files libs command command.entry → slots ≡ no_slots → islands ≡ no_islands
-    → record { command = command; libs = libs; files = files; goals = goals; literals = literals; keys = keys; flags = flags; entry = entry; slots = slots; islands = islands } ≡ making command libs files flags keys
-unfolding making
-same_making command libs files flags keys goals literals entry slots islands g l e s i = rw (g, l, e, s, i) refl
+-- what an image of resolved files is made of
+abbrev pub scheme_of : Resolved → ℕ → List AtomKey → Slots → IslandPlan → ImageInputs
+scheme_of r flags keys slots islands = record {
+  command = r.command.now;
+  libs = r.libs.now;
+  files = files_of r;
+  goals = table_of r;
+  literals = r.winners.now.literals;
+  keys = keys;
+  flags = flags;
+  entry = r.entry.now;
+  slots = slots;
+  islands = islands;
+}
 
-pub image_made : (command : Command) (libs : LibraryGraph) (files : List LoadedFile) (flags : ℕ) (keys : List AtomKey) (goals : List (List Goal)) (literals : List Representative) (entry : Goal) (slots : Slots) (islands : IslandPlan) (image : List ℕ)
-    → goals ≡ goal_table files libs command → literals ≡ representatives_of files → entry ≡ goal_of_name files libs command command.entry → slots ≡ no_slots → islands ≡ no_islands
-    → IsMade (record { command = command; libs = libs; files = files; goals = goals; literals = literals; keys = keys; flags = flags; entry = entry; slots = slots; islands = islands }) (Ok image)
-    → AsMade command libs files flags keys (Ok image)
-image_made command libs files flags keys goals literals entry slots islands image g l e s i made = record {
+same_making : (command : Command) (libs : LibraryGraph) (files : List LoadedFile) (flags other : ℕ) (keys : List AtomKey) (goals : List (List Goal)) (literals : List Representative) (entry : Goal) (slots : Slots) (islands : IslandPlan)
+    → goals ≡ goal_table files libs command → literals ≡ representatives_of files → entry ≡ goal_of_name files libs command command.entry → flags ≡ other → slots ≡ no_slots → islands ≡ no_islands
+    → record { command = command; libs = libs; files = files; goals = goals; literals = literals; keys = keys; flags = flags; entry = entry; slots = slots; islands = islands } ≡ making command libs files other keys
+unfolding making
+same_making command libs files flags other keys goals literals entry slots islands g l e f s i = rw (g, l, e, f, s, i) refl
+
+same_scheme : (r : Resolved) (flags : ℕ) (keys : List AtomKey) (slots : Slots) (islands : IslandPlan) → IsResolved r → flags ≡ header_flags r.command.now r.libs.now r.winners.now keys → slots ≡ no_slots → islands ≡ no_islands
+    → scheme_of r flags keys slots islands ≡ making r.command.now r.libs.now (files_of r) (header_flags r.command.now r.libs.now r.winners.now keys) keys
+same_scheme r flags keys slots islands is f s i =
+    same_making r.command.now r.libs.now (files_of r) flags (header_flags r.command.now r.libs.now r.winners.now keys) keys (table_of r) r.winners.now.literals r.entry.now slots islands is.goals is.known.literals is.entry f s i
+
+pub image_made : (r : Resolved) (flags : ℕ) (keys : List AtomKey) (slots : Slots) (islands : IslandPlan) (image : List ℕ) → IsResolved r → flags ≡ header_flags r.command.now r.libs.now r.winners.now keys → slots ≡ no_slots → islands ≡ no_islands
+    → IsMade (scheme_of r flags keys slots islands) (Ok image) → AsImage r.command.now r.libs.now (files_of r) r.winners.now keys (Ok image)
+image_made r flags keys slots islands image is f s i made = record {
   made = Ok image;
-  is_made = subst (λ (m : ImageInputs). IsMade m (Ok image)) (same_making command libs files flags keys goals literals entry slots islands g l e s i) made;
+  is_made = subst (λ (m : ImageInputs). IsMade m (Ok image)) (same_scheme r flags keys slots islands is f s i) made;
   answer = tt;
   told = refl;
 }
 
-pub fault_made : (command : Command) (libs : LibraryGraph) (files : List LoadedFile) (flags : ℕ) (keys : List AtomKey) (goals : List (List Goal)) (literals : List Representative) (entry : Goal) (slots : Slots) (islands : IslandPlan) (why : MakeFault) (refusal : Refusal)
-    → goals ≡ goal_table files libs command → literals ≡ representatives_of files → entry ≡ goal_of_name files libs command command.entry → slots ≡ no_slots → islands ≡ no_islands
-    → IsMade (record { command = command; libs = libs; files = files; goals = goals; literals = literals; keys = keys; flags = flags; entry = entry; slots = slots; islands = islands }) (Err why)
-    → IsAnswer {A = List ℕ} (Err why) → refusal ≡ refusal_of command files why
-    → AsMade command libs files flags keys (Err refusal)
-fault_made command libs files flags keys goals literals entry slots islands why refusal g l e s i made real told = record {
+pub fault_made : (r : Resolved) (flags : ℕ) (keys : List AtomKey) (slots : Slots) (islands : IslandPlan) (why : MakeFault) (refusal : Refusal) → IsResolved r → flags ≡ header_flags r.command.now r.libs.now r.winners.now keys → slots ≡ no_slots → islands ≡ no_islands
+    → IsMade (scheme_of r flags keys slots islands) (Err why) → IsAnswer {A = List ℕ} (Err why) → refusal ≡ refusal_of r.command.now (files_of r) why
+    → AsImage r.command.now r.libs.now (files_of r) r.winners.now keys (Err refusal)
+fault_made r flags keys slots islands why refusal is f s i made real told = record {
   made = Err why;
-  is_made = subst (λ (m : ImageInputs). IsMade m (Err why)) (same_making command libs files flags keys goals literals entry slots islands g l e s i) made;
+  is_made = subst (λ (m : ImageInputs). IsMade m (Err why)) (same_scheme r flags keys slots islands is f s i) made;
   answer = real;
   told = ap Err told;
 }
-
-pub ruleset images = (image_made, fault_made)

@@ -1,6 +1,8 @@
 mod ApartLemmas
 pub mod CauseLemmas
+pub mod DuplicateLemmas
 pub mod ImageLemmas
+pub mod InsideLemmas
 mod KeepingLemmas
 pub mod KeptLemmas
 pub mod LaterLemmas
@@ -8,4 +10,3 @@ pub mod LostLemmas
 pub mod NameLemmas
 pub mod OneLemmas
 mod RaceLemmas
-pub mod StepLemmas

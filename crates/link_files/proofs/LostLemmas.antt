@@ -4,7 +4,7 @@ use Rattle.std.specs.List.{filter}
 use Rattle.std.specs.Option.{option_map}
 use Rattle.std.proofs.lemmas.List.{append-nil, drop_all}
 use Rattle.list_lemmas.proofs.Places.{from_here}
-use Rattle.liveness.specs.Undefined.{is_nobody, undefined}
+use Rattle.liveness.specs.Undefined.{undefined}
 use Rattle.liveness.specs.declared.lost.Lost.{Lost}
 use Rattle.liveness.specs.inner.Lost.{held}
 use Rattle.lib_bind.specs.declared.library.LibraryGraph.{LibraryGraph}
@@ -14,8 +14,7 @@ use Rattle.mo_types.specs.declared.answer.Refusal.TheVariants.{Undefined}
 use Rattle.mo_types.specs.declared.goal.Goal.{Goal}
 use Rattle.mo_types.specs.declared.key.AtomKey.{AtomKey}
 use Rattle.mo_types.specs.declared.loaded.LoadedFile.{LoadedFile}
-use Rattle.resolve.specs.Goals.{goal_of_name, goal_table}
-use Rattle.link_files.specs.Lost.{lost_wanted, undefined_refusal}
+use Rattle.link_files.specs.Lost.{is_lost, lost_wanted, undefined_refusal}
 use Rattle.link_files.specs.Names.{wanted}
 
 -- those that pass a test, of the elements before a place
@@ -55,18 +54,18 @@ pub ruleset lost = (sift_starts, sift_ends)
 
 -- ---- what the code found
 
-pub lost_told : (command : Command) (libs : LibraryGraph) (files : List LoadedFile) (keys : List AtomKey) (goals : List (List Goal)) (wants names : List (List ℕ)) (found : Option Lost) (lost : Lost) (refusal : Refusal)
-    → goals ≡ goal_table files libs command → wants ≡ wanted command → names ≡ filter (λ name. is_nobody (goal_of_name files libs command name)) wants → option_map held found ≡ undefined keys files goals names
-    → found ≡ Some lost → refusal ≡ Undefined lost.name.now lost.label.now → Some refusal ≡ undefined_refusal command libs files keys
+pub lost_told : (command : Command) (libs : LibraryGraph) (files : List LoadedFile) (goals : List (List Goal)) (keys : List AtomKey) (wants names : List (List ℕ)) (found : Option Lost) (lost : Lost) (refusal : Refusal)
+    → wants ≡ wanted command → names ≡ filter (is_lost command libs files) wants → option_map held found ≡ undefined keys files goals names
+    → found ≡ Some lost → refusal ≡ Undefined lost.name.now lost.label.now → undefined_refusal command libs files goals keys ≡ Some refusal
 unfolding undefined_refusal lost_wanted
-lost_told command libs files keys goals wants names found lost refusal g w n is some told =
-    let all : option_map held found ≡ undefined keys files (goal_table files libs command) (lost_wanted command libs files) = rw (← g, ← w, ← n) is in
-    ap Some told ∙ ap (option_map (λ p. Undefined p.0 p.1)) (ap (option_map held) (sym some) ∙ all)
+lost_told command libs files goals keys wants names found lost refusal w n is some told =
+    let all : option_map held found ≡ undefined keys files goals (lost_wanted command libs files) = rw (← w, ← n) is in
+    sym (ap Some told ∙ ap (option_map (λ p. Undefined p.0 p.1)) (ap (option_map held) (sym some) ∙ all))
 
-pub none_lost : (command : Command) (libs : LibraryGraph) (files : List LoadedFile) (keys : List AtomKey) (goals : List (List Goal)) (wants names : List (List ℕ)) (found : Option Lost)
-    → goals ≡ goal_table files libs command → wants ≡ wanted command → names ≡ filter (λ name. is_nobody (goal_of_name files libs command name)) wants → option_map held found ≡ undefined keys files goals names
-    → found ≡ None → None ≡ undefined_refusal command libs files keys
+pub none_lost : (command : Command) (libs : LibraryGraph) (files : List LoadedFile) (goals : List (List Goal)) (keys : List AtomKey) (wants names : List (List ℕ)) (found : Option Lost)
+    → wants ≡ wanted command → names ≡ filter (is_lost command libs files) wants → option_map held found ≡ undefined keys files goals names
+    → found ≡ None → undefined_refusal command libs files goals keys ≡ None
 unfolding undefined_refusal lost_wanted
-none_lost command libs files keys goals wants names found g w n is none =
-    let all : option_map held found ≡ undefined keys files (goal_table files libs command) (lost_wanted command libs files) = rw (← g, ← w, ← n) is in
-    ap (option_map (λ p. Undefined p.0 p.1)) (ap (option_map held) (sym none) ∙ all)
+none_lost command libs files goals keys wants names found w n is none =
+    let all : option_map held found ≡ undefined keys files goals (lost_wanted command libs files) = rw (← w, ← n) is in
+    sym (ap (option_map (λ p. Undefined p.0 p.1)) (ap (option_map held) (sym none) ∙ all))

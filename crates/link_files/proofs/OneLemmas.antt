@@ -1,10 +1,9 @@
 -- Loaded files link to one thing.
-use Rattle.std.proofs.Common.{◌≡◌, ℕ, ◌<◌, ◌≤◌, ◌^◌, ◌++◌, Bool, true, false, nat_lt, ℤ, List, [], ◌∷◌, length, map, Option, Some, None, Result, Ok, Err, refl, sym, ap, ap₂, subst, ◌∙◌, arith, if◌then◌else◌}
-use Rattle.std.specs.Prelude.{All}
-use Rattle.std.specs.List.{AllPairs, flat_map}
+use Rattle.std.proofs.Common.{◌≡◌, ℕ, ◌+◌, ◌<◌, ◌≤◌, ◌^◌, ◌++◌, Bool, true, false, ℤ, List, [], ◌∷◌, map, Option, Some, None, Result, Ok, Err, refl, sym, ap, ap₂, subst, ◌∙◌, arith, if◌then◌else◌}
+use Rattle.std.specs.Prelude.{All, slice_get}
+use Rattle.std.specs.List.{AllPairs, flat_map, list_any}
 use Rattle.std.specs.List.Sorted.{IsStrictlySortedBy}
 use Rattle.std.specs.Ordering.{on}
-use Rattle.std.proofs.lemmas.Bool.{ltb-true}
 use Rattle.image_make.specs.Atoms.{atom_of, kept_atoms}
 use Rattle.image_join.proofs.OneLemmas.{not_filled, one_fault, one_image}
 use Rattle.image_make.proofs.KeptListLemmas.{rising_atoms}
@@ -17,18 +16,20 @@ use Rattle.mark_core.specs.Kept.{IsKept}
 use Rattle.mo_cmd.specs.declared.command.Command.{Command}
 use Rattle.mo_types.specs.Keys.{compare_keys}
 use Rattle.mo_types.specs.Loaded.{IsBefore}
+use Rattle.mo_format.specs.declared.loader.TheConstants.{MH_DYLDLINK, MH_NOUNDEFS, MH_TWOLEVEL}
 use Rattle.mo_types.specs.declared.answer.Refusal.{Refusal}
+use Rattle.mo_types.specs.declared.answer.Refusal.TheVariants.{Duplicate}
 use Rattle.mo_types.specs.declared.atom.Atom.{Atom}
+use Rattle.mo_types.specs.declared.goal.Goal.{Goal}
 use Rattle.mo_types.specs.declared.key.AtomKey.{AtomKey}
 use Rattle.mo_types.specs.declared.key.FileId.{FileId}
 use Rattle.mo_types.specs.declared.loaded.LoadedFile.{LoadedFile}
-use Rattle.name_ids.proofs.Gathering.{numbering}
-use Rattle.name_ids.specs.Names.{IsNumbering, external_names, gathered, numbered}
-use Rattle.name_ids.specs.declared.fault.GatherFault.{GatherFault}
+use Rattle.name_ids.specs.Names.{IsNumbering}
 use Rattle.patch.specs.Range.{IsLeastFault}
 use Rattle.patch.specs.declared.met.RangeFault.{RangeFault}
 use Rattle.symbol_winners.proofs.OneListLemmas.{one_duplicate, winners_are_one}
-use Rattle.liveness.specs.Edges.{edges, supports}
+use Rattle.liveness.specs.Edges.{edges_by, supports_by}
+use Rattle.resolve.specs.Goals.{goal_of_name, goal_table}
 use Rattle.symbol_winners.specs.Known.{AreKnown, Known}
 use Rattle.literal_merge.specs.Representatives.{representatives_of}
 use Rattle.liveness.specs.Roots.{exported_root, exported_roots, kept_roots, marked_root, name_root, plain_roots, roots, wanted_roots}
@@ -40,26 +41,40 @@ use Rattle.sect_place.specs.Layout.{image_size}
 use Rattle.sect_place.specs.OutSections.{out_sections}
 use Rattle.sect_place.specs.declared.layout.Layout.{Layout}
 use Rattle.sect_place.specs.declared.size.PlaceFault.TheVariants as place
-use Rattle.link_files.specs.Flags.{header_flags}
+use Rattle.link_files.specs.Flags.{header_flags, is_weak_export, kind_flag, weak_flag}
 use Rattle.link_files.specs.Later.{later_refusal}
-use Rattle.link_files.specs.Linked.{AsKept, AsMade, AsNamed, IsAnswer, IsLinked, making}
+use Rattle.link_files.specs.Linked.{AsImage, AsMade, IsAnswer, IsLinked, making}
 use Rattle.link_files.specs.Lost.{undefined_refusal}
-use Rattle.link_files.specs.Names.{atoms_refusal, names_of, or_too_many, wanted}
-use Rattle.link_files.specs.Refusals.{duplicate_refusal, told_as}
-use Rattle.link_files.specs.Steps.{Then, Unless}
+use Rattle.link_files.specs.Names.{label_of, wanted}
+use Rattle.link_files.specs.Refusals.{AreOnce, IsDuplicateTold, IsTwice, told_as}
+use Rattle.link_files.specs.Resolved.{AreKept}
 use Rattle.link_files.proofs.ApartLemmas.{work_apart}
 use Rattle.link_files.proofs.KeptLemmas.{IsCut, kept_rise}
-use Rattle.link_files.proofs.RaceLemmas.{names_are}
+use Rattle.link_files.proofs.NameLemmas.{are_numbering, same_some}
+use Rattle.link_steps.proofs.StepLemmas.{checks_agree, gives_agree, some_agree, unless_agree}
+use Rattle.link_steps.specs.Steps.{Agree}
 
--- ---- steps
+-- ---- names that two strong definitions have
 
-pub then_one : {A B E : Type 0} (step : Result A E) (a b : Result B E) (P Q : A → Type 0) → Then step a P → Then step b Q → ((x : A) → step ≡ Ok x → P x → Q x → a ≡ b) → a ≡ b
-then_one (Ok x) a b P Q p q one = one x refl p q
-then_one (Err why) a b P Q p q one = p ∙ sym q
+twice_same : (files : List LoadedFile) (names : List (List ℕ)) (a b : Refusal) → IsNumbering names → IsTwice files names a → IsTwice files names b → a ≡ b
+twice_same files names a b numbers p q =
+    let first : ℕ × FileId × FileId = (p.id, p.pair.0, p.pair.1) in
+    let other : ℕ × FileId × FileId = (q.id, q.pair.0, q.pair.1) in
+    let same : first ≡ other = same_some (one_duplicate files names (Some first) (Some other) numbers p.least q.least) in
+    let name : p.least.name ≡ q.least.name = same_some (sym p.least.numbered ∙ ap (λ (d : ℕ × FileId × FileId). slice_get names d.0) same ∙ q.least.numbered) in
+    p.told
+    ∙ ap (λ (n : List ℕ). Duplicate n (label_of files p.pair.0) (label_of files p.pair.1)) name
+    ∙ ap (λ (d : ℕ × FileId × FileId). Duplicate q.least.name (label_of files d.1) (label_of files d.2)) same
+    ∙ sym q.told
 
-unless_one : {B : Type 0} (found : Option Refusal) (a b : Result B Refusal) (P Q : Type 0) → Unless found a P → Unless found b Q → (P → Q → a ≡ b) → a ≡ b
-unless_one (Some why) a b P Q p q one = p ∙ sym q
-unless_one None a b P Q p q one = one p q
+not_twice : (files : List LoadedFile) (names : List (List ℕ)) (why : Refusal) → AreOnce files → IsTwice files names why → ⊥
+not_twice files names why once twice = absurd (let e : None ≡ Some twice.pair = sym (once twice.least.name) ∙ twice.least.twice in cc)
+
+duplicates_same : (files : List LoadedFile) (names : List (List ℕ)) → IsNumbering names → (a b : Option Refusal) → IsDuplicateTold files names a → IsDuplicateTold files names b → a ≡ b
+duplicates_same files names numbers None None p q = refl
+duplicates_same files names numbers None (Some why) p q = absurd (not_twice files names why p q)
+duplicates_same files names numbers (Some why) None p q = absurd (not_twice files names why q p)
+duplicates_same files names numbers (Some a) (Some b) p q = ap Some (twice_same files names a b numbers p q)
 
 -- ---- the atoms that are kept
 
@@ -108,18 +123,19 @@ roots_same command files a b p q =
     ∙ ap (λ (literals : List Representative). roots command (record { winners = b.winners; literals = literals; weak = []; flats = []; names = [] }) files) (p.literals ∙ sym q.literals)
     ∙ sym (roots_looked command b files)
 
-keys_one : (command : Command) (libs : LibraryGraph) (files : List LoadedFile) (known other : Known) (a b : List AtomKey) → AreKnown command files known → AreKnown command files other
-    → IsKept (edges files libs command) (supports files libs command) (roots command known files) a → IsKept (edges files libs command) (supports files libs command) (roots command other files) b → a ≡ b
-keys_one command libs files known other a b p q first second =
-    kept_is_one (edges files libs command) (supports files libs command) (roots command other files) a b
-    (subst (λ (rs : List AtomKey). IsKept (edges files libs command) (supports files libs command) rs a) (roots_same command files known other p q) first) second
+keys_same : (command : Command) (files : List LoadedFile) (goals : List (List Goal)) (known other : Known) (a b : List AtomKey) → AreKnown command files known → AreKnown command files other → AreKept command files known goals a → AreKept command files other goals b → a ≡ b
+keys_same command files goals known other a b p q first second =
+    kept_is_one (edges_by files goals) (supports_by files goals) (roots command other files) a b
+    (subst (λ (rs : List AtomKey). IsKept (edges_by files goals) (supports_by files goals) rs a) (roots_same command files known other p q) first) second
 
-flags_one : (command : Command) (libs : LibraryGraph) (files : List LoadedFile) (known other : Known) (a b : List AtomKey) → AreKnown command files known → AreKnown command files other → a ≡ b
-    → header_flags command libs known.winners known.literals a ≡ header_flags command libs other.winners other.literals b
-flags_one command libs files known other a b p q same =
-    ap (λ (ws : List Winner). header_flags command libs ws known.literals a) (winners_are_one command files known.winners other.winners p.winners q.winners)
-    ∙ ap (λ (ls : List Representative). header_flags command libs other.winners ls a) (p.literals ∙ sym q.literals)
-    ∙ ap (λ (ks : List AtomKey). header_flags command libs other.winners other.literals ks) same
+flags_same : (command : Command) (libs : LibraryGraph) (files : List LoadedFile) (known other : Known) (a b : List AtomKey) → AreKnown command files known → AreKnown command files other → a ≡ b → header_flags command libs known a ≡ header_flags command libs other b
+unfolding header_flags
+flags_same command libs files known other a b p q same =
+    ap₂ (λ (literals : List Representative) (winners : List Winner). flags literals winners a) (p.literals ∙ sym q.literals) (winners_are_one command files known.winners other.winners p.winners q.winners)
+    ∙ ap (flags other.literals other.winners) same
+  where
+    flags : List Representative → List Winner → List AtomKey → ℕ
+    flags literals winners keys = MH_NOUNDEFS + MH_DYLDLINK + MH_TWOLEVEL + weak_flag (list_any (is_weak_export literals keys) winners) + kind_flag command.dylib (list_any (λ library. library.reexport) libs.libraries)
 
 -- ---- the image
 
@@ -168,27 +184,6 @@ made_one m (Err make.OutOfMemory) b rising p q x y = absurd p
 
 -- ---- all steps
 
-numbers_one : (command : Command) (files : List LoadedFile) (names : List (List ℕ)) → names_of command files ≡ Ok names → IsNumbering names
-unfolding names_of gathered
-numbers_one command files names is = by (gathered files (wanted command)) refl
-  where
-    few : (given : Result (List (List ℕ)) GatherFault) → gathered files (wanted command) ≡ given → given ≡ Ok names → length names < 2 ^ 24
-    few given e f = under (nat_lt (length (numbered (external_names files ++ wanted command))) (2 ^ 24)) refl
-      where
-        under : (b : Bool) → nat_lt (length (numbered (external_names files ++ wanted command))) (2 ^ 24) ≡ b → length names < 2 ^ 24
-        under true low =
-            let same : names ≡ numbered (external_names files ++ wanted command) = names_are files (wanted command) names (e ∙ f) in
-            let less : length (numbered (external_names files ++ wanted command)) < 2 ^ 24 = ltb-true _ _ low in
-            rw same less
-        under false low = absurd (let g : gathered files (wanted command) ≡ Ok names = e ∙ f in let h = rw low at g in cc)
-
-    by : (given : Result (List (List ℕ)) GatherFault) → gathered files (wanted command) ≡ given → IsNumbering names
-    by (Ok others) e =
-        let f : or_too_many (Ok others) ≡ Ok names = ap or_too_many (sym e) ∙ is in
-        let same : others ≡ names = cc in
-        numbering (external_names files ++ wanted command) names (names_are files (wanted command) names (e ∙ ap Ok same)) (few (Ok others) e (ap Ok same))
-    by (Err fault) e = absurd (let f : or_too_many (Err fault) ≡ Ok names = ap or_too_many (sym e) ∙ is in cc)
-
 rising_of : (command : Command) (libs : LibraryGraph) (files : List LoadedFile) (flags : ℕ) (keys : List AtomKey) → AllPairs (λ a b. IsBefore a.id b.id) files → All IsCut files → IsStrictlySortedBy (on (λ (atom : Atom). atom.key) compare_keys) (map atom_of (kept_of (making command libs files flags keys)))
 unfolding making
 rising_of command libs files flags keys pairs cut =
@@ -200,24 +195,23 @@ made_same command libs files flags keys a b pairs cut p q =
     ∙ ap (told_as command files) (made_one (making command libs files flags keys) p.made q.made (rising_of command libs files flags keys pairs cut) p.answer q.answer p.is_made q.is_made)
     ∙ sym q.told
 
-kept_same : (command : Command) (libs : LibraryGraph) (files : List LoadedFile) (a b : Result (List ℕ) Refusal) → AllPairs (λ a b. IsBefore a.id b.id) files → All IsCut files → AsKept command libs files a → AsKept command libs files b → a ≡ b
-kept_same command libs files a b pairs cut p q =
-    let keys : q.keys ≡ p.keys = keys_one command libs files q.known p.known q.keys p.keys q.are_known p.are_known q.kept p.kept in
-    let flags = flags_one command libs files q.known p.known q.keys p.keys q.are_known p.are_known keys in
-    let next : Unless (undefined_refusal command libs files p.keys) b (Unless (later_refusal command libs files p.keys) b (AsMade command libs files (header_flags command libs p.known.winners p.known.literals p.keys) p.keys b)) =
-    subst (λ (n : ℕ). Unless (undefined_refusal command libs files p.keys) b (Unless (later_refusal command libs files p.keys) b (AsMade command libs files n p.keys b))) flags
-    (subst (λ (ks : List AtomKey). Unless (undefined_refusal command libs files ks) b (Unless (later_refusal command libs files ks) b (AsMade command libs files (header_flags command libs q.known.winners q.known.literals q.keys) ks b))) keys q.next) in
-    unless_one (undefined_refusal command libs files p.keys) a b _ _ p.next next
-    (λ x y. unless_one (later_refusal command libs files p.keys) a b _ _ x y (λ v w. made_same command libs files (header_flags command libs p.known.winners p.known.literals p.keys) p.keys a b pairs cut v w))
+image_same : (command : Command) (libs : LibraryGraph) (files : List LoadedFile) (known other : Known) (keys others : List AtomKey) → AllPairs (λ a b. IsBefore a.id b.id) files → All IsCut files → AreKnown command files known → AreKnown command files other → keys ≡ others
+    → Agree (AsImage command libs files known keys) (AsImage command libs files other others)
+image_same command libs files known other keys others pairs cut is also same a b p q =
+    made_same command libs files (header_flags command libs other others) others a b pairs cut
+    (subst (λ (n : ℕ). AsMade command libs files n others a) (flags_same command libs files known other keys others is also same)
+    (subst (λ (ks : List AtomKey). AsMade command libs files (header_flags command libs known keys) ks a) same p)) q
 
-named_same : (command : Command) (libs : LibraryGraph) (files : List LoadedFile) (names : List (List ℕ)) (a b : Result (List ℕ) Refusal) → AllPairs (λ a b. IsBefore a.id b.id) files → All IsCut files → IsNumbering names → AsNamed command libs files names a → AsNamed command libs files names b → a ≡ b
-named_same command libs files names a b pairs cut numbers p q =
-    let same : q.found ≡ p.found = one_duplicate files names q.found p.found numbers q.is_found p.is_found in
-    let next : Unless (duplicate_refusal files names p.found) b (AsKept command libs files b) =
-    subst (λ (f : Option (ℕ × FileId × FileId)). Unless (duplicate_refusal files names f) b (AsKept command libs files b)) same q.next in
-    unless_one (duplicate_refusal files names p.found) a b _ _ p.next next (λ v w. kept_same command libs files a b pairs cut v w)
-
-pub link_one : (command : Command) (libs : LibraryGraph) (files : List LoadedFile) (a b : Result (List ℕ) Refusal) → AllPairs (λ a b. IsBefore a.id b.id) files → All IsCut files → IsLinked command libs files a → IsLinked command libs files b → a ≡ b
-link_one command libs files a b pairs cut p q =
-    then_one (names_of command files) a b _ _ p q
-    (λ names is v w. unless_one (atoms_refusal files) a b _ _ v w (λ x y. named_same command libs files names a b pairs cut (numbers_one command files names is) x y))
+pub link_one : (command : Command) (libs : LibraryGraph) (files : List LoadedFile) → AllPairs (λ a b. IsBefore a.id b.id) files → All IsCut files → Agree (IsLinked command libs files) (IsLinked command libs files)
+link_one command libs files pairs cut =
+    gives_agree _ _ _ _ refl (λ names are.
+    unless_agree _ _ _ _ refl (λ few.
+    checks_agree _ _ _ _ (duplicates_same files names (are_numbering files (wanted command) names are)) (λ once.
+    some_agree _ _ _ _ (λ known other is also.
+    let goals : List (List Goal) = goal_table files libs command in
+    let entry : Goal = goal_of_name files libs command command.entry in
+    some_agree _ _ _ _ (λ keys others kept again.
+    let same : keys ≡ others = keys_same command files goals known other keys others is also kept again in
+    unless_agree _ _ _ _ (ap (undefined_refusal command libs files goals) same) (λ found.
+    unless_agree _ _ _ _ (ap (later_refusal command files goals entry) same) (λ inside.
+    image_same command libs files known other keys others pairs cut is also same)))))))

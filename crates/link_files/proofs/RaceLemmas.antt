@@ -1,26 +1,19 @@
 -- The words of the race of all names are the least ones.
-use Rattle.std.proofs.Common.{◌≡◌, ℕ, ◌^◌, ◌<◌, Bool, true, false, nat_lt, List, [], ◌∷◌, ◌++◌, length, map, replicate, get_or, Result, Ok, Err, refl, sym, ap, ◌∙◌, arith}
+use Rattle.std.proofs.Common.{◌≡◌, ℕ, ◌<◌, List, [], ◌∷◌, ◌++◌, length, map, replicate, get_or, Result, Ok, Err, sym, ap, ◌∙◌, arith}
 use Rattle.std.specs.Prelude.{IfOk, slice_index}
 use Rattle.std.proofs.lemmas.Grind.{same_number_lists}
 use Rattle.std.proofs.lemmas.List.{get_or-map, length-map, length-replicate}
 use Rattle.std.proofs.lemmas.Option.{slice_get-get_or}
 use Rattle.mo_types.specs.Candidates.{least, no_word}
 use Rattle.mo_types.specs.declared.loaded.LoadedFile.{LoadedFile}
-use Rattle.name_ids.specs.Names.{external_names, gathered, numbered}
+use Rattle.name_ids.specs.Names.{external_names, numbered}
 use Rattle.race_core.specs.Run.{run}
 use Rattle.race_core.proofs.Runs.{length-run}
 use Rattle.name_offers.proofs.LeastLemmas.{every_least}
 use Rattle.name_offers.specs.Offers.{bids_of}
 use Rattle.symbol_winners.specs.Winners.{AreLeast}
-
--- gathered names are numbered ones
-pub names_are : (files : List LoadedFile) (extra names : List (List ℕ)) → gathered files extra ≡ Ok names → names ≡ numbered (external_names files ++ extra)
-unfolding gathered
-names_are files extra names is = by (nat_lt (length (numbered (external_names files ++ extra))) (2 ^ 24)) refl
-  where
-    by : (b : Bool) → nat_lt (length (numbered (external_names files ++ extra))) (2 ^ 24) ≡ b → names ≡ numbered (external_names files ++ extra)
-    by true low = let e : Ok (numbered (external_names files ++ extra)) ≡ Ok names = rw low at is in sym (let same : numbered (external_names files ++ extra) ≡ names = cc in same)
-    by false low = absurd (let e = rw low at is in cc)
+use Rattle.link_files.specs.Names.{names_of}
+use Rattle.link_files.proofs.NameLemmas.{names_are}
 
 least_at : (files : List LoadedFile) (raw : List (List ℕ)) (k : ℕ) → k < length (numbered raw)
     → slice_index (run (replicate (length (numbered raw)) no_word) (bids_of (numbered raw) files)) k ≡ slice_index (map (least files) (numbered raw)) k
@@ -36,10 +29,10 @@ least_words files raw =
     (λ k low. least_at files raw k (omega (arith, low, many)))
 
 -- the words of a race at whose start no name has one
-pub raced : (files : List LoadedFile) (extra names : List (List ℕ)) (start words : List ℕ) → gathered files extra ≡ Ok names → start ≡ replicate (length names) no_word → words ≡ run start (bids_of names files) → AreLeast files names words
+pub raced : (files : List LoadedFile) (extra names : List (List ℕ)) (start words : List ℕ) → names_of files extra ≡ Ok names → start ≡ replicate (length names) no_word → words ≡ run start (bids_of names files) → AreLeast files names words
 raced files extra names start words is begins ends =
     let raw : List (List ℕ) = external_names files ++ extra in
-    let same : names ≡ numbered raw = names_are files extra names is in
+    let same : names ≡ numbered raw = ((names_are files extra names).0 is).1 in
     ends ∙ ap (λ (s : List ℕ). run s (bids_of names files)) begins
     ∙ ap (λ (ns : List (List ℕ)). run (replicate (length ns) no_word) (bids_of ns files)) same
     ∙ least_words files raw
@@ -50,7 +43,7 @@ pub none_raced : (files : List LoadedFile) (names : List (List ℕ)) (words : Li
 none_raced files [] words none empty = empty
 none_raced files (name ∷ names) words none empty = absurd (omega (arith, none))
 
-pub raced_ok : {W E : Type 0} (items : W → List ℕ) (result : Result W E) (files : List LoadedFile) (extra names : List (List ℕ)) (start : List ℕ) → gathered files extra ≡ Ok names → start ≡ replicate (length names) no_word
+pub raced_ok : {W E : Type 0} (items : W → List ℕ) (result : Result W E) (files : List LoadedFile) (extra names : List (List ℕ)) (start : List ℕ) → names_of files extra ≡ Ok names → start ≡ replicate (length names) no_word
     → IfOk result (λ words. items words ≡ run start (bids_of names files)) → IfOk result (λ words. AreLeast files names (items words))
 raced_ok items (Ok words) files extra names start is begins ends = raced files extra names start (items words) is begins ends
 raced_ok items (Err fault) files extra names start is begins ends = tt

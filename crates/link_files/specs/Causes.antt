@@ -1,125 +1,111 @@
--- The cause of each refusal of loaded files: it stands, and none that is told before it does.
-use Rattle.std.specs.Prelude.{ℕ, ◌≡◌, ◌<◌, ◌≤◌, ◌^◌, ◌++◌, ◌⊎◌, ℤ, List, length, Some, None, Err}
-use Rattle.image_make.specs.Made.{IsMade}
+-- Why loaded files are refused: the causes in the order of the steps.
+use Rattle.std.specs.Prelude.{ℕ, ◌≡◌, ◌<◌, ◌≤◌, ◌^◌, ◌++◌, ◌⊎◌, ℤ, List, length, Some, None, Ok, Err}
+use Rattle.image_make.specs.Made.{IsMade, ImageInputs}
 use Rattle.image_make.specs.declared.fault.MakeFault.TheVariants as make
 use Rattle.liveness.specs.Undefined.{undefined}
 use Rattle.lib_bind.specs.declared.library.LibraryGraph.{LibraryGraph}
-use Rattle.mark_core.specs.Kept.{IsKept}
+use Rattle.link_steps.specs.Steps.{Cause, ◌>>=◌, ◌>>◌, always, passes, refuses, stands, taken}
 use Rattle.mo_cmd.specs.declared.command.Command.{Command}
-use Rattle.mo_types.specs.Scan.{option_or_else}
 use Rattle.mo_types.specs.declared.answer.Refusal.{Refusal}
-use Rattle.mo_types.specs.declared.answer.Refusal.TheVariants.{Missing, Malformed, Unsupported, Limit, Duplicate, Undefined, NeedsImage, Range}
+use Rattle.mo_types.specs.declared.answer.Refusal.TheVariants.{Limit, Range, Undefined, Unsupported}
 use Rattle.mo_types.specs.declared.cause.Feature.TheVariants.{Later}
-use Rattle.mo_types.specs.declared.cause.RangeKind.{RangeKind}
 use Rattle.mo_types.specs.declared.cause.RangeKind.TheVariants.{ImageSize}
-use Rattle.mo_types.specs.declared.cause.Which.{Which}
 use Rattle.mo_types.specs.declared.cause.Which.TheVariants.{Atoms, Names}
+use Rattle.mo_types.specs.declared.goal.Goal.{Goal}
 use Rattle.mo_types.specs.declared.key.AtomKey.{AtomKey}
-use Rattle.mo_types.specs.declared.key.FileId.{FileId}
 use Rattle.mo_types.specs.declared.loaded.LoadedFile.{LoadedFile}
 use Rattle.name_ids.specs.Names.{external_names, numbered}
 use Rattle.patch.specs.declared.met.RangeFault.{RangeFault}
-use Rattle.symbol_winners.specs.Duplicates.{IsLeastDuplicate, duplicate_of}
-use Rattle.liveness.specs.Edges.{edges, supports}
-use Rattle.resolve.specs.Goals.{goal_table}
+use Rattle.resolve.specs.Goals.{goal_of_name, goal_table}
 use Rattle.symbol_winners.specs.Known.{AreKnown, Known}
-use Rattle.liveness.specs.Roots.{roots}
 use Rattle.sect_place.specs.declared.size.PlaceFault.TheVariants as place
 use Rattle.link_files.specs.Flags.{header_flags}
-use Rattle.link_files.specs.Later.{later_entry, later_file}
-use Rattle.link_files.specs.Linked.{making}
+use Rattle.link_files.specs.Later.{first_later}
+use Rattle.link_files.specs.Linked.{AsMade, making}
 use Rattle.link_files.specs.Lost.{lost_wanted}
 use Rattle.link_files.specs.Names.{atoms_in, label_of, wanted}
+use Rattle.link_files.specs.Refusals.{AreOnce, IsTwice}
+use Rattle.link_files.specs.Resolved.{AreKept}
 
 -- the distinct names of the files' external symbols and of those that the command line wants
-abbrev pub all_names : Command → List LoadedFile → List (List ℕ)
-all_names command files = numbered (external_names files ++ wanted command)
+abbrev pub all_names : List LoadedFile → List (List ℕ) → List (List ℕ)
+all_names files wanted = numbered (external_names files ++ wanted)
 
--- there are fewer than 2^24 names and atoms
-pub record AreFew (command : Command) (files : List LoadedFile) : Type 0 where
-  pub names : length (all_names command files) < 2 ^ 24
-  pub atoms : atoms_in files < 2 ^ 24
+-- there are 2^24 or more
+abbrev pub HaveManyNames : List LoadedFile → List (List ℕ) → Cause Refusal
+HaveManyNames files wanted why = (2 ^ 24 ≤ length (all_names files wanted)) × (why ≡ Limit Names)
 
--- two strong definitions have the name, and no lesser name has two; the files are those of the first two
-pub record IsTwice (command : Command) (files : List LoadedFile) (name first second : List ℕ) : Type 0 where
-  pub few : AreFew command files
-  pub id : ℕ
-  pub pair : FileId × FileId
-  pub least : IsLeastDuplicate files (all_names command files) id pair
-  pub is_named : least.name ≡ name
-  pub of_first : label_of files pair.0 ≡ first
-  pub of_second : label_of files pair.1 ≡ second
+-- there are fewer, and these are they
+abbrev pub AreNames : List LoadedFile → List (List ℕ) → List (List ℕ) → Type 0
+AreNames files wanted names = (length (all_names files wanted) < 2 ^ 24) × (names ≡ all_names files wanted)
 
--- no name has two strong definitions, and these are the atoms that are kept
-pub record AreKept (command : Command) (libs : LibraryGraph) (files : List LoadedFile) (flags : ℕ) (keys : List AtomKey) : Type 0 where
-  pub few : AreFew command files
-  pub once : (name : List ℕ) → duplicate_of files name ≡ None
-  pub known : Known
-  pub are_known : AreKnown command files known
-  pub kept : IsKept (edges files libs command) (supports files libs command) (roots command known files) keys
-  pub flagged : flags ≡ header_flags command libs known.winners known.literals keys
+-- there are 2^24 atoms or more
+abbrev pub HaveManyAtoms : List LoadedFile → Cause Refusal
+HaveManyAtoms files why = (2 ^ 24 ≤ atoms_in files) × (why ≡ Limit Atoms)
 
--- the least name that leads nowhere, of those to which kept atoms refer and of the wanted ones, with the first file of which
--- a kept atom refers to it
-pub record IsLost (command : Command) (libs : LibraryGraph) (files : List LoadedFile) (name file : List ℕ) : Type 0 where
-  pub flags : ℕ
-  pub keys : List AtomKey
-  pub kept : AreKept command libs files flags keys
-  pub lost : undefined keys files (goal_table files libs command) (lost_wanted command libs files) ≡ Some (name, file)
-
--- every name leads somewhere
-pub record AreFound (command : Command) (libs : LibraryGraph) (files : List LoadedFile) (flags : ℕ) (keys : List AtomKey) : Type 0 where
-  pub kept : AreKept command libs files flags keys
-  pub found : undefined keys files (goal_table files libs command) (lost_wanted command libs files) ≡ None
+-- a name leads nowhere, and no lesser one does, of those to which kept atoms refer and of the wanted ones; the file is the
+-- first of which a kept atom refers to it
+pub record IsLost (command : Command) (libs : LibraryGraph) (files : List LoadedFile) (goals : List (List Goal)) (keys : List AtomKey) (why : Refusal) : Type 0 where
+  pub name : List ℕ
+  pub file : List ℕ
+  pub lost : undefined keys files goals (lost_wanted command libs files) ≡ Some (name, file)
+  pub told : why ≡ Undefined name file
 
 -- a kept atom of the file, or the entry, refers to what the loader looks up
-pub record IsLookedUp (command : Command) (libs : LibraryGraph) (files : List LoadedFile) (file : List ℕ) : Type 0 where
-  pub flags : ℕ
-  pub keys : List AtomKey
-  pub found : AreFound command libs files flags keys
-  pub later : option_or_else (later_file keys files (goal_table files libs command)) (later_entry command libs files) ≡ Some file
-
--- all that is referred to is in the image
-pub record AreInside (command : Command) (libs : LibraryGraph) (files : List LoadedFile) (flags : ℕ) (keys : List AtomKey) : Type 0 where
-  pub found : AreFound command libs files flags keys
-  pub none : option_or_else (later_file keys files (goal_table files libs command)) (later_entry command libs files) ≡ None
+pub record IsLookedUp (command : Command) (files : List LoadedFile) (goals : List (List Goal)) (entry : Goal) (keys : List AtomKey) (why : Refusal) : Type 0 where
+  pub file : List ℕ
+  pub later : first_later command files goals entry keys ≡ Some file
+  pub told : why ≡ Unsupported file Later
 
 -- what stands before `__LINKEDIT` has so many bytes, which are too many
-pub record IsTooLong (command : Command) (libs : LibraryGraph) (files : List LoadedFile) (value : ℤ) : Type 0 where
-  pub flags : ℕ
-  pub keys : List AtomKey
-  pub inside : AreInside command libs files flags keys
-  pub size : IsMade (making command libs files flags keys) (Err (make.Place (place.ImageSize value)))
+pub record IsTooLong (m : ImageInputs) (why : Refusal) : Type 0 where
+  pub value : ℤ
+  pub size : IsMade m (Err (make.Place (place.ImageSize value)))
+  pub told : why ≡ Range m.command.output 0 ImageSize value
 
 -- a value of a reference doesn't fit its field, and none of an atom with a lesser key, or before it in its atom, doesn't
-pub record IsOutOfRange (command : Command) (libs : LibraryGraph) (files : List LoadedFile) (file : List ℕ) (place : ℕ) (kind : RangeKind) (value : ℤ) : Type 0 where
+pub record IsOutOfRange (m : ImageInputs) (why : Refusal) : Type 0 where
+  pub key : AtomKey
+  pub fault : RangeFault
+  pub unfit : IsMade m (Err (make.Range key fault))
+  pub told : why ≡ Range (label_of m.files key.file) fault.file_place fault.kind fault.value
+
+-- the image is too long, or the value of a reference is out of range
+abbrev pub IsUnfit : ImageInputs → Cause Refusal
+IsUnfit m why = IsTooLong m why ⊎ IsOutOfRange m why
+
+-- the cause of each refusal, where none before it stands
+abbrev pub LinkCause : Command → LibraryGraph → List LoadedFile → Cause Refusal
+LinkCause command libs files = do
+  names ← stands (HaveManyNames files (wanted command)) (AreNames files (wanted command))
+  refuses (HaveManyAtoms files)
+  passes (IsTwice files names) (AreOnce files)
+  known ← taken (AreKnown command files)
+  goals ← always (goal_table files libs command)
+  entry ← always (goal_of_name files libs command command.entry)
+  keys ← taken (AreKept command files known goals)
+  refuses (IsLost command libs files goals keys)
+  refuses (IsLookedUp command files goals entry keys)
+  IsUnfit (making command libs files (header_flags command libs known keys) keys)
+
+-- ---- where nothing is refused
+
+-- The files have fewer than 2^24 names and atoms, and no name has two strong definitions. These are the atoms that are kept
+-- and the flags of the image's header; every name leads somewhere, and all that is referred to is in the image.
+pub record AreInside (command : Command) (libs : LibraryGraph) (files : List LoadedFile) (flags : ℕ) (keys : List AtomKey) : Type 0 where
+  pub few_names : length (all_names files (wanted command)) < 2 ^ 24
+  pub few_atoms : atoms_in files < 2 ^ 24
+  pub once : AreOnce files
+  pub known : Known
+  pub are_known : AreKnown command files known
+  pub kept : AreKept command files known (goal_table files libs command) keys
+  pub flagged : flags ≡ header_flags command libs known keys
+  pub found : undefined keys files (goal_table files libs command) (lost_wanted command libs files) ≡ None
+  pub none : first_later command files (goal_table files libs command) (goal_of_name files libs command command.entry) keys ≡ None
+
+-- an image is made of these
+pub record WentThrough (command : Command) (libs : LibraryGraph) (files : List LoadedFile) (image : List ℕ) : Type 0 where
   pub flags : ℕ
   pub keys : List AtomKey
   pub inside : AreInside command libs files flags keys
-  pub key : AtomKey
-  pub fault : RangeFault
-  pub unfit : IsMade (making command libs files flags keys) (Err (make.Range key fault))
-  pub of_file : label_of files key.file ≡ file
-  pub is : fault ≡ record { file_place = place; kind = kind; value = value }
-
--- which quantity of the files reaches its limit
-abbrev pub IsLimited : Command → List LoadedFile → Which → Type 0
-IsLimited command files Names = 2 ^ 24 ≤ length (all_names command files)
-IsLimited command files Atoms = (length (all_names command files) < 2 ^ 24) × (2 ^ 24 ≤ atoms_in files)
-IsLimited command files _ = ⊥
-
--- an image is too long, or a reference's value is out of range
-abbrev pub IsUnfit : Command → LibraryGraph → List LoadedFile → List ℕ → ℕ → RangeKind → ℤ → Type 0
-IsUnfit command libs files file place kind value =
-    (IsTooLong command libs files value × (file ≡ command.output) × (place ≡ 0) × (kind ≡ ImageSize)) ⊎ IsOutOfRange command libs files file place kind value
-
--- the cause of each refusal; those without one aren't given
-abbrev pub LinkCause : Command → LibraryGraph → List LoadedFile → Refusal → Type 0
-LinkCause command libs files (Limit which) = IsLimited command files which
-LinkCause command libs files (Duplicate name first second) = IsTwice command files name first second
-LinkCause command libs files (Undefined name file) = IsLost command libs files name file
-LinkCause command libs files (Unsupported file feature) = IsLookedUp command libs files file × (feature ≡ Later)
-LinkCause command libs files (Range file place kind value) = IsUnfit command libs files file place kind value
-LinkCause command libs files (Missing path) = ⊥
-LinkCause command libs files (Malformed file place rule) = ⊥
-LinkCause command libs files (NeedsImage file place) = ⊥
+  pub made : AsMade command libs files flags keys (Ok image)

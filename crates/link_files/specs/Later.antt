@@ -3,7 +3,6 @@ use Rattle.std.specs.Prelude.{ℕ, ◌&&◌, Bool, true, false, not, List, Optio
 use Rattle.std.specs.List.{enumerate_from, list_any}
 use Rattle.std.specs.Option.{option_map, option_map_or}
 use Rattle.liveness.specs.Undefined.{targets_of}
-use Rattle.lib_bind.specs.declared.library.LibraryGraph.{LibraryGraph}
 use Rattle.mark_core.specs.Kept.{has}
 use Rattle.mo_cmd.specs.declared.command.Command.{Command}
 use Rattle.mo_types.specs.Scan.{first_some, option_or_else}
@@ -17,7 +16,6 @@ use Rattle.mo_types.specs.declared.loaded.LoadedFile.{LoadedFile}
 use Rattle.mo_types.specs.declared.reference.Ref.{Ref}
 use Rattle.mo_types.specs.declared.reference.Target.{Target}
 use Rattle.mo_types.specs.declared.reference.Target.TheVariants.{Name, Local}
-use Rattle.resolve.specs.Goals.{goal_of_name, goal_table}
 
 -- a goal of another image
 abbrev pub is_outer : Goal → Bool
@@ -55,14 +53,13 @@ later_at keys goals p = option_map_or (later_in keys p.1) (slice_get goals p.0) 
 unfoldable pub later_file : List AtomKey → List LoadedFile → List (List Goal) → Option (List ℕ)
 later_file keys files goals = first_some (later_at keys goals) (enumerate_from 0 files)
 
--- the image, where the goal of its entry is in another one
-abbrev pub entry_label : Command → Goal → Option (List ℕ)
-entry_label command goal = if not command.dylib && is_outer goal then Some command.output else None
+-- the image, where its entry is in another one
+abbrev pub later_entry : Command → Goal → Option (List ℕ)
+later_entry command entry = if not command.dylib && is_outer entry then Some command.output else None
 
-unfoldable pub later_entry : Command → LibraryGraph → List LoadedFile → Option (List ℕ)
-later_entry command libs files = entry_label command (goal_of_name files libs command command.entry)
+-- what messages call the first of these
+abbrev pub first_later : Command → List LoadedFile → List (List Goal) → Goal → List AtomKey → Option (List ℕ)
+first_later command files goals entry keys = option_or_else (later_file keys files goals) (later_entry command entry)
 
-unfoldable pub later_refusal : Command → LibraryGraph → List LoadedFile → List AtomKey → Option Refusal
-later_refusal command libs files keys =
-    option_map (λ label. Unsupported label feature.Later)
-    (option_or_else (later_file keys files (goal_table files libs command)) (later_entry command libs files))
+unfoldable pub later_refusal : Command → List LoadedFile → List (List Goal) → Goal → List AtomKey → Option Refusal
+later_refusal command files goals entry keys = option_map (λ label. Unsupported label feature.Later) (first_later command files goals entry keys)

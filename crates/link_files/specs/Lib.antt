@@ -1,9 +1,8 @@
 pub mod Causes
-pub mod Steps
 pub mod Names
 pub mod Flags
 pub mod Lost
 pub mod Later
 pub mod Refusals
+pub mod Resolved
 pub mod Linked
-pub mod inner

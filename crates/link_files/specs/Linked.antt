@@ -1,30 +1,37 @@
 -- What loaded files link to: an image, or the first refusal in the order of the steps.
-use Rattle.std.specs.Prelude.{ℕ, ◌≡◌, ◌≤◌, List, [], All, Option, Result, Ok, Err}
+use Rattle.std.specs.Prelude.{ℕ, ◌≡◌, ◌≤◌, List, [], All, Result, Ok, Err}
+use Rattle.std.specs.List.{AllPairs}
 use Rattle.image_make.specs.Made.{IsMade, ImageInputs}
 use Rattle.image_make.specs.declared.fault.MakeFault.{MakeFault}
 use Rattle.image_make.specs.declared.fault.MakeFault.TheVariants as make
 use Rattle.lib_bind.specs.declared.library.LibraryGraph.{LibraryGraph}
-use Rattle.mark_core.specs.Kept.{IsKept}
+use Rattle.link_steps.specs.Steps.{Answer, ◌>>=◌, ◌>>◌, always, checks, gives, some, unless}
 use Rattle.mo_cmd.specs.declared.command.Command.{Command}
+use Rattle.mo_types.specs.Atoms.{atoms_of}
+use Rattle.mo_types.specs.Loaded.{IsBefore}
 use Rattle.mo_types.specs.declared.answer.Refusal.{Refusal}
 use Rattle.mo_types.specs.declared.key.AtomKey.{AtomKey}
-use Rattle.mo_types.specs.declared.key.FileId.{FileId}
 use Rattle.mo_types.specs.declared.loaded.LoadedFile.{LoadedFile}
-use Rattle.symbol_winners.specs.Duplicates.{IsDuplicate}
-use Rattle.liveness.specs.Edges.{edges, supports}
 use Rattle.resolve.specs.Goals.{goal_of_name, goal_table}
 use Rattle.symbol_winners.specs.Known.{AreKnown, Known}
 use Rattle.literal_merge.specs.Representatives.{representatives_of}
-use Rattle.liveness.specs.Roots.{roots}
 use Rattle.sect_place.specs.declared.island.IslandPlan.{IslandPlan}
 use Rattle.sect_place.specs.declared.size.PlaceFault.TheVariants as place
 use Rattle.slot_plan.specs.declared.list.Slots.{Slots}
 use Rattle.link_files.specs.Flags.{header_flags}
 use Rattle.link_files.specs.Later.{later_refusal}
 use Rattle.link_files.specs.Lost.{undefined_refusal}
-use Rattle.link_files.specs.Names.{atoms_refusal, names_of}
-use Rattle.link_files.specs.Refusals.{duplicate_refusal, told_as}
-use Rattle.link_files.specs.Steps.{Then, Unless}
+use Rattle.link_files.specs.Names.{atoms_refusal, names_of, wanted}
+use Rattle.link_files.specs.Refusals.{IsDuplicateTold, told_as}
+use Rattle.link_files.specs.Resolved.{AreKept}
+
+-- the ids of files rise
+abbrev pub AreOrdered : List LoadedFile → Type 0
+AreOrdered files = AllPairs (λ a b. IsBefore a.id b.id) files
+
+-- each file is cut into the pieces of its object
+abbrev pub AreCut : List LoadedFile → Type 0
+AreCut files = All (λ file. file.atoms ≡ atoms_of file.object file.id) files
 
 -- no atom is aligned to more than a page of 2^14 bytes
 abbrev pub AreLow : List LoadedFile → Type 0
@@ -67,26 +74,27 @@ pub record AsMade (command : Command) (libs : LibraryGraph) (files : List Loaded
   pub answer : IsAnswer made
   pub told : given ≡ told_as command files made
 
--- With the winners of all names: the atoms that are kept are those of the least set that holds the roots and is closed by
--- what leads from one atom to another. No name to which they refer or that is wanted leads nowhere, and none of their goals
--- comes with a later version.
-pub record AsKept (command : Command) (libs : LibraryGraph) (files : List LoadedFile) (given : Result (List ℕ) Refusal) : Type 0 where
-  pub known : Known
-  pub are_known : AreKnown command files known
-  pub keys : List AtomKey
-  pub kept : IsKept (edges files libs command) (supports files libs command) (roots command known files) keys
-  pub next : Unless (undefined_refusal command libs files keys) given (Unless (later_refusal command libs files keys) given
-      (AsMade command libs files (header_flags command libs known.winners known.literals keys) keys given))
+-- the same, with the flags that its header has
+abbrev pub AsImage : Command → LibraryGraph → List LoadedFile → Known → List AtomKey → Answer Refusal (List ℕ)
+AsImage command libs files known keys = AsMade command libs files (header_flags command libs known keys) keys
 
--- with the names: no two strong definitions have one
-pub record AsNamed (command : Command) (libs : LibraryGraph) (files : List LoadedFile) (names : List (List ℕ)) (given : Result (List ℕ) Refusal) : Type 0 where
-  pub found : Option (ℕ × FileId × FileId)
-  pub is_found : IsDuplicate files names found
-  pub next : Unless (duplicate_refusal files names found) given (AsKept command libs files given)
+-- with the names by their numbers
+abbrev pub AsNamed : Command → LibraryGraph → List LoadedFile → List (List ℕ) → Answer Refusal (List ℕ)
+AsNamed command libs files names = do
+  unless (atoms_refusal files)
+  checks (IsDuplicateTold files names)
+  known ← some (AreKnown command files)
+  goals ← always (goal_table files libs command)
+  entry ← always (goal_of_name files libs command command.entry)
+  keys ← some (AreKept command files known goals)
+  unless (undefined_refusal command libs files goals keys)
+  unless (later_refusal command files goals entry keys)
+  AsImage command libs files known keys
 
--- The files have fewer than 2^24 names and atoms. Of two strong definitions, of names that lead nowhere, of goals of a later
--- version, of too large an image and of a value that doesn't fit its field the first in this order is told; where there is
--- none, the image.
-abbrev pub IsLinked : Command → LibraryGraph → List LoadedFile → Result (List ℕ) Refusal → Type 0
-IsLinked command libs files given =
-    Then (names_of command files) given (λ names. Unless (atoms_refusal files) given (AsNamed command libs files names given))
+-- What files link to. They have fewer than 2^24 names and atoms, and no name has two strong definitions. With the winners
+-- and the goals of all names come the atoms that are kept. None of the names to which these refer or that are wanted leads
+-- nowhere, and the loader looks up none of their goals. Then follows the image, by its layout and its fields.
+abbrev pub IsLinked : Command → LibraryGraph → List LoadedFile → Answer Refusal (List ℕ)
+IsLinked command libs files = do
+  names ← gives (names_of files (wanted command))
+  AsNamed command libs files names

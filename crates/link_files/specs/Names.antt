@@ -22,8 +22,8 @@ or_too_many (Ok names) = Ok names
 or_too_many (Err fault) = Err (Limit Names)
 
 -- all names by their numbers, of which there are fewer than 2^24
-unfoldable pub names_of : Command → List LoadedFile → Result (List (List ℕ)) Refusal
-names_of command files = or_too_many (gathered files (wanted command))
+unfoldable pub names_of : List LoadedFile → List (List ℕ) → Result (List (List ℕ)) Refusal
+names_of files wanted = or_too_many (gathered files wanted)
 
 -- how many atoms files have
 abbrev pub atoms_in : List LoadedFile → ℕ

@@ -1,6 +1,5 @@
 -- How a link tells what it found.
-use Rattle.std.specs.Prelude.{ℕ, pos, List, [], Option, Result, Ok, Err, slice_get, unwrap_or}
-use Rattle.std.specs.Option.{option_map}
+use Rattle.std.specs.Prelude.{ℕ, ◌≡◌, pos, List, Option, Some, None, Result, Ok, Err}
 use Rattle.image_make.specs.declared.fault.MakeFault.{MakeFault}
 use Rattle.image_make.specs.declared.fault.MakeFault.TheVariants as make
 use Rattle.mo_cmd.specs.declared.command.Command.{Command}
@@ -9,15 +8,25 @@ use Rattle.mo_types.specs.declared.answer.Refusal.TheVariants as refusal
 use Rattle.mo_types.specs.declared.cause.RangeKind.TheVariants.{ImageSize}
 use Rattle.mo_types.specs.declared.key.FileId.{FileId}
 use Rattle.mo_types.specs.declared.loaded.LoadedFile.{LoadedFile}
+use Rattle.symbol_winners.specs.Duplicates.{IsLeastDuplicate, duplicate_of}
 use Rattle.sect_place.specs.declared.size.PlaceFault.TheVariants as place
 use Rattle.link_files.specs.Names.{label_of}
 
--- a name, by its number, that two files define
-abbrev pub twice : List LoadedFile → List (List ℕ) → ℕ × FileId × FileId → Refusal
-twice files names d = refusal.Duplicate (unwrap_or (slice_get names d.0) []) (label_of files d.1) (label_of files d.2)
+-- no name has two strong definitions
+abbrev pub AreOnce : List LoadedFile → Type 0
+AreOnce files = (name : List ℕ) → duplicate_of files name ≡ None
 
-unfoldable pub duplicate_refusal : List LoadedFile → List (List ℕ) → Option (ℕ × FileId × FileId) → Option Refusal
-duplicate_refusal files names found = option_map (twice files names) found
+-- a name has two, and no lesser name has; the files are those of its first two
+pub record IsTwice (files : List LoadedFile) (names : List (List ℕ)) (why : Refusal) : Type 0 where
+  pub id : ℕ
+  pub pair : FileId × FileId
+  pub least : IsLeastDuplicate files names id pair
+  pub told : why ≡ refusal.Duplicate least.name (label_of files pair.0) (label_of files pair.1)
+
+-- the refusal of the least name with two strong definitions, or that there is none
+abbrev pub IsDuplicateTold : List LoadedFile → List (List ℕ) → Option Refusal → Type 0
+IsDuplicateTold files names None = AreOnce files
+IsDuplicateTold files names (Some why) = IsTwice files names why
 
 -- The image is at fault by its size, and a reference by its file and its place there. Want of memory is no refusal: that
 -- row only makes the table whole.

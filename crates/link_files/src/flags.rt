@@ -5,9 +5,9 @@ ghost use Rattle.std.specs.List.Sorted.{IsStrictlySortedBy};
 ghost use Rattle.mo_types.specs.Keys.{compare_keys};
 ghost use Rattle.link_files.specs.Flags as spec;
 
-use lib_bind::{Libraries, Library};
+use crate::resolved::Resolved;
+use lib_bind::Library;
 use mark_core::is_kept;
-use mo_cmd::Command;
 use mo_format::loader::{
     MH_DYLDLINK, MH_NO_REEXPORTED_DYLIBS, MH_NOUNDEFS, MH_PIE, MH_TWOLEVEL, MH_WEAK_DEFINES,
 };
@@ -39,15 +39,16 @@ fn any_reexported(libraries: &[Library]) -> bool
 
 /// The flags of an image that keeps these atoms (`loader.h`).
 #[tactic(auto, unfolding(crate::specs::Flags::header_flags))]
-pub(crate) fn header_flags(
-    command: &Command,
-    libs: &Libraries,
-    winners: &Winners,
-    keys: &[AtomKey],
-) -> u32
+pub(crate) fn header_flags(resolved: &Resolved, keys: &[AtomKey]) -> u32
     requires { IsStrictlySortedBy compare_keys keys.now }
-    ensures { result ≡ spec.header_flags command.now libs.now winners.now.winners winners.now.literals keys.now }
+    ensures { result ≡ spec.header_flags resolved.now.command.now resolved.now.libs.now resolved.now.winners.now keys.now }
 {
+    let Resolved {
+        command,
+        libs,
+        winners,
+        ..
+    } = *resolved;
     let weak = if any_weak_export(winners, winners.winners(), keys) {
         MH_WEAK_DEFINES
     } else {

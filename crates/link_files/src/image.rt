@@ -1,28 +1,25 @@
 //! The image of the atoms that are kept.
 ghost use Rattle.std.specs.Prelude.{◌≡◌, ℕ, List, Err, IfOk};
 ghost use Rattle.std.specs.List.Sorted.{IsStrictlySortedBy};
-ghost use Rattle.resolve.specs.Table.{goals_of};
+ghost use Rattle.link_steps.specs.Steps.{Meets};
 ghost use Rattle.mo_types.specs.Keys.{compare_keys};
 ghost use Rattle.mo_types.specs.Loaded.{IsWholeLoaded};
-ghost use Rattle.resolve.specs.Goals.{goal_of_name, goal_table};
-ghost use Rattle.literal_merge.specs.Representatives.{representatives_of};
-ghost use Rattle.link_files.specs.Linked.{AreLow, AsMade, IsAnswer, no_islands, no_slots};
+ghost use Rattle.link_files.specs.Linked.{AreLow, AsImage, IsAnswer, no_islands, no_slots};
 ghost use Rattle.link_files.specs.Refusals as refusals;
-ghost use Rattle.link_files.specs.Steps.{Answers};
+ghost use Rattle.link_files.specs.Resolved.{IsResolved, files_of};
 
+use crate::flags::header_flags;
 use crate::labels::label_of;
+use crate::resolved::Resolved;
 use image_make::{ImageInputs, MakeFault, make_image};
-use input_files::LoadFault;
-use lib_bind::Libraries;
+use link_steps::StepFault;
 use mo_cmd::Command;
 use mo_outside::Gate;
-use mo_types::{Bytes, Goal, KeyList, Loaded, OutOfMemory, RangeKind, Refusal};
-use resolve::GoalTable;
+use mo_types::{Bytes, KeyList, Loaded, OutOfMemory, RangeKind, Refusal};
 use sect_place::{AreaList, IslandPlan, PlaceFault, WayList};
 use slot_plan::{NeedList, Slots, slots};
 use std::alloc::Global;
 use std::thread::Threads;
-use symbol_winners::Winners;
 
 // No slots: they come with a later version.
 #[tactic(auto, using(crate::proofs::ImageLemmas::empties))]
@@ -65,28 +62,27 @@ fn refusal_of(command: &Command, loaded: &Loaded, fault: MakeFault) -> Result<Re
 }
 
 /// The image of the atoms that are kept, or the refusal of what can't be placed or written.
-#[tactic(auto, using(crate::proofs::ImageLemmas::images), unfolding(crate::specs::Linked::making))]
 pub(crate) fn image_of<R: Threads + Sync, G: Gate + Sync>(
     rt: &R,
     alloc: Global,
     gate: &G,
-    command: &Command,
-    libs: &Libraries,
-    loaded: &Loaded,
-    winners: &Winners,
-    goals: &GoalTable,
+    resolved: &Resolved,
     keys: &KeyList,
-    flags: u32,
-    entry: &Goal,
-) -> Result<Bytes, LoadFault>
-    requires whole { IsWholeLoaded loaded.now }
-    requires low { AreLow loaded.now.files }
-    requires literals { winners.now.literals ≡ representatives_of loaded.now.files }
-    requires goals { goals_of goals.now ≡ goal_table loaded.now.files libs.now command.now }
+) -> Result<Bytes, StepFault<Refusal>>
+    requires whole { IsWholeLoaded resolved.now.loaded.now }
+    requires low { AreLow (files_of resolved.now) }
+    requires resolved { IsResolved resolved.now }
     requires keys { IsStrictlySortedBy compare_keys keys.now }
-    requires entry { entry.now ≡ goal_of_name loaded.now.files libs.now command.now command.now.entry }
-    ensures { Answers (AsMade command.now libs.now loaded.now.files flags keys.now) result }
+    ensures { Meets (AsImage resolved.now.command.now resolved.now.libs.now (files_of resolved.now) resolved.now.winners.now keys.now) result }
 {
+    let Resolved {
+        command,
+        libs,
+        loaded,
+        winners,
+        goals,
+        entry,
+    } = *resolved;
     let slots = no_slots(alloc)?;
     let islands = no_islands(alloc);
     let scheme = ImageInputs {
@@ -96,13 +92,13 @@ pub(crate) fn image_of<R: Threads + Sync, G: Gate + Sync>(
         winners,
         goals,
         keys,
-        flags,
+        flags: header_flags(resolved, keys.as_slice()),
         entry,
         slots: &slots,
         islands: &islands,
     };
     match make_image(rt, alloc, gate, &scheme) {
         Ok(image) => Ok(image),
-        Err(fault) => Err(LoadFault::Refused(refusal_of(command, loaded, fault)?)),
+        Err(fault) => Err(StepFault::Stop(refusal_of(command, loaded, fault)?)),
     }
 }

@@ -1,36 +1,34 @@
 //! The atoms that a link keeps.
 ghost use Rattle.std.specs.Prelude.{◌≡◌, IfOk};
-ghost use Rattle.resolve.specs.Table.{goals_of};
-ghost use Rattle.mark_core.specs.Kept.{IsKept};
 ghost use Rattle.mo_types.specs.Loaded.{IsWholeLoaded};
 ghost use Rattle.name_ids.specs.Names.{numbers_of};
-ghost use Rattle.liveness.specs.Edges.{edges_by, supports_by};
-ghost use Rattle.literal_merge.specs.Representatives.{representatives_of};
-ghost use Rattle.liveness.specs.Roots.{roots};
+ghost use Rattle.link_files.specs.Resolved.{AreKept, IsResolved, files_of, table_of};
 
+use crate::resolved::Resolved;
 use liveness::{edges, roots};
 use mark_core::{KeySet, kept_from};
-use mo_cmd::Command;
-use mo_types::{Items, KeyList, Loaded, OutOfMemory};
+use mo_types::{Items, KeyList, OutOfMemory};
 use name_ids::NumberList;
-use resolve::GoalTable;
 use std::alloc::Global;
-use symbol_winners::Winners;
 
 /// The keys of the atoms that are kept, in order: those that are reached from the roots.
 pub(crate) fn kept_keys(
     alloc: Global,
-    loaded: &Loaded,
-    winners: &Winners,
+    resolved: &Resolved,
     numbers: &Items<NumberList>,
-    goals: &GoalTable,
-    command: &Command,
 ) -> Result<KeyList, OutOfMemory>
-    requires whole { IsWholeLoaded loaded.now }
-    requires numbers { numbers.now ≡ numbers_of winners.now.names loaded.now.files }
-    requires literals { winners.now.literals ≡ representatives_of loaded.now.files }
-    ensures { IfOk result (IsKept (edges_by loaded.now.files (goals_of goals.now)) (supports_by loaded.now.files (goals_of goals.now)) (roots command.now winners.now loaded.now.files)) }
+    requires whole { IsWholeLoaded resolved.now.loaded.now }
+    requires resolved { IsResolved resolved.now }
+    requires numbers { numbers.now ≡ numbers_of resolved.now.winners.now.names resolved.now.loaded.now.files }
+    ensures { IfOk result (AreKept resolved.now.command.now (files_of resolved.now) resolved.now.winners.now (table_of resolved.now)) }
 {
+    let Resolved {
+        command,
+        loaded,
+        winners,
+        goals,
+        ..
+    } = *resolved;
     let roots = roots(alloc, loaded, winners, numbers, command)?;
     let roots = KeySet::from_vec(alloc, roots.into_vec())?;
     let (edges, supports) = edges(alloc, loaded, winners, goals, &roots)?;

@@ -1,20 +1,19 @@
 //! Goals that come with a later version.
-ghost use Rattle.std.specs.Prelude.{◌≡◌, false, slice_get, IfOk};
+ghost use Rattle.std.specs.Prelude.{◌≡◌, false, slice_get};
 ghost use Rattle.std.specs.List.{list_any};
 ghost use Rattle.std.specs.List.Sorted.{IsStrictlySortedBy};
 ghost use Rattle.std.specs.Option.{option_copied, option_map_or};
 ghost use Rattle.resolve.specs.Table.{goals_in, goals_of};
+ghost use Rattle.link_steps.specs.Steps.{Finds};
 ghost use Rattle.mo_types.specs.Keys.{compare_keys};
-ghost use Rattle.resolve.specs.Goals.{goal_of_name, goal_table};
 ghost use Rattle.link_files.specs.Later as spec;
+ghost use Rattle.link_files.specs.Resolved.{files_of, table_of};
 
-use lib_bind::Libraries;
+use crate::resolved::Resolved;
+use link_steps::StepFault;
 use mark_core::is_kept;
 use mo_cmd::Command;
-use mo_types::{
-    AtomKey, Bytes, Feature, Goal, KeyList, Loaded, LoadedFile, OutOfMemory, Ref, RefList, Refusal,
-    Target,
-};
+use mo_types::{AtomKey, Bytes, Feature, Goal, KeyList, LoadedFile, Ref, RefList, Refusal, Target};
 use resolve::{FileGoals, GoalTable};
 
 fn is_outer(goal: &Goal) -> bool
@@ -125,7 +124,7 @@ fn later_file<'a>(keys: &[AtomKey], goals: &GoalTable, files: &'a [LoadedFile]) 
 
 // The path of an executable whose entry is in another image.
 fn later_entry<'a>(command: &'a Command, entry: &Goal) -> Option<&'a Bytes>
-    ensures { option_copied result ≡ spec.entry_label command.now entry.now }
+    ensures { option_copied result ≡ spec.later_entry command.now entry.now }
 {
     if !command.dylib && is_outer(entry) {
         Some(&command.output)
@@ -134,32 +133,29 @@ fn later_entry<'a>(command: &'a Command, entry: &Goal) -> Option<&'a Bytes>
     }
 }
 
-/// The first file of which a kept atom refers to what the loader looks up, or the image, where its entry is such; where
-/// there is one.
-#[tactic(auto, unfolding(crate::specs::Later::later_refusal, crate::specs::Later::later_entry))]
-pub(crate) fn later_refusal(
-    loaded: &Loaded,
-    libs: &Libraries,
-    command: &Command,
-    goals: &GoalTable,
-    keys: &KeyList,
-    entry: &Goal,
-) -> Result<Option<Refusal>, OutOfMemory>
-    requires goals { goals_of goals.now ≡ goal_table loaded.now.files libs.now command.now }
-    requires keys { IsStrictlySortedBy compare_keys keys.now }
-    requires entry { entry.now ≡ goal_of_name loaded.now.files libs.now command.now command.now.entry }
-    ensures { IfOk result (λ found. found ≡ spec.later_refusal command.now libs.now loaded.now.files keys.now) }
+// The first of these.
+fn first_later<'a>(resolved: &Resolved<'a>, keys: &[AtomKey]) -> Option<&'a Bytes>
+    requires { IsStrictlySortedBy compare_keys keys.now }
+    ensures { option_copied result ≡ spec.first_later resolved.now.command.now (files_of resolved.now) (table_of resolved.now) resolved.now.entry.now keys.now }
 {
-    let _libs = libs;
-    let found = match later_file(keys.as_slice(), goals, loaded.files.as_slice()) {
+    match later_file(keys, resolved.goals, resolved.loaded.files.as_slice()) {
         Some(label) => Some(label),
-        None => later_entry(command, entry),
-    };
-    match found {
-        Some(label) => Ok(Some(Refusal::Unsupported {
+        None => later_entry(resolved.command, resolved.entry),
+    }
+}
+
+/// No kept atom and no entry refers to what the loader looks up, or the first file of which one does is refused, or the
+/// image, where its entry does.
+#[tactic(auto, unfolding(crate::specs::Later::later_refusal))]
+pub(crate) fn all_inside(resolved: &Resolved, keys: &KeyList) -> Result<(), StepFault<Refusal>>
+    requires { IsStrictlySortedBy compare_keys keys.now }
+    ensures { Finds (spec.later_refusal resolved.now.command.now (files_of resolved.now) (table_of resolved.now) resolved.now.entry.now keys.now) result }
+{
+    match first_later(resolved, keys.as_slice()) {
+        Some(label) => Err(StepFault::Stop(Refusal::Unsupported {
             file: label.clone()?,
             feature: Feature::Later,
         })),
-        None => Ok(None),
+        None => Ok(()),
     }
 }

@@ -1,21 +1,25 @@
 //! What holds of what loaded files link to, each on a call that does nothing.
-ghost use Rattle.std.specs.Prelude.{◌≡◌, ◌↔◌, ℕ, All, List, Result, Err};
-ghost use Rattle.std.specs.List.{AllPairs};
+ghost use Rattle.std.specs.Prelude.{ℕ, List, Ok};
 ghost use Rattle.lib_bind.specs.declared.library.LibraryGraph.{LibraryGraph};
+ghost use Rattle.link_steps.specs.Steps.{IsOne, Stops};
 ghost use Rattle.mo_cmd.specs.declared.command.Command.{Command as Commanded};
-ghost use Rattle.mo_types.specs.Atoms.{atoms_of};
-ghost use Rattle.mo_types.specs.Loaded.{IsBefore};
-ghost use Rattle.mo_types.specs.declared.answer.Refusal.{Refusal};
 ghost use Rattle.mo_types.specs.declared.loaded.LoadedFile.{LoadedFile};
-ghost use Rattle.link_files.specs.Causes.{LinkCause};
-ghost use Rattle.link_files.specs.Linked.{IsLinked};
+ghost use Rattle.link_files.specs.Causes.{LinkCause, WentThrough};
+ghost use Rattle.link_files.specs.Linked.{AreCut, AreOrdered, IsLinked};
 
 /// Files whose ids rise, each cut into the pieces of its object, link to one thing.
 pub fn a_link_is_one()
-    ensures { (command : Commanded) (libs : LibraryGraph) (files : List LoadedFile) (a b : Result (List ℕ) Refusal) → AllPairs (λ a b. IsBefore a.id b.id) files → All (λ file. file.atoms ≡ atoms_of file.object file.id) files → IsLinked command libs files a → IsLinked command libs files b → a ≡ b }
+    ensures { (command : Commanded) (libs : LibraryGraph) (files : List LoadedFile) → AreOrdered files → AreCut files → IsOne (IsLinked command libs files) }
+{}
+
+/// What files link to, where it is an image, went through all steps: none of them refuses, and it is made of the atoms that
+/// are kept.
+pub fn images_went_through_all_steps()
+    ensures { (command : Commanded) (libs : LibraryGraph) (files : List LoadedFile) (image : List ℕ)
+        → IsLinked command libs files (Ok image) → WentThrough command libs files image }
 {}
 
 /// Files are refused exactly where the refusal's cause stands.
 pub fn refusals_have_causes()
-    ensures { (command : Commanded) (libs : LibraryGraph) (files : List LoadedFile) (why : Refusal) → IsLinked command libs files (Err why) ↔ LinkCause command libs files why }
+    ensures { (command : Commanded) (libs : LibraryGraph) (files : List LoadedFile) → Stops (IsLinked command libs files) (LinkCause command libs files) }
 {}

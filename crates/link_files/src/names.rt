@@ -1,10 +1,11 @@
 //! The names and atoms of a link, and their limits.
-ghost use Rattle.std.specs.Prelude.{◌≡◌, ◌^◌, ◌++◌, Ok, Err, IfOk, IfErr};
-ghost use Rattle.name_ids.specs.Names.{gathered, numbers_of};
+ghost use Rattle.std.specs.Prelude.{◌≡◌, ◌++◌, IfOk};
+ghost use Rattle.link_steps.specs.Steps.{Finds, Shows};
+ghost use Rattle.name_ids.specs.Names.{numbers_of};
+ghost use Rattle.symbol_winners.specs.Found.{AreNamed};
 ghost use Rattle.link_files.specs.Names as spec;
-ghost use Rattle.link_files.specs.Steps.{Yields};
 
-use input_files::LoadFault;
+use link_steps::StepFault;
 use mo_cmd::Command;
 use mo_types::{Bytes, Loaded, LoadedFile, NameList, OutOfMemory, Refusal, Which};
 use name_ids::{GatherFault, Numbered, gather};
@@ -40,39 +41,35 @@ pub fn wanted_names(alloc: Global, command: &Command) -> Result<NameList, OutOfM
 #[tactic(auto, unfolding(crate::specs::Names::names_of))]
 pub(crate) fn names_of<'a>(
     alloc: Global,
-    command: &Command,
     loaded: &'a Loaded,
     wanted: &'a NameList,
-) -> Result<Numbered<'a>, LoadFault>
-    requires { wanted.now ≡ spec.wanted command.now }
-    ensures gathered { IfOk result (λ it. gathered loaded.now.files wanted.now ≡ Ok it.names) }
+) -> Result<Numbered<'a>, StepFault<Refusal>>
+    ensures exact { Shows (λ it. it.names) (spec.names_of loaded.now.files wanted.now) result }
+    ensures named { IfOk result (λ it. AreNamed it.names loaded.now.files) }
     ensures numbers { IfOk result (λ it. it.numbers ≡ numbers_of it.names loaded.now.files) }
-    ensures exact { IfOk result (λ it. spec.names_of command.now loaded.now.files ≡ Ok it.names) }
-    ensures refused { IfErr result (λ fault. Yields (spec.names_of command.now loaded.now.files) (Err fault)) }
 {
-    let _command = command;
     match gather(alloc, loaded, wanted) {
         Ok(numbered) => Ok(numbered),
-        Err(GatherFault::Names) => Err(LoadFault::Refused(Refusal::Limit {
+        Err(GatherFault::Names) => Err(StepFault::Stop(Refusal::Limit {
             which: Which::Names,
         })),
-        Err(GatherFault::OutOfMemory) => Err(LoadFault::OutOfMemory),
+        Err(GatherFault::OutOfMemory) => Err(StepFault::OutOfMemory),
     }
 }
 
 /// That files have too many atoms, where they have.
 #[tactic(auto, using(crate::proofs::NameLemmas::atoms), unfolding(crate::specs::Names::atoms_refusal))]
-pub(crate) fn atoms_refusal(files: &[LoadedFile]) -> Option<Refusal>
-    ensures { result ≡ spec.atoms_refusal files.now }
+pub(crate) fn few_atoms(files: &[LoadedFile]) -> Result<(), StepFault<Refusal>>
+    ensures { Finds (spec.atoms_refusal files.now) result }
 {
     let mut left = ATOMS;
     for file in files {
         if file.atoms.len() >= left {
-            return Some(Refusal::Limit {
+            return Err(StepFault::Stop(Refusal::Limit {
                 which: Which::Atoms,
-            });
+            }));
         }
         left -= file.atoms.len();
     }
-    None
+    Ok(())
 }

@@ -1,12 +1,14 @@
 //! The race of names.
 ghost use Rattle.std.specs.Prelude.{◌≡◌, Ok, IfOk};
 ghost use Rattle.mo_types.specs.Loaded.{IsWholeLoaded};
-ghost use Rattle.name_ids.specs.Names.{gathered, numbers_of};
+ghost use Rattle.name_ids.specs.Names.{numbers_of};
 ghost use Rattle.symbol_winners.specs.Winners.{AreLeast};
+ghost use Rattle.link_files.specs.Names.{names_of, wanted};
 
+use mo_cmd::Command;
 use mo_outside::Gate;
-use mo_types::{Items, Loaded, NameList, OutOfMemory};
-use name_ids::{NameTable, NumberList};
+use mo_types::{Loaded, OutOfMemory};
+use name_ids::Numbered;
 use name_offers::race_words;
 use std::alloc::Global;
 use std::thread::Threads;
@@ -14,26 +16,34 @@ use std::thread::Threads;
 // The word of a name without a candidate.
 const NO_WORD: u64 = u64::MAX;
 
-/// The least word of the candidates of each name, by a race of so many workers. Without names none is run.
+/// The least word of the candidates of each name, by a race of as many workers as the command says. Without names none is
+/// run.
 pub(crate) fn raced_words<R: Threads + Sync, G: Gate + Sync>(
     rt: &R,
     alloc: Global,
     gate: &G,
-    workers: u32,
+    command: &Command,
     loaded: &Loaded,
-    wanted: &NameList,
-    names: &NameTable,
-    numbers: &Items<NumberList>,
+    numbered: &Numbered,
 ) -> Result<Vec<u64>, OutOfMemory>
     requires whole { IsWholeLoaded loaded.now }
-    requires names { gathered loaded.now.files wanted.now ≡ Ok names.now }
-    requires numbers { numbers.now ≡ numbers_of names.now loaded.now.files }
-    ensures { IfOk result (λ words. AreLeast loaded.now.files names.now words.items) }
+    requires names { names_of loaded.now.files (wanted command.now) ≡ Ok numbered.now.names }
+    requires numbers { numbered.now.numbers ≡ numbers_of numbered.now.names loaded.now.files }
+    ensures { IfOk result (λ words. AreLeast loaded.now.files numbered.now.names words.items) }
 {
-    let _wanted = wanted;
+    let Numbered { names, numbers } = numbered;
     if names.len() == 0 {
         return Ok(Vec::new(alloc));
     }
     let start = vec![in alloc; NO_WORD; names.len() as usize]?;
-    race_words(rt, alloc, gate, workers, start, loaded, names, numbers)
+    race_words(
+        rt,
+        alloc,
+        gate,
+        command.threads,
+        start,
+        loaded,
+        names,
+        numbers,
+    )
 }

@@ -3,7 +3,7 @@ use Rattle.std.proofs.Common.{◌≡◌, ◌↔◌, ◌⊎◌, inl, inr, Option,
 use Rattle.std.proofs.lemmas.Result.{err_from_is_err_and}
 use Rattle.link_steps.specs.declared.fault.StepFault.{StepFault}
 use Rattle.link_steps.specs.declared.fault.StepFault.TheVariants as fault
-use Rattle.link_steps.specs.Steps.{Agree, Answer, Cause, IsLawful, IsSome, Meets, OnStop, Stops, checks, gives, last, passes, refuses, some, stands, taken, tries, unless}
+use Rattle.link_steps.specs.Steps.{Agree, Answer, Cause, IsLawful, IsSome, Meets, OnStop, Stops, always, checks, gives, last, passes, refuses, some, stands, taken, tries, unless}
 
 -- ---- one answer at most
 
@@ -198,6 +198,14 @@ unfolding unless
 unless_passed (Some why) P y is = absurd cc
 unless_passed None P y is = (refl, is)
 
+pub checks_passed : {S B : Type 0} (Is : Option S → Type 0) (P : Answer S B) (y : B) → checks Is P (Ok y) → Is None × P (Ok y)
+unfolding unless
+checks_passed {S = S} {B = B} Is P y passed = by passed.found passed.is passed.follows
+  where
+    by : (t : Option S) → Is t → unless t P (Ok y) → Is None × P (Ok y)
+    by (Some why) is follows = absurd cc
+    by None is follows = (is, follows)
+
 -- ---- what a call that ends here or goes on returns
 
 -- a fault that is handed on
@@ -214,6 +222,9 @@ on_stop fault.OutOfMemory P Q leads p = tt
 goes : {S B : Type 0} (P Q : Answer S B) (returned : Result B (StepFault S)) → ((given : Result B S) → P given → Q given) → Meets P returned → Meets Q returned
 goes P Q (Ok x) leads p = leads (Ok x) p
 goes P Q (Err end) leads p = on_stop end (λ why. P (Err why)) (λ why. Q (Err why)) (λ why q. leads (Err why) q) p
+
+pub always_on : {S A B : Type 0} (y x : A) (P : A → Answer S B) (returned : Result B (StepFault S)) → y ≡ x → Meets (P x) returned → Meets (always y P) returned
+always_on {A = A} y x P returned same meets = subst (λ (z : A). Meets (P z) returned) (sym same) meets
 
 pub gives_on : {S A B : Type 0} (r : Result A S) (P : A → Answer S B) (x : A) (returned : Result B (StepFault S)) → r ≡ Ok x → Meets (P x) returned → Meets (gives r P) returned
 unfolding gives
@@ -244,3 +255,11 @@ tries_on Is P x returned is meets = goes (P x) (tries Is P) returned (λ given p
 pub tries_ends : {S A B : Type 0} (Is : Answer S A) (P : A → Answer S B) (end : StepFault S) (returned : Result B (StepFault S)) → OnStop end (λ why. Is (Err why)) → IsErrAnd returned (λ passed. passed ≡ end) → Meets (tries Is P) returned
 unfolding gives
 tries_ends Is P end returned is passes = ends (tries Is P) end returned passes (on_stop end (λ why. Is (Err why)) (λ why. tries Is P (Err why)) (λ why e. record { gave = Err why; is = e; follows = refl }) is)
+
+pub checks_on : {S B : Type 0} (Is : Option S → Type 0) (P : Answer S B) (returned : Result B (StepFault S)) → Is None → Meets P returned → Meets (checks Is P) returned
+unfolding unless
+checks_on Is P returned is meets = goes P (checks Is P) returned (λ given p. record { found = None; is = is; follows = p }) meets
+
+pub checks_ends : {S B : Type 0} (Is : Option S → Type 0) (P : Answer S B) (end : StepFault S) (returned : Result B (StepFault S)) → OnStop end (λ why. Is (Some why)) → IsErrAnd returned (λ passed. passed ≡ end) → Meets (checks Is P) returned
+unfolding unless
+checks_ends Is P end returned is passes = ends (checks Is P) end returned passes (on_stop end (λ why. Is (Some why)) (λ why. checks Is P (Err why)) (λ why e. record { found = Some why; is = e; follows = refl }) is)

@@ -16,6 +16,10 @@ infixl 10 ◌>>◌
 abbrev pub ◌>>◌ : {R : Type 1} → (R → R) → R → R
 step >> next = step next
 
+-- a step that has this value and never stops
+abbrev pub always : {A : Type 0} {R : Type 1} → A → (A → R) → R
+always x next = next x
+
 -- a step that gives this alone
 unfoldable pub gives : {S A B : Type 0} → Result A S → (A → Answer S B) → Answer S B
 gives (Ok x) next given = next x given

@@ -44,10 +44,10 @@ use Rattle.loader_laws.proofs.Loading.{from_all}
 use Rattle.loader_laws.proofs.Stated.{begins_at}
 use Rattle.link_files.specs.Causes.{AreInside}
 use Rattle.link_files.specs.Later.{is_outer, later_entry, later_file}
-use Rattle.link_files.specs.Linked.{making}
+use Rattle.link_files.specs.Linked.{AreOrdered, making}
 use Rattle.link_files.specs.Lost.{lost_wanted}
 use Rattle.link_files.specs.Names as names
-use Rattle.loader_laws.specs.Images.{AreOrdered, IsImageOf}
+use Rattle.loader_laws.specs.Images.{IsImageOf}
 use Rattle.loader_laws.specs.Tellings.{AreInForm, AreWhole, HasEntry, made_of}
 use Rattle.loader_laws.proofs.Cuts.{at_place}
 use Rattle.loader_laws.proofs.LinkedGoals.{AreSolid, IsWinnerIn, name_atom, place_in_file, winner_there}
@@ -156,10 +156,9 @@ entry_kept command libs files flags keys key inside whole form program = by (win
   where
     kept : (winner : Winner) → winner_of command files command.entry ≡ Some winner → Some (stands_for (representatives_of files) winner.atom) ≡ Some key → has keys key ≡ true
     kept winner e to =
-        let known = inside.found.kept in
         ap (has keys) (sym (some_is (stands_for (representatives_of files) winner.atom) key to))
-        ∙ from_all (λ (atom : AtomKey). has keys atom ≡ true) (roots command known.known files) (stands_for (representatives_of files) winner.atom) known.kept.closed.rooted
-        (entry_root command files known.known winner known.are_known whole form program e)
+        ∙ from_all (λ (atom : AtomKey). has keys atom ≡ true) (roots command inside.known files) (stands_for (representatives_of files) winner.atom) inside.kept.closed.rooted
+        (entry_root command files inside.known winner inside.are_known whole form program e)
 
     outer : (flat weak : Bool) (provider : Option Provider) → goal_atom (outer_goal flat weak command.entry provider) ≡ Some key → has keys key ≡ true
     outer flat weak (Some provider) to = no_some key to
@@ -188,7 +187,7 @@ entry_found command libs files flags keys inside program = by (undefined.is_nobo
     none : undefined.wanted (lost_wanted command libs files) ≡ []
     none =
         (both_empty (undefined.lost keys files (goal_table files libs command)) (undefined.wanted (lost_wanted command libs files))
-        (least_none (undefined.lost keys files (goal_table files libs command) ++ undefined.wanted (lost_wanted command libs files)) inside.found.found)).1
+        (least_none (undefined.lost keys files (goal_table files libs command) ++ undefined.wanted (lost_wanted command libs files)) inside.found)).1
 
     by : (b : Bool) → lost_one command.entry ≡ b → lost_one command.entry ≡ false
     by false e = e
@@ -202,13 +201,12 @@ no_second None b e = e
 no_second (Some x) b e = not_none x e
 
 entry_own : (command : Command) (libs : LibraryGraph) (files : List LoadedFile) (flags : ℕ) (keys : List AtomKey) → AreInside command libs files flags keys → command.dylib ≡ false → is_outer (goal_of_name files libs command command.entry) ≡ false
-unfolding later_entry
 entry_own command libs files flags keys inside program = by (is_outer (goal_of_name files libs command command.entry)) refl
   where
-    none : later_entry command libs files ≡ None
-    none = no_second (later_file keys files (goal_table files libs command)) (later_entry command libs files) inside.none
+    none : later_entry command (goal_of_name files libs command command.entry) ≡ None
+    none = no_second (later_file keys files (goal_table files libs command)) (later_entry command (goal_of_name files libs command command.entry)) inside.none
 
-    told : is_outer (goal_of_name files libs command command.entry) ≡ true → later_entry command libs files ≡ Some command.output
+    told : is_outer (goal_of_name files libs command command.entry) ≡ true → later_entry command (goal_of_name files libs command command.entry) ≡ Some command.output
     told e =
         ap (λ (b : Bool). if not b && is_outer (goal_of_name files libs command command.entry) then Some command.output else None) program
         ∙ ap (λ (b : Bool). if b then Some command.output else None) e

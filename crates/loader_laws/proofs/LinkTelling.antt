@@ -42,8 +42,8 @@ use Rattle.loader_laws.proofs.Leading.{references_lead}
 use Rattle.loader_laws.proofs.Loading.{from_all}
 use Rattle.loader_laws.proofs.Rowed.{IsRowIn, row_in}
 use Rattle.input_files.specs.Form.{is_common, is_later, is_later_kind, is_later_section}
-use Rattle.link_files.specs.Linked.{making}
-use Rattle.loader_laws.specs.Images.{AreOrdered, IsImageOf}
+use Rattle.link_files.specs.Linked.{AreOrdered, making}
+use Rattle.loader_laws.specs.Images.{IsImageOf}
 use Rattle.loader_laws.specs.Tellings.{AreInForm, AreWhole, made_of}
 use Rattle.loader_laws.proofs.Cuts.{IsPiece, is_piece, key_at}
 use Rattle.loader_laws.proofs.LinkedGoals.{AreSolid}

@@ -32,10 +32,10 @@ use Rattle.member_rounds.proofs.LowLemmas.{IsObjectOf, form_is, object_at}
 use Rattle.input_files.proofs.EachLemmas.{all_from}
 use Rattle.member_rounds.proofs.WorkLemmas.{from_all}
 use Rattle.link_files.proofs.KeptLemmas.{IsCut}
-use Rattle.loader_laws.specs.Images.{AreCut}
 use Rattle.loader_laws.specs.Tellings.{AreInForm, AreWhole}
 use Rattle.loader_laws.proofs.Going.{no_value, same_value}
 use Rattle.loader_laws.proofs.Parts.{HaveBytes, content_bytes}
+use Rattle.link_files.specs.Linked.{AreCut}
 
 -- ---- an object
 

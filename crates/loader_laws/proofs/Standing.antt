@@ -37,7 +37,7 @@ use Rattle.mo_types.specs.Loaded.{IsWholeFile}
 use Rattle.sect_place.proofs.Homes.{start, starts}
 use Rattle.mo_cmd.specs.declared.command.Command.{Command}
 use Rattle.liveness.specs.Edges.{goal_atom, edge_from, edge_to, edges, edges_at, edges_by, file_edges, ref_edges, target_atom, unwind_edges}
-use Rattle.resolve.specs.Goals.{goal_of_symbol, goal_table, goals_of_symbols}
+use Rattle.resolve.specs.Goals.{goal_of_name, goal_of_symbol, goal_table, goals_of_symbols}
 use Rattle.literal_merge.specs.Standing.{stands_for}
 use Rattle.literal_merge.specs.Representatives.{representatives_of}
 use Rattle.literal_merge.proofs.RepresentativeLemmas.{atoms_of_file}
@@ -57,9 +57,8 @@ use Rattle.loader_laws.proofs.Loading.{from_all}
 use Rattle.loader_laws.proofs.Stated.{header_is_goal, rows_have_goals, zerofill_has_goals}
 use Rattle.link_files.specs.Causes.{AreInside}
 use Rattle.link_files.specs.Later.{is_kept_later, is_later_ref, is_later_target, is_looked_up, is_outer, later_at, later_entry, later_file, later_in}
-use Rattle.link_files.specs.Linked.{making}
+use Rattle.link_files.specs.Linked.{AreOrdered, making}
 use Rattle.link_files.specs.Lost.{lost_wanted}
-use Rattle.loader_laws.specs.Images.{AreOrdered}
 use Rattle.loader_laws.proofs.Cuts.{is_piece}
 use Rattle.loader_laws.proofs.LinkedGoals.{AreSolid, HasAtom, IsAtomIn, cut_in, goal_there, stand_in, symbol_atom}
 use Rattle.loader_laws.proofs.Lists.{in_numbered, in_slice, no_some, none_first, none_passes, not_none, not_first, some_is, both_empty}
@@ -257,7 +256,7 @@ edge_there command libs files at file r target key is h among to =
 target_kept : (command : Command) (libs : LibraryGraph) (files : List LoadedFile) (flags : ℕ) (keys : List AtomKey) (at : ℕ) (file : LoadedFile) (r : Ref) (target : Target) (key : AtomKey) → AreInside command libs files flags keys → slice_get files at ≡ Some file → In r file.refs → has keys r.atom ≡ true → In target (targets_of r.target r.minus)
     → target_atom (representatives_of files) (goals_of_symbols files libs command file) target ≡ Some key → has keys key ≡ true
 target_kept command libs files flags keys at file r target key inside is h kept among to =
-    from_all (λ (edge : Edge). has keys edge.from ≡ true → has keys edge.to ≡ true) (edges files libs command) (edge_to r.atom key) inside.found.kept.kept.closed.led (edge_there command libs files at file r target key is h among to) kept
+    from_all (λ (edge : Edge). has keys edge.from ≡ true → has keys edge.to ≡ true) (edges files libs command) (edge_to r.atom key) inside.kept.closed.led (edge_there command libs files at file r target key is h among to) kept
 
 -- a least name is told where there is any
 least_there : (pairs : List (List ℕ × List ℕ)) (p : List ℕ × List ℕ) → (q : List ℕ × List ℕ) × (fold lesser (Some p) pairs ≡ Some q)
@@ -282,7 +281,7 @@ unfolding later_file later_at is_later_ref
 target_unsought command libs files flags keys at file r target inside is h kept among =
     let goals : List Goal = goals_of_symbols files libs command file in
     let table = goal_table files libs command in
-    let none : later_at keys table (at, file) ≡ None = none_first (later_at keys table) (enumerate_from 0 files) (at, file) (no_other (later_file keys files table) (later_entry command libs files) inside.none) (in_all files at file is) in
+    let none : later_at keys table (at, file) ≡ None = none_first (later_at keys table) (enumerate_from 0 files) (at, file) (no_other (later_file keys files table) (later_entry command (goal_of_name files libs command command.entry)) inside.none) (in_all files at file is) in
     let here : later_in keys file goals ≡ None = rw (table_at files libs command at file is) at none in
     let quiet : is_kept_later keys goals r ≡ false = none_passes (is_kept_later keys goals) file.refs r (unlabelled (list_any (is_kept_later keys goals) file.refs) here) h in
     none_passes (is_later_target goals) (targets_of r.target r.minus) target (not_first (is_later_ref goals r) (has keys r.atom) quiet kept) among
@@ -299,7 +298,7 @@ target_found command libs files flags keys at file r target inside is h kept amo
     goals = goals_of_symbols files libs command file
 
     none : lost keys files (goal_table files libs command) ≡ []
-    none = (both_empty (lost keys files (goal_table files libs command)) (wanted (lost_wanted command libs files)) (least_none (lost keys files (goal_table files libs command) ++ wanted (lost_wanted command libs files)) inside.found.found)).0
+    none = (both_empty (lost keys files (goal_table files libs command)) (wanted (lost_wanted command libs files)) (least_none (lost keys files (goal_table files libs command) ++ wanted (lost_wanted command libs files)) inside.found)).0
 
     told : (name : List ℕ) → lost_name file.object.symbols goals target ≡ Some name → In (name, file.label) (lost keys files (goal_table files libs command))
     told name e =

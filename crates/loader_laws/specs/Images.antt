@@ -1,24 +1,13 @@
 -- The image to which files link (`loader.h`).
-use Rattle.std.specs.Prelude.{ℕ, ◌≡◌, All, List}
-use Rattle.std.specs.List.{AllPairs}
+use Rattle.std.specs.Prelude.{ℕ, List}
 use Rattle.loader_laws.specs.Means.{AreRising, IsImage}
 use Rattle.lib_bind.specs.declared.library.LibraryGraph.{LibraryGraph}
 use Rattle.link_files.specs.Causes.{AreInside}
 use Rattle.link_files.specs.Linked.{making}
 use Rattle.mo_cmd.specs.declared.command.Command.{Command}
-use Rattle.mo_types.specs.Atoms.{atoms_of}
-use Rattle.mo_types.specs.Loaded.{IsBefore}
 use Rattle.mo_types.specs.declared.key.AtomKey.{AtomKey}
 use Rattle.mo_types.specs.declared.loaded.LoadedFile.{LoadedFile}
 use Rattle.sect_place.specs.declared.layout.Layout.{Layout}
-
--- the ids of files rise
-abbrev pub AreOrdered : List LoadedFile → Type 0
-AreOrdered files = AllPairs (λ a b. IsBefore a.id b.id) files
-
--- each file is cut into the pieces of its object
-abbrev pub AreCut : List LoadedFile → Type 0
-AreCut files = All (λ file. file.atoms ≡ atoms_of file.object file.id) files
 
 -- An image of the atoms of files that are kept, with these flags in its header: all to which they refer is inside it.
 pub record IsImageOf (command : Command) (libs : LibraryGraph) (files : List LoadedFile) (image : List ℕ) : Type 0 where

@@ -5,19 +5,20 @@ use Rattle.input_fetch.specs.declared.content.Content.{Content}
 use Rattle.input_read.specs.Opened.{Contents}
 use Rattle.input_read.specs.Opened as opened
 use Rattle.lib_bind.specs.declared.library.LibraryGraph.{LibraryGraph}
+use Rattle.link_engine.specs.Bound.{IsBound}
 use Rattle.link_engine.specs.Command.{command_of}
 use Rattle.link_engine.specs.Input.{inputs_with}
 use Rattle.link_engine.specs.Told.{Told}
-use Rattle.link_engine.specs.Verdict.{IsBound, plan_of}
+use Rattle.link_engine.specs.Verdict.{plan_of}
 use Rattle.link_engine.specs.declared.plan.Plan.{Plan}
-use Rattle.link_files.specs.Linked.{IsLinked}
+use Rattle.link_files.specs.Linked.{AreCut, AreOrdered, IsLinked}
 use Rattle.link_files.specs.Names.{wanted}
 use Rattle.member_rounds.specs.Rounds.{loaded_of}
 use Rattle.mo_cmd.specs.declared.command.Command.{Command}
 use Rattle.mo_obj.specs.Read.{AreBytes}
 use Rattle.mo_outside.specs.Answers.{Answer, There}
 use Rattle.mo_types.specs.declared.loaded.Loaded.{Loaded}
-use Rattle.loader_laws.specs.Images.{AreCut, AreOrdered, IsImageOf}
+use Rattle.loader_laws.specs.Images.{IsImageOf}
 
 -- The inputs of the command are opened as what the bytes are that were found. Its stub libraries and what these re-export are
 -- the libraries, and the files are loaded that the rounds bring. What is planned is the image to which these files link; their

@@ -1,6 +1,6 @@
 use Rattle.std.proofs.Common.{◌∙◌, ap}
 use Rattle.mo_types.specs.Answer.{code_of}
-use Rattle.link_engine.proofs.PlanLemmas.{answered_then}
+use Rattle.link_engine.proofs.AskedLemmas.{answered_then}
 use Rattle.atomld.proofs.run.link_words.Goals as goal
 
 pub returns : goal.returns

@@ -1,28 +1,87 @@
-use Rattle.std.proofs.Common.{Err, ap}
-use Rattle.link_engine.proofs.KeptLemmas.{files_misused, files_still, files_then, files_unfetched}
-use Rattle.link_engine.proofs.PlanLemmas.{contents_decide, fetch_not_usage, files_decide, words_decide}
+use Rattle.link_steps.proofs.AskLemmas.{asks_goes, asks_stops, gives_goes, gives_stops, last_goes, tries_goes, tries_stops, unless_goes, unless_stops}
+use Rattle.link_engine.proofs.AskedLemmas.{for_command, for_libraries, for_none}
 use Rattle.link_engine.proofs.plan.make_plan.Goals as goal
 
-pub returns-in_err-command-clause-answered : goal.returns-in_err-command-clause-answered
-returns-in_err-command-clause-answered g c =
-    words_decide g.F.Files.answers c.args.words.now c.in_err-command.field-0.0 _ _ c.from_residual.ensures.1 c.in_err-command.ensures.exact c.in_err-command.ensures.kind
+pub returns-in_err-command-clause-exact : goal.returns-in_err-command-clause-exact
+returns-in_err-command-clause-exact g c =
+    gives_stops _ _ _ _ _ c.in_err-command.ensures c.from_residual.ensures.1
 
-pub returns-in-Err-clause-answered : goal.returns-in-Err-clause-answered
-returns-in-Err-clause-answered g c =
-    files_decide g.F.Files.answers c.args.words.now c.in_ok-command.command c.in-Err.stop _ _ _ (ap Err c.fetch_fault.ensures) c.in_ok-command.ensures.exact c.in-Err.ensures.fetching
+pub returns-in_err-few_inputs-clause-exact : goal.returns-in_err-few_inputs-clause-exact
+returns-in_err-few_inputs-clause-exact g c =
+    gives_goes _ _ _ _ _ _ c.in_ok-command.ensures
+    (unless_stops _ _ _ _ _ c.in_err-few_inputs.ensures.exact c.from_residual-in_err-few_inputs.ensures.1)
 
-pub returns-in-Err-clause-usage : goal.returns-in-Err-clause-usage
-returns-in-Err-clause-usage g c = λ word rule same. absurd (fetch_not_usage c.in-Err.stop c.fetch_fault.result word rule c.fetch_fault.ensures same)
+pub returns-in_err-found-clause-exact : goal.returns-in_err-found-clause-exact
+returns-in_err-found-clause-exact g c =
+    gives_goes _ _ _ _ _ _ c.in_ok-command.ensures
+    (unless_goes _ _ _ _ _ c.in_ok-few_inputs.ensures.exact
+    (asks_stops _ _ _ _ _ _ c.in_err-found.ensures.exact c.from_residual-in_err-found.ensures.1))
 
-pub returns-in_err-command-clause-files : goal.returns-in_err-command-clause-files
-returns-in_err-command-clause-files g c = files_misused c.in_err-command.field-0.0 _ _ c.from_residual.ensures.1 c.in_err-command.ensures.kind
+pub returns-in_err-inputs-clause-exact : goal.returns-in_err-inputs-clause-exact
+returns-in_err-inputs-clause-exact g c =
+    gives_goes _ _ _ _ _ _ c.in_ok-command.ensures
+    (unless_goes _ _ _ _ _ c.in_ok-few_inputs.ensures.exact
+    (asks_goes _ _ _ _ _ _ _ c.in_ok-found.ensures.exact
+    (gives_stops _ _ _ _ _ c.in_err-inputs.ensures.exact c.from_residual-in_err-inputs.ensures.1)))
 
-pub returns-in-Err-clause-files : goal.returns-in-Err-clause-files
-returns-in-Err-clause-files g c = files_unfetched c.in-Err.stop c.fetch_fault.result _ _ c.fetch_fault.ensures c.in-Err.ensures.holds c.in-Err.ensures.faults c.in-Err.ensures.still c.in-Err.ensures.failed
+pub returns-in_err-libs-clause-exact : goal.returns-in_err-libs-clause-exact
+returns-in_err-libs-clause-exact g c =
+    gives_goes _ _ _ _ _ _ c.in_ok-command.ensures
+    (unless_goes _ _ _ _ _ c.in_ok-few_inputs.ensures.exact
+    (asks_goes _ _ _ _ _ _ _ c.in_ok-found.ensures.exact
+    (gives_goes _ _ _ _ _ _ c.in_ok-inputs.ensures.exact
+    (asks_stops _ _ _ _ _ _ c.in_err-libs.ensures.exact c.from_residual-in_err-libs.ensures.1))))
 
-pub returns-clause-files : goal.returns-clause-files
-returns-clause-files g c = files_then c.in-Ok.found c.plan_for.result _ _ _ (files_still c.in-Ok.found _ _ c.in-Ok.ensures.holds (c.in-Ok.ensures.still tt)) c.plan_for.ensures.files
+pub returns-in_err-loaded-clause-exact : goal.returns-in_err-loaded-clause-exact
+returns-in_err-loaded-clause-exact g c =
+    gives_goes _ _ _ _ _ _ c.in_ok-command.ensures
+    (unless_goes _ _ _ _ _ c.in_ok-few_inputs.ensures.exact
+    (asks_goes _ _ _ _ _ _ _ c.in_ok-found.ensures.exact
+    (gives_goes _ _ _ _ _ _ c.in_ok-inputs.ensures.exact
+    (asks_goes _ _ _ _ _ _ _ c.in_ok-libs.ensures.exact
+    (gives_stops _ _ _ _ _ c.in_err-loaded.ensures.exact c.from_residual-in_err-loaded.ensures.1)))))
 
-pub returns-clause-answered : goal.returns-clause-answered
-returns-clause-answered g c =
-    contents_decide g.F.Files.answers c.args.words.now c.in_ok-command.command c.in-Ok.found c.plan_for.result _ _ _ c.in_ok-command.ensures.exact c.in-Ok.ensures.fetching c.in-Ok.ensures.holds c.plan_for.ensures.more
+pub returns-in_err-image-clause-exact : goal.returns-in_err-image-clause-exact
+returns-in_err-image-clause-exact g c =
+    gives_goes _ _ _ _ _ _ c.in_ok-command.ensures
+    (unless_goes _ _ _ _ _ c.in_ok-few_inputs.ensures.exact
+    (asks_goes _ _ _ _ _ _ _ c.in_ok-found.ensures.exact
+    (gives_goes _ _ _ _ _ _ c.in_ok-inputs.ensures.exact
+    (asks_goes _ _ _ _ _ _ _ c.in_ok-libs.ensures.exact
+    (gives_goes _ _ _ _ _ _ c.in_ok-loaded.ensures.exact
+    (tries_stops _ _ _ _ _ c.in_err-image.ensures c.from_residual-in_err-image.ensures.1))))))
+
+pub returns-clause-exact : goal.returns-clause-exact
+returns-clause-exact g c =
+    gives_goes _ _ _ _ _ _ c.in_ok-command.ensures
+    (unless_goes _ _ _ _ _ c.in_ok-few_inputs.ensures.exact
+    (asks_goes _ _ _ _ _ _ _ c.in_ok-found.ensures.exact
+    (gives_goes _ _ _ _ _ _ c.in_ok-inputs.ensures.exact
+    (asks_goes _ _ _ _ _ _ _ c.in_ok-libs.ensures.exact
+    (gives_goes _ _ _ _ _ _ c.in_ok-loaded.ensures.exact
+    (tries_goes _ _ _ _ _ _ c.in_ok-image.ensures
+    (last_goes _ _ _ c.plan_of.ensures)))))))
+
+pub returns-in_err-command-clause-asks : goal.returns-in_err-command-clause-asks
+returns-in_err-command-clause-asks g c = for_none g.F.Files.answers _ _
+
+pub returns-in_err-few_inputs-clause-asks : goal.returns-in_err-few_inputs-clause-asks
+returns-in_err-few_inputs-clause-asks g c = for_none g.F.Files.answers _ _
+
+pub returns-in_err-found-clause-asks : goal.returns-in_err-found-clause-asks
+returns-in_err-found-clause-asks g c = for_command g.F.Files.answers c.args.words.now c.in_ok-command.command _ _ c.in_ok-command.ensures c.in_ok-few_inputs.ensures.exact c.in_err-found.ensures.asks
+
+pub returns-in_err-inputs-clause-asks : goal.returns-in_err-inputs-clause-asks
+returns-in_err-inputs-clause-asks g c = for_command g.F.Files.answers c.args.words.now c.in_ok-command.command _ _ c.in_ok-command.ensures c.in_ok-few_inputs.ensures.exact c.in_ok-found.ensures.asks
+
+pub returns-in_err-libs-clause-asks : goal.returns-in_err-libs-clause-asks
+returns-in_err-libs-clause-asks g c = for_libraries g.F.Files.answers c.args.words.now c.in_ok-command.command c.in_ok-found.found _ _ _ c.in_ok-command.ensures c.in_ok-few_inputs.ensures.exact c.in_ok-found.ensures.exact c.in_err-libs.ensures.asks
+
+pub returns-in_err-loaded-clause-asks : goal.returns-in_err-loaded-clause-asks
+returns-in_err-loaded-clause-asks g c = for_libraries g.F.Files.answers c.args.words.now c.in_ok-command.command c.in_ok-found.found _ _ _ c.in_ok-command.ensures c.in_ok-few_inputs.ensures.exact c.in_ok-found.ensures.exact c.in_ok-libs.ensures.asks
+
+pub returns-in_err-image-clause-asks : goal.returns-in_err-image-clause-asks
+returns-in_err-image-clause-asks g c = for_libraries g.F.Files.answers c.args.words.now c.in_ok-command.command c.in_ok-found.found _ _ _ c.in_ok-command.ensures c.in_ok-few_inputs.ensures.exact c.in_ok-found.ensures.exact c.in_ok-libs.ensures.asks
+
+pub returns-clause-asks : goal.returns-clause-asks
+returns-clause-asks g c = for_libraries g.F.Files.answers c.args.words.now c.in_ok-command.command c.in_ok-found.found _ _ _ c.in_ok-command.ensures c.in_ok-few_inputs.ensures.exact c.in_ok-found.ensures.exact c.in_ok-libs.ensures.asks

@@ -1,9 +1,23 @@
+use Rattle.link_files.specs.Resolved.{files_of}
+use Rattle.link_files.proofs.ImageLemmas.{fault_made, image_made}
 use Rattle.link_files.proofs.KeptLemmas.{are_cut, kept_low, kept_rise}
 use Rattle.link_files.proofs.image.image_of.Goals as goal
 
 pub make_image-requires-clause-rising : goal.make_image-requires-clause-rising
 make_image-requires-clause-rising g c κs within =
-    kept_rise c.args.winners.now.literals c.args.keys.now c.args.loaded.now.files c.requires.whole.rises (are_cut c.args.loaded.now c.requires.whole)
+    let r = c.args.resolved.now in
+    kept_rise r.winners.now.literals c.args.keys.now (files_of r) c.requires.whole.rises (are_cut r.loaded.now c.requires.whole)
 
 pub make_image-requires-clause-low : goal.make_image-requires-clause-low
-make_image-requires-clause-low g c κs within = kept_low c.args.winners.now.literals c.args.keys.now c.args.loaded.now.files c.requires.low c.requires.literals
+make_image-requires-clause-low g c κs within = let r = c.args.resolved.now in kept_low r.winners.now.literals c.args.keys.now (files_of r) c.requires.low c.requires.resolved.known.literals
+
+pub returns-in-Ok : goal.returns-in-Ok
+returns-in-Ok g c =
+    image_made c.args.resolved.now c.header_flags.result c.args.keys.now c.in_ok-slots.slots c.no_islands-islands.result c.in-Ok.image
+    c.requires.resolved (rw c.as_slice.ensures at c.header_flags.ensures) c.in_ok-slots.ensures c.no_islands-islands.ensures c.in-Ok.ensures
+
+pub returns : goal.returns
+returns g c =
+    fault_made c.args.resolved.now c.header_flags.result c.args.keys.now c.in_ok-slots.slots c.no_islands-islands.result c.in-Err.fault c.in_ok-refusal_of-in-Err.field-0
+    c.requires.resolved (rw c.as_slice.ensures at c.header_flags.ensures) c.in_ok-slots.ensures c.no_islands-islands.ensures c.in-Err.ensures
+    c.in_ok-refusal_of-in-Err.ensures.real c.in_ok-refusal_of-in-Err.ensures.told

@@ -1,0 +1,107 @@
+//! The inputs of a command: their bytes, and what they are.
+ghost use Rattle.std.specs.Prelude.{◌≡◌, ◌<◌, ◌^◌, length, true, All, IfOk};
+ghost use Rattle.lib_bind.specs.Asking.{seen};
+ghost use Rattle.lib_bind.specs.Named.{are_named};
+ghost use Rattle.link_engine.specs.Asks.{AsksFor, FetchesInputs};
+ghost use Rattle.link_engine.specs.Input as spec;
+ghost use Rattle.link_engine.specs.Read.{AreInputs, contents_as};
+ghost use Rattle.link_engine.specs.Verdict.{contents_with};
+ghost use Rattle.link_steps.specs.Asking.{Acts};
+ghost use Rattle.link_steps.specs.Steps.{Shows};
+ghost use Rattle.input_fetch.specs.Contents.{places_of};
+ghost use Rattle.input_files.specs.Sources.{AreInOrder};
+
+use crate::stop::{Stop, fetch_fault, load_fault};
+use input_fetch::{Content, ContentList, fetch_inputs};
+use input_files::{Input, InputList};
+use input_read::{Opened, SourceList, open_inputs};
+use lib_bind::StubFileList;
+use link_steps::StepFault;
+use mo_cmd::{Command, CommandInput};
+use mo_outside::{Files, Gate};
+use mo_types::{LoadedList, OutOfMemory};
+use std::alloc::Global;
+use std::thread::Threads;
+
+/// The bytes of a command's inputs, for which files are asked, all of them before the first is read.
+pub fn fetch<F: Files>(
+    alloc: Global,
+    files: &mut F,
+    command: &Command,
+) -> Result<ContentList, StepFault<Stop>>
+    requires few { length command.now.inputs < 2 ^ 16 }
+    ensures exact { Acts (FetchesInputs F.answers command.now)
+        (seen F.holds F.asked F.faults files.old) result (seen F.holds F.asked F.faults files.new) }
+    ensures asks { AsksFor F.answers (places_of command.now)
+        (seen F.holds F.asked F.faults files.old) (seen F.holds F.asked F.faults files.new) }
+    ensures size { IfOk result (λ found. length found ≡ length command.now.inputs) }
+{
+    fetch_inputs(alloc, files, command).map_err(fetch_fault)
+}
+
+fn input_at(
+    all: bool,
+    at: u16,
+    input: &CommandInput,
+    content: &Content,
+) -> Result<Input, OutOfMemory>
+    ensures { IfOk result (λ made. made ≡ spec.input_at all at input.now content.now) }
+{
+    Ok(Input {
+        position: at,
+        label: content.label.clone()?,
+        bytes: content.bytes.clone()?,
+        forced: all || input.forced,
+    })
+}
+
+// The inputs of the command with the bytes that were found, by rising positions.
+#[tactic(auto, using(crate::proofs::InputLemmas::makes))]
+fn inputs_with(
+    alloc: Global,
+    command: &Command,
+    found: &[Content],
+) -> Result<InputList, OutOfMemory>
+    requires size { length found.now ≡ length command.now.inputs }
+    requires few { length command.now.inputs < 2 ^ 16 }
+    ensures exact { IfOk result (λ made. made ≡ spec.inputs_with command.now found.now) }
+    ensures order { IfOk result AreInOrder }
+    ensures below { IfOk result (λ made. All (λ input. input.position < length command.now.inputs) made) }
+{
+    let mut made = InputList::new(alloc);
+    for (at, input) in command.inputs.as_slice().iter().enumerate() {
+        made.push(input_at(command.all_load, at as u16, input, &found[at])?)?;
+    }
+    Ok(made)
+}
+
+/// The inputs of which files are loaded: objects and archives, and the files of the objects.
+#[derive(Debug, Drop)]
+pub struct Inputs {
+    pub sources: SourceList,
+    pub objects: LoadedList,
+}
+
+/// What the inputs are, each read by one of the command's workers: those of which files are loaded, and the stub libraries;
+/// or the refusal of the first input that has one. Their bytes are let go.
+pub fn read<R: Threads + Sync, G: Gate + Sync>(
+    rt: &R,
+    alloc: Global,
+    gate: &G,
+    command: &Command,
+    found: ContentList,
+) -> Result<(Inputs, StubFileList), StepFault<Stop>>
+    requires size { length found ≡ length command.now.inputs }
+    requires few { length command.now.inputs < 2 ^ 16 }
+    ensures exact { Shows contents_as (contents_with command.now found) result }
+    ensures inputs { IfOk result (λ read. AreInputs read.0) }
+    ensures named { IfOk result (λ read. are_named (length command.now.inputs) 0 read.1 ≡ true) }
+{
+    let inputs = inputs_with(alloc, command, found.as_slice())?;
+    let Opened {
+        sources,
+        objects,
+        stubs,
+    } = open_inputs(rt, alloc, gate, command.threads, inputs.as_slice()).map_err(load_fault)?;
+    Ok((Inputs { sources, objects }, stubs))
+}

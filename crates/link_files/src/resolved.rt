@@ -1,0 +1,27 @@
+//! Files whose names have winners.
+use lib_bind::Libraries;
+use mo_cmd::Command;
+use mo_types::{Goal, Loaded};
+use resolve::GoalTable;
+use symbol_winners::Winners;
+
+/// Loaded files, with the command that links them and its libraries.
+#[derive(Clone, Copy)]
+pub(crate) struct Inputs<'c, 'l, 'f> {
+    pub command: &'c Command,
+    pub libs: &'l Libraries,
+    pub loaded: &'f Loaded,
+}
+
+/// Loaded files with the winners of their names, and with where their symbols and the program's entry lead.
+#[derive(Clone, Copy)]
+pub(crate) struct Resolved<'a> {
+    pub command: &'a Command,
+    pub libs: &'a Libraries,
+    pub loaded: &'a Loaded,
+    pub winners: &'a Winners<'a>,
+    /// The goals of each file's symbols.
+    pub goals: &'a GoalTable,
+    /// Where the program begins.
+    pub entry: &'a Goal,
+}
