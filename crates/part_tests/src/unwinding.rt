@@ -107,20 +107,25 @@ fn encoding_of(shape: Shape, number: u32) -> u32 {
     }
 }
 
-// Whether a look-up finds each function, in the first and the last byte of its range, and nothing behind the last one.
-fn finds_each(section: &[u8], shape: Shape) -> bool {
-    let mut end = 0;
-    for number in 0..shape.count {
-        let row = row_of(shape, number);
-        let found = hit(row, encoding_of(shape, number));
-        if find_pc(section, row.function) != found
-            || find_pc(section, row.end.wrapping_sub(1)) != found
-        {
+// Whether a look-up finds a function, in the first and the last byte of its range.
+fn finds(section: &[u8], shape: Shape, number: u32) -> bool {
+    let row = row_of(shape, number);
+    let found = hit(row, encoding_of(shape, number));
+    find_pc(section, row.function) == found && find_pc(section, row.end.wrapping_sub(1)) == found
+}
+
+// Whether look-ups find each seventh function, as one after 511 is, and the last one, and nothing around them all.
+fn finds_all(section: &[u8], shape: Shape) -> bool {
+    for k in 0..shape.count / 7 {
+        if !finds(section, shape, 7 * k) {
             return false;
         }
-        end = row.end;
     }
-    find_pc(section, 0xfff).is_none() && find_pc(section, end).is_none()
+    let last = shape.count.wrapping_sub(1);
+    let end = row_of(shape, last).end;
+    finds(section, shape, last)
+        && find_pc(section, 0xfff).is_none()
+        && find_pc(section, end).is_none()
 }
 
 fn shape_of(sizes: [u32; 4], turns: [u32; 3]) -> Shape {
@@ -161,7 +166,7 @@ const SHAPES: [([u32; 4], [u32; 3], usize, u32); 15] = [
 fn is_written(alloc: Global, shape: Shape, len: usize, sum: u32) -> Result<bool, Fail> {
     let section = written(alloc, rows_of(alloc, shape)?)?.ok_or("too many personalities")?;
     let bytes = section.as_slice();
-    Ok(bytes.len() == len && digest(FIRST, bytes) == sum && finds_each(bytes, shape))
+    Ok(bytes.len() == len && digest(FIRST, bytes) == sum && finds_all(bytes, shape))
 }
 
 #[test]
@@ -240,8 +245,25 @@ const ODD: [u8; 228] = [
 
 // Where it is looked up: at the functions' bounds, and elsewhere.
 const PLACES: [u32; 19] = [
-    0, 0xfff, 0x1000, 0x100f, 0x1010, 0x1020, 0x1fff, 0x2000, 0x2010, 0x2025, 0x2030, 0x2045, 0x2fff,
-    0x3000, 0x300f, 0x3010, 0x301f, 0x3020, 0xffff_ffff,
+    0,
+    0xfff,
+    0x1000,
+    0x100f,
+    0x1010,
+    0x1020,
+    0x1fff,
+    0x2000,
+    0x2010,
+    0x2025,
+    0x2030,
+    0x2045,
+    0x2fff,
+    0x3000,
+    0x300f,
+    0x3010,
+    0x301f,
+    0x3020,
+    0xffff_ffff,
 ];
 
 // The digest of what is found in a section at each place.
