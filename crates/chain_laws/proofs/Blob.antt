@@ -1,21 +1,19 @@
 -- The parts of the chains' part stand where its header says.
-use Rattle.std.proofs.Common.{◌≡◌, ℕ, ◌+◌, ◌*◌, ◌%◌, ◌^◌, ◌<◌, ◌≤◌, ◌==◌, ◌||◌, Bool, true, false, List, [], ◌∷◌, ◌++◌, length, nat_le, Option, Some, None, Result, Ok, Err, if◌then◌else◌, refl, sym, ap, subst, ◌∙◌, arith, lit<, length-append}
+use Rattle.std.proofs.Common.{◌≡◌, ℕ, ◌+◌, ◌%◌, ◌^◌, ◌<◌, ◌≤◌, ◌==◌, ◌||◌, Bool, true, false, List, [], ◌∷◌, ◌++◌, length, nat_le, Some, None, Ok, if◌then◌else◌, refl, ap, ◌∙◌, arith, lit<, length-append}
 use Rattle.std.specs.Option.{option_and_then}
 use Rattle.std.proofs.lemmas.Bool.{le-leb}
-use Rattle.mo_bytes.specs.Number.{number, number_at, number_bytes}
+use Rattle.mo_bytes.specs.Number.{number, number_at}
 use Rattle.mo_bytes.proofs.Numbers.{length-number_bytes}
-use Rattle.mo_format.specs.ChainedFixups.{chained_fixups_header_bytes, chained_fixups_header_fields}
-use Rattle.mo_format.specs.declared.chained_fixups.ChainedFixupsHeader.{ChainedFixupsHeader}
+use Rattle.mo_format.specs.ChainedFixups.{chained_fixups_header_fields}
 use Rattle.mo_format.specs.declared.fixup_chains.TheConstants.{DYLD_CHAINED_IMPORT, DYLD_CHAINED_IMPORT_ADDEND64}
 use Rattle.mo_format.specs.Fields.{spelled}
-use Rattle.fixup_chain.specs.Encoded.{blob_of, format_of, header_bytes, joined, padded, unit_of}
+use Rattle.fixup_chain.specs.Encoded.{format_of, header_bytes, joined, padded, unit_of}
 use Rattle.fixup_chain.specs.Starts.{zeros_to}
 use Rattle.image_read.specs.Commands.{fits}
-use Rattle.image_read.specs.Fixups.{formed, header_for, header_read}
+use Rattle.image_read.specs.Fixups.{header_read}
 use Rattle.image_read.specs.Imports.{fixups_command, header_at, header_by, header_of, whole_header_at}
 use Rattle.image_read.specs.declared.imports.FixupsHeader.{FixupsHeader}
-use Rattle.image_read.specs.declared.fixups.FixupRead.{FixupRead}
-use Rattle.chain_laws.proofs.Standing.{EachStands, Stands, fields_stand, stands_at, stands_as, stands_left, stands_right, stands_within}
+use Rattle.chain_laws.proofs.Standing.{EachStands, Stands, fields_stand, stands_at, stands_left, stands_right, stands_within}
 
 -- the bytes between the starts and the imports
 abbrev pub gap : Bool → ℕ → ℕ

@@ -1,10 +1,9 @@
 -- What the loader finds at an address, by the segment that holds it, the start of its page and the page's chain.
-use Rattle.std.proofs.Common.{◌≡◌, ◌≢◌, ◌⊎◌, ℕ, zero, suc, ◌+◌, ◌-◌, ◌*◌, ◌/◌, ◌%◌, ◌^◌, ◌<◌, ◌≤◌, ◌==◌, ◌&&◌, Bool, true, false, List, [], ◌∷◌, length, get_or, nat_le, nat_lt, Contains, Option, Some, None, Result, Ok, Err, if◌then◌else◌, refl, sym, ap, subst, ◌∙◌, inl, inr, arith}
+use Rattle.std.proofs.Common.{◌≡◌, ◌≢◌, ℕ, ◌+◌, ◌-◌, ◌*◌, ◌/◌, ◌%◌, ◌^◌, ◌<◌, ◌≤◌, ◌==◌, ◌&&◌, Bool, true, false, List, length, get_or, nat_le, nat_lt, Contains, Option, Some, None, Result, Ok, Err, refl, sym, ap, subst, ◌∙◌, inl, inr, arith}
 use Rattle.std.specs.List.{All, filter}
-use Rattle.std.specs.Option.{option_map_or}
 use Rattle.std.proofs.lemmas.Bool.{cases_Bool, cases_lt, eq-eqb, eqb-true, leb-true}
 use Rattle.std.proofs.lemmas.List.{get_or_default}
-use Rattle.list_lemmas.proofs.Members.{In, from_filter, from_map, in_filter, in_from_Contains, Contains_from_in}
+use Rattle.list_lemmas.proofs.Members.{In, from_filter, from_map, in_filter, in_from_Contains}
 use Rattle.mo_format.specs.declared.fixup_chains.TheConstants.{DYLD_CHAINED_PTR_START_NONE}
 use Rattle.mo_types.specs.Gives.{◌>>=◌}
 use Rattle.sect_place.specs.Whole.{IsWholeSegment}
@@ -20,7 +19,7 @@ use Rattle.image_read.specs.declared.fixups.FixupRead.TheVariants.{Plain}
 use Rattle.image_read.specs.declared.fixups.Holding.{Holding}
 use Rattle.image_read.specs.declared.imports.FixupsHeader.{FixupsHeader}
 use Rattle.chain_laws.specs.Carried.{StandAs, segments_of}
-use Rattle.chain_laws.proofs.Holding.{IsAmong, IsWithin, among_layout, held_by, holding_in, holding_is, within_layout}
+use Rattle.chain_laws.proofs.Holding.{IsAmong, IsWithin, among_layout, held_by, holding_is, within_layout}
 use Rattle.chain_laws.proofs.Standing.{Stands}
 use Rattle.chain_laws.proofs.StartReading.{SegmentStands, TableStands, page_reached, pages_few, start_past, start_read, starts_none, starts_there}
 use Rattle.chain_laws.proofs.Steps.{ends, goes_on}

@@ -1,10 +1,10 @@
 -- In an image that carries chains the loader finds each pointer, and no others.
-use Rattle.std.proofs.Common.{rules, ◌≡◌, ◌≢◌, ◌⊎◌, ℕ, zero, suc, ◌+◌, ◌-◌, ◌*◌, ◌/◌, ◌%◌, ◌^◌, ◌<◌, ◌≤◌, ◌==◌, ◌&&◌, ◌||◌, Bool, true, false, not, ℤ, pos, ◌-ℤ◌, List, [], ◌∷◌, ◌++◌, length, get_or, map, nat_le, nat_lt, is_none, unwrap_or, position, Contains, Option, Some, None, FitsSigned, Result, Ok, Err, if◌then◌else◌, refl, sym, ap, subst, ◌∙◌, inl, inr, arith, lit<, length-append}
+use Rattle.std.proofs.Common.{rules, ◌≡◌, ◌≢◌, ℕ, zero, suc, ◌+◌, ◌-◌, ◌/◌, ◌%◌, ◌^◌, ◌<◌, ◌≤◌, ◌==◌, ◌&&◌, ◌||◌, Bool, true, false, not, ℤ, pos, ◌-ℤ◌, List, [], ◌∷◌, ◌++◌, length, get_or, map, nat_le, nat_lt, is_none, unwrap_or, Contains, Option, Some, None, FitsSigned, Ok, Err, if◌then◌else◌, refl, sym, ap, subst, ◌∙◌, inl, inr, arith, lit<, length-append}
 use Rattle.std.specs.Int.{cast_signed, w64}
 use Rattle.std.specs.List.{All, filter, list_any, position_or_len}
 use Rattle.std.specs.Option.{option_map_or}
 use Rattle.std.specs.Ordering.{eq_by_cmp}
-use Rattle.std.proofs.lemmas.Bool.{cases_Bool, cases_lt, eqb-true, le-leb, lt-ltb, ltb-true, leb-true, false≢true}
+use Rattle.std.proofs.lemmas.Bool.{cases_lt, eqb-true, le-leb, lt-ltb, ltb-true, false≢true}
 use Rattle.std.proofs.lemmas.List.{get_or_default}
 use Rattle.list_lemmas.proofs.Members.{In, any_from_in, from_filter, from_map, in_filter, in_from_Contains, in_map, Contains_from_in}
 use Rattle.mo_types.specs.Goals.{name_of}
@@ -13,7 +13,7 @@ use Rattle.sect_place.specs.Whole.{IsWholeLayout, IsWholeSegment}
 use Rattle.sect_place.specs.declared.layout.Layout.{Layout}
 use Rattle.sect_place.specs.declared.layout.Segment.{Segment}
 use Rattle.fixup_chain.specs.Chained.{AreChains}
-use Rattle.fixup_chain.specs.Encoded.{IMPORTS, blob_of, header_bytes, joined, padded}
+use Rattle.fixup_chain.specs.Encoded.{IMPORTS, blob_of, joined, padded}
 use Rattle.fixup_chain.specs.Faults.{base_of, fault_of, is_closed, is_far, is_misplaced, is_text, range_of, target_of}
 use Rattle.fixup_chain.specs.ImportOrder as order
 use Rattle.fixup_chain.specs.ImportOrder.{compare_imports}
@@ -38,11 +38,10 @@ use Rattle.image_read.specs.declared.imports.FixupsHeader.{FixupsHeader}
 use Rattle.chain_laws.specs.Carried.{ArePointers, IsCarried, IsFound, IsFoundBy, signed_ordinal}
 use Rattle.chain_laws.proofs.Blob.{PartsStand, gap, header_is_of, header_is_read, header_told, header_told_by, header_whole, parts_stand}
 use Rattle.chain_laws.proofs.Finding.{IsKnown, found_nothing, found_pointer}
-use Rattle.chain_laws.proofs.ImportReading.{ImportsStand, IsAtNumber, at_number, import_is_read, import_told, name_is_read, read_ordinal}
+use Rattle.chain_laws.proofs.ImportReading.{ImportsStand, IsAtNumber, at_number, import_is_read, import_told, name_is_read}
 use Rattle.chain_laws.proofs.ImportStanding.{name_place, name_stands, row_stands}
 use Rattle.chain_laws.proofs.Standing.{Stands, stands_as, stands_right, stands_taken, stands_within}
 use Rattle.chain_laws.proofs.StartReading.{table_stands}
-use Rattle.chain_laws.proofs.Walking.{AreInMemory}
 use Rattle.chain_laws.proofs.WordReading.{IsBindWord, addend_read, bind_read, bind_word_is, next_told, ordinal_read, ordinal_small, rebase_read, rebase_word_is, target_held}
 
 -- ---- tests
@@ -161,7 +160,7 @@ known_header image layout fixups wide imports at small few parts =
     let starts = starts_for layout fixups in
     let rows = rows_from wide 1 imports in
     let within : at + (32 + (length starts + gap wide (length starts)) + length rows) + length (pool_of imports) ≤ length image =
-        stands_within image (at + (32 + (length starts + gap wide (length starts)) + length rows)) (pool_of imports) parts.pool (omega arith) in
+    stands_within image (at + (32 + (length starts + gap wide (length starts)) + length rows)) (pool_of imports) parts.pool (omega arith) in
     header_whole image at wide (length starts) (length rows) (length imports) (omega (arith, within, small)) (omega (arith, few)) parts.header
 
 known_for : (image : List ℕ) (layout : Layout) (fixups : List Fixup) (chains : Chains) → IsWholeLayout layout → ArePointers layout fixups → (c : AreChains layout fixups chains) → (r : IsCarried image layout chains) → PartsFor image r.at layout fixups c.wide c.imports → IsKnown image layout.segments fixups (base_of layout.segments) (told_for r.at layout fixups c.wide c.imports) (word_for layout fixups c.wide c.imports)
@@ -450,4 +449,3 @@ each_pointer image layout fixups chains fixup w p c r there = by (is_bound fixup
 
             told_header : header_of image ≡ Some header
             told_header = header_is_of image r.command header r.fitting r.named (header_told_by image r.command r.at header r.place (known_header image layout fixups c.wide c.imports r.at r.small c.few parts))
-

@@ -1,14 +1,13 @@
 -- What the loader reads of the imports and of words.
-use Rattle.std.proofs.Common.{◌≡◌, ◌≢◌, ◌⊎◌, ℕ, zero, suc, ◌+◌, ◌-◌, ◌*◌, ◌/◌, ◌%◌, ◌^◌, ◌<◌, ◌≤◌, ◌==◌, Bool, true, false, ℤ, pos, negsuc, List, [], ◌∷◌, ◌++◌, length, get_or, nat_le, nat_lt, position, unwrap_or, Contains, Option, Some, None, FitsSigned, Result, Ok, Err, if◌then◌else◌, refl, sym, ap, subst, ◌∙◌, inl, inr, arith, lit<}
-use Rattle.std.specs.Int.{cast_signed, cast_unsigned, w64}
+use Rattle.std.proofs.Common.{◌≡◌, ◌≢◌, ℕ, ◌+◌, ◌*◌, ◌/◌, ◌%◌, ◌^◌, ◌<◌, ◌≤◌, ◌==◌, Bool, true, false, ℤ, pos, negsuc, List, [], ◌∷◌, ◌++◌, length, get_or, nat_le, nat_lt, position, unwrap_or, Contains, Option, Some, FitsSigned, Ok, if◌then◌else◌, refl, sym, ap, ◌∙◌, inl, inr, arith, lit<}
+use Rattle.std.specs.Int.{cast_unsigned, w64}
 use Rattle.std.specs.List.{All}
-use Rattle.std.specs.Option.{option_and_then, option_map}
+use Rattle.std.specs.Option.{option_map}
 use Rattle.std.specs.Ordering.{eq_by_cmp}
 use Rattle.std.specs.List.{position_or_len}
-use Rattle.std.proofs.lemmas.Bool.{cases_Bool, cases_lt, eq-eqb, le-leb, leb-true, lt-ltb, false≢true}
+use Rattle.std.proofs.lemmas.Bool.{cases_lt, leb-true, lt-ltb, false≢true}
 use Rattle.std.proofs.lemmas.List.Quantifiers.{position-Some}
 use Rattle.std.proofs.lemmas.List.Sums.{fails_before_first}
-use Rattle.std.proofs.lemmas.List.{get_or_default}
 use Rattle.mo_bytes.specs.Number.{number_at, number_bytes}
 use Rattle.mo_bytes.proofs.Numbers.{length-number_bytes}
 use Rattle.mo_format.specs.ChainedImport.{import_word, wide_import_word}
@@ -19,21 +18,18 @@ use Rattle.mo_format.specs.declared.chained_import.ChainedImportAddend64.{Chaine
 use Rattle.mo_format.specs.declared.fixup_chains.TheConstants.{DYLD_CHAINED_IMPORT, DYLD_CHAINED_IMPORT_ADDEND64}
 use Rattle.mo_format.proofs.ImportLemmas.{import_of-import_word, wide_import_of-wide_import_word}
 use Rattle.mo_strings.specs.Strings.{string_at}
-use Rattle.mo_types.specs.Gives.{◌>>=◌}
 use Rattle.fixup_chain.specs.ImportOrder as order
 use Rattle.fixup_chain.specs.ImportOrder.{compare_imports, compare_imports_equal}
 use Rattle.fixup_chain.specs.Encoded.{format_of}
 use Rattle.fixup_chain.specs.Pool.{row_bytes}
 use Rattle.fixup_chain.specs.Words.{number_of}
 use Rattle.fixup_chain.proofs.ImportLemmas.{same_import}
-use Rattle.image_read.specs.Fixups.{import_at, known, narrow_at, narrow_import, ordinal_of, wide_at, wide_import}
-use Rattle.image_read.specs.Imports.{header_of, import_name, name_offset, name_place, wide_name_offset}
-use Rattle.image_read.specs.declared.fixups.FixupRead.{FixupRead}
+use Rattle.image_read.specs.Fixups.{import_at, known, narrow_import, ordinal_of, wide_import}
+use Rattle.image_read.specs.Imports.{header_of, import_name, name_offset, name_place}
 use Rattle.image_read.specs.declared.fixups.Import.{Import}
 use Rattle.image_read.specs.declared.imports.FixupsHeader.{FixupsHeader}
-use Rattle.chain_laws.proofs.Blob.{gap, header_told}
 use Rattle.chain_laws.proofs.ImportStanding as stand
-use Rattle.chain_laws.proofs.Standing.{Stands, known_stands, stands_as, stands_left, stands_right}
+use Rattle.chain_laws.proofs.Standing.{Stands, known_stands, stands_left, stands_right}
 use Rattle.chain_laws.proofs.Steps.{goes_on}
 
 -- ---- the number of an import

@@ -1,12 +1,11 @@
 -- Bytes that stand at a place of others, and what is read there.
-use Rattle.std.proofs.Common.{◌≡◌, ◌≢◌, ℕ, zero, suc, ◌+◌, ◌-◌, ◌*◌, ◌<◌, ◌≤◌, ◌^◌, Bool, true, false, List, [], ◌∷◌, ◌++◌, length, take, drop, nat_le, Option, Some, None, refl, sym, ap, subst, ◌∙◌, arith, lit<, append_assoc, append-nil, length-append}
+use Rattle.std.proofs.Common.{◌≡◌, ℕ, ◌+◌, ◌-◌, ◌<◌, ◌≤◌, ◌^◌, List, [], ◌∷◌, ◌++◌, length, take, drop, Some, sym, ap, subst, ◌∙◌, arith, append_assoc, length-append}
 use Rattle.std.proofs.Math.Seq.{drop-append_seam}
 use Rattle.std.proofs.lemmas.Bool.{le-leb}
 use Rattle.std.proofs.lemmas.List.{drop-drop, length-drop, take-append-drop}
 use Rattle.mo_bytes.specs.Number.{number, number_at, number_bytes}
 use Rattle.mo_bytes.proofs.Numbers.{length-number_bytes, number-number_bytes}
-use Rattle.mo_format.specs.Fields.{Field, Number, Name, field_bytes, spelled}
-use Rattle.mo_format.proofs.FieldLemmas.{AreFit, AllRead, IsFit, ReadsAs, width_of}
+use Rattle.mo_format.specs.Fields.{Field, Number, Name, spelled}
 
 pub record Stands (image : List ℕ) (at : ℕ) (bytes : List ℕ) : Type 0 where
   pub rest : List ℕ

@@ -1,24 +1,22 @@
 -- What the loader reads of the starts of chains.
-use Rattle.std.proofs.Common.{◌≡◌, ◌≢◌, ◌⊎◌, ℕ, zero, suc, ◌+◌, ◌-◌, ◌*◌, ◌/◌, ◌%◌, ◌^◌, ◌<◌, ◌≤◌, ◌==◌, Bool, true, false, List, [], ◌∷◌, ◌++◌, length, get_or, max, nat_le, nat_lt, map, Option, Some, None, Result, Ok, Err, if◌then◌else◌, refl, sym, ap, subst, ◌∙◌, inl, inr, arith, lit<, length-append}
+use Rattle.std.proofs.Common.{◌≡◌, ℕ, zero, suc, ◌+◌, ◌-◌, ◌*◌, ◌%◌, ◌^◌, ◌<◌, ◌≤◌, ◌==◌, Bool, true, false, List, [], ◌∷◌, ◌++◌, length, get_or, nat_lt, map, Option, Some, None, Ok, Err, refl, ap, ◌∙◌, inl, inr, arith, lit<, length-append}
 use Rattle.std.specs.List.{filter}
 use Rattle.std.specs.Option.{option_map_or}
-use Rattle.std.proofs.lemmas.Bool.{cases_Bool, eq-eqb, eqb-true, lt-ltb, ltb-true}
+use Rattle.std.proofs.lemmas.Bool.{eqb-true, lt-ltb, ltb-true}
 use Rattle.list_lemmas.proofs.Members.{In, from_filter, from_map, in_filter, in_map}
 use Rattle.mo_bytes.specs.Number.{number_at, number_bytes}
 use Rattle.mo_bytes.proofs.Numbers.{length-number_bytes}
 use Rattle.mo_format.specs.ChainedFixups.{chained_starts_in_image_bytes, chained_starts_in_segment_bytes, chained_starts_in_segment_fields}
 use Rattle.mo_format.specs.Fields.{spelled}
 use Rattle.mo_format.specs.declared.fixup_chains.TheConstants.{DYLD_CHAINED_PTR_64_OFFSET, DYLD_CHAINED_PTR_START_NONE}
-use Rattle.mo_types.specs.Gives.{◌>>=◌}
 use Rattle.sect_place.specs.declared.layout.Segment.{Segment}
 use Rattle.fixup_chain.specs.Places as chain
 use Rattle.fixup_chain.specs.Places.{page_in, page_of, is_in, pages_of, greatest, least}
-use Rattle.fixup_chain.specs.Starts.{lead, offset_of, offsets_from, page_starts, part_of, parts_from, segment_bytes, starts_bytes, zeros_to}
-use Rattle.image_read.specs.Fixups.{PAGE, below, known, page_start, starts_of, unless}
-use Rattle.image_read.specs.declared.fixups.FixupRead.{FixupRead}
+use Rattle.fixup_chain.specs.Starts.{lead, offset_of, offsets_from, page_starts, part_of, parts_from, segment_bytes, starts_bytes}
+use Rattle.image_read.specs.Fixups.{below, known, page_start, starts_of, unless}
 use Rattle.image_read.specs.declared.fixups.FixupRead.TheVariants.{Plain}
 use Rattle.image_read.specs.declared.imports.FixupsHeader.{FixupsHeader}
-use Rattle.chain_laws.proofs.Standing.{EachStands, Stands, fields_stand, known_stands, stands_at, stands_as, stands_left, stands_right, stands_within}
+use Rattle.chain_laws.proofs.Standing.{EachStands, Stands, fields_stand, known_stands, stands_at, stands_left, stands_right, stands_within}
 use Rattle.chain_laws.proofs.StartStanding.{offset_none, offset_stands, page_stands, part_place, part_stands, segment_stands}
 use Rattle.chain_laws.proofs.Steps.{ends, goes_on}
 
@@ -59,9 +57,9 @@ table_stands image addresses base table segments small s =
     let all : length offsets ≡ 4 * length segments = offsets_length addresses base (lead segments) segments in
     let behind : Stands image (table + 4) (offsets ++ parts) = stands_right image table (table + 4) head (offsets ++ parts) (omega (arith, size)) s in
     let whole : table + length (head ++ (offsets ++ parts)) ≤ length image =
-        stands_within image table (head ++ (offsets ++ parts)) s (let e : length (head ++ (offsets ++ parts)) ≡ length head + length (offsets ++ parts) = length-append head (offsets ++ parts) in omega (arith, e, size)) in
+    stands_within image table (head ++ (offsets ++ parts)) s (let e : length (head ++ (offsets ++ parts)) ≡ length head + length (offsets ++ parts) = length-append head (offsets ++ parts) in omega (arith, e, size)) in
     let length_is : length (head ++ (offsets ++ parts)) ≡ 4 + (4 * length segments + length parts) =
-        length-append head (offsets ++ parts) ∙ (let e : length (offsets ++ parts) ≡ length offsets + length parts = length-append offsets parts in omega (arith, e, size, all)) in
+    length-append head (offsets ++ parts) ∙ (let e : length (offsets ++ parts) ≡ length offsets + length parts = length-append offsets parts in omega (arith, e, size, all)) in
     let value_is : value ≡ length segments = omega (arith, whole, length_is, small) in
     record {
       count =
@@ -154,8 +152,8 @@ pub page_reached : (addresses : List ℕ) (segment : Segment) (a : ℕ) → In a
 unfolding pages_of
 page_reached addresses segment a h inside =
     let up : page_in segment a + 1 ≤ greatest (map (λ address. page_in segment address + 1) (filter (is_in segment) addresses)) =
-        least_of_all (map (λ address. page_in segment address + 1) (filter (is_in segment) addresses)) (page_in segment a + 1)
-        (in_map (λ (address : ℕ). page_in segment address + 1) (filter (is_in segment) addresses) a (in_filter (is_in segment) addresses a h inside)) in
+    least_of_all (map (λ address. page_in segment address + 1) (filter (is_in segment) addresses)) (page_in segment a + 1)
+    (in_map (λ (address : ℕ). page_in segment address + 1) (filter (is_in segment) addresses) a (in_filter (is_in segment) addresses a h inside)) in
     omega (arith, up)
 
 -- they are few where all pointers are on early pages
@@ -193,7 +191,7 @@ pages_stand image addresses base place segment count few low s =
     let same : place ≡ place + 0 = omega arith in
     let first : Stands image place (spelled fields) = stands_left image place (spelled fields) (page_starts addresses (page_of segment.address) count) s in
     let stand : EachStands image place 0 fields =
-        fields_stand image place 0 fields (lit< tt, size_fits, (lit< tt, lit< tt, (lit< tt, lit< tt, (lit< tt, far_fits, (lit< tt, lit< tt, (lit< tt, pages_fit, tt)))))) (stands_at image place (place + 0) (spelled fields) same first) in
+    fields_stand image place 0 fields (lit< tt, size_fits, (lit< tt, lit< tt, (lit< tt, lit< tt, (lit< tt, far_fits, (lit< tt, lit< tt, (lit< tt, pages_fit, tt)))))) (stands_at image place (place + 0) (spelled fields) same first) in
     let whole : pages ≡ count = omega (arith, few) in
     let length_is : length (spelled fields) ≡ 22 = fields_length count base segment.address in
     record {
@@ -217,7 +215,7 @@ start_read image addresses base place segment count page few low s within =
     let p = pages_stand image addresses base place segment count few low s in
     let start = chain.page_start addresses (page_of segment.address + page) in
     let told : number_at 2 image (place + 22 + 2 * page) ≡ Some start =
-        known_stands image (place + 22 + 2 * page) 2 start (lit< tt) (start_fits addresses (page_of segment.address + page)) (page_stands image addresses (place + 22) (page_of segment.address) count page within p.starts) in
+    known_stands image (place + 22 + 2 * page) 2 start (lit< tt) (start_fits addresses (page_of segment.address + page)) (page_stands image addresses (place + 22) (page_of segment.address) count page within p.starts) in
     let among : below page count ≡ Ok tt = rw (lt-ltb page count within) refl in
     let answer = unless DYLD_CHAINED_PTR_START_NONE start in
     goes_on (known (number_at 2 image (place + 6))) 6 _ answer (known_some (number_at 2 image (place + 6)) 6 p.format)

@@ -1,13 +1,11 @@
 -- The starts of chains stand where the loader looks for them.
-use Rattle.std.proofs.Common.{◌≡◌, ◌≢◌, ℕ, zero, suc, ◌+◌, ◌-◌, ◌*◌, ◌%◌, ◌^◌, ◌<◌, ◌≤◌, ◌==◌, Bool, true, false, List, [], ◌∷◌, ◌++◌, length, get_or, refl, sym, ap, subst, ◌∙◌, arith, lit<, length-append, if◌then◌else◌}
-use Rattle.mo_bytes.specs.Number.{number_at, number_bytes}
+use Rattle.std.proofs.Common.{◌≡◌, ℕ, zero, suc, ◌+◌, ◌*◌, ◌%◌, ◌^◌, ◌<◌, ◌==◌, true, false, List, [], ◌∷◌, ◌++◌, length, get_or, refl, ap, arith}
+use Rattle.mo_bytes.specs.Number.{number_bytes}
 use Rattle.mo_bytes.proofs.Numbers.{length-number_bytes}
-use Rattle.mo_format.specs.ChainedFixups.{chained_starts_in_segment_bytes, chained_starts_in_segment_fields}
-use Rattle.mo_format.specs.declared.chained_fixups.ChainedStartsInSegment.{ChainedStartsInSegment}
 use Rattle.sect_place.specs.declared.layout.Segment.{Segment}
-use Rattle.fixup_chain.specs.Places.{PAGE, page_of, page_start, pages_of}
+use Rattle.fixup_chain.specs.Places.{page_start, pages_of}
 use Rattle.fixup_chain.specs.Starts.{offset_of, offsets_from, page_starts, part_of, parts_from, segment_bytes, zeros_to}
-use Rattle.chain_laws.proofs.Standing.{Stands, known_stands, stands_at, stands_as, stands_left, stands_right, stands_within}
+use Rattle.chain_laws.proofs.Standing.{Stands, stands_at, stands_as, stands_left, stands_right}
 
 -- where the part of a segment is among the parts, by its index
 abbrev pub part_place : List ℕ → ℕ → ℕ → List Segment → ℕ → ℕ

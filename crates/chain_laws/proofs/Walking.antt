@@ -1,13 +1,11 @@
 -- The walk along a page's chain goes through the page's pointers.
-use Rattle.std.proofs.Common.{◌≡◌, ◌≢◌, ◌⊎◌, ℕ, zero, suc, ◌+◌, ◌-◌, ◌*◌, ◌/◌, ◌%◌, ◌^◌, ◌<◌, ◌≤◌, ◌==◌, ◌||◌, Bool, true, false, List, [], ◌∷◌, length, get_or, nat_le, nat_lt, Option, Some, None, Result, Ok, Err, if◌then◌else◌, refl, sym, ap, subst, ◌∙◌, inl, inr, arith}
-use Rattle.std.proofs.lemmas.Bool.{cases_eq, cases_lt, eq-eqb, eqb-true, le-leb, leb-true, lt-ltb, ltb-true}
-use Rattle.mo_types.specs.Gives.{◌>>=◌}
+use Rattle.std.proofs.Common.{◌≡◌, ◌⊎◌, ℕ, zero, suc, ◌+◌, ◌-◌, ◌*◌, ◌/◌, ◌%◌, ◌^◌, ◌<◌, ◌≤◌, ◌==◌, Bool, true, false, List, [], ◌∷◌, length, get_or, nat_lt, Some, None, Ok, refl, sym, ap, ◌∙◌, inl, inr, arith}
+use Rattle.std.proofs.lemmas.Bool.{cases_eq, cases_lt, eq-eqb, eqb-true, ltb-true}
 use Rattle.fixup_chain.specs.Encoded.{AreApart}
 use Rattle.fixup_chain.specs.Places.{addresses_of, page_of, steps_to_next}
 use Rattle.fixup_chain.specs.declared.chains.Fixup.{Fixup}
 use Rattle.fixup_chain.proofs.PlaceLemmas.{in_turn, not_below, steps_missing, steps_there}
 use Rattle.image_read.specs.Fixups.{PAGE, chain_from, held_at, held_on, known, long_at, next_of, pointer_at}
-use Rattle.image_read.specs.declared.fixups.FixupRead.{FixupRead}
 use Rattle.chain_laws.proofs.Steps.{goes_on}
 
 -- Pointers are in memory by their words, each with the distance to the next one of its page.

@@ -1,5 +1,5 @@
 -- What the loader reads of the words of pointers.
-use Rattle.std.proofs.Common.{◌≡◌, ◌≢◌, ◌⊎◌, ℕ, ◌+◌, ◌-◌, ◌*◌, ◌/◌, ◌%◌, ◌^◌, ◌<◌, ◌≤◌, ◌==◌, ◌&&◌, Bool, true, false, not, ℤ, pos, negsuc, List, length, nat_lt, nat_le, unwrap_or, Option, Some, None, FitsSigned, lit<, Result, Ok, Err, if◌then◌else◌, refl, sym, ap, subst, ◌∙◌, inl, inr, arith}
+use Rattle.std.proofs.Common.{◌≡◌, ℕ, ◌+◌, ◌/◌, ◌%◌, ◌^◌, ◌<◌, ◌≤◌, Bool, true, false, ℤ, pos, negsuc, List, nat_lt, unwrap_or, Some, None, FitsSigned, lit<, Ok, if◌then◌else◌, refl, sym, ap, ◌∙◌, arith}
 use Rattle.std.specs.Int.{cast_signed, cast_unsigned, w64}
 use Rattle.std.proofs.lemmas.Bool.{lt-ltb, ltb-true, false≢true}
 use Rattle.std.proofs.lemmas.Int.{to_z-of_z}
@@ -8,17 +8,14 @@ use Rattle.mo_format.specs.ChainedPointer.{bind_word, rebase_word}
 use Rattle.mo_format.specs.declared.chained_pointer.ChainedBind.{ChainedBind}
 use Rattle.mo_format.specs.declared.chained_pointer.ChainedRebase.{ChainedRebase}
 use Rattle.mo_format.proofs.PointerLemmas.{bind_of-bind_word, rebase_of-rebase_word}
-use Rattle.mo_types.specs.Gives.{◌>>=◌}
 use Rattle.mo_types.specs.declared.goal.Goal.{Goal}
 use Rattle.mo_types.specs.declared.goal.Goal.TheVariants as goal
-use Rattle.fixup_chain.specs.Encoded.{IMPORTS}
 use Rattle.fixup_chain.specs.ImportOrder as order
 use Rattle.fixup_chain.specs.Imports as imports
 use Rattle.fixup_chain.specs.Imports.{import_of, is_bound, is_small}
 use Rattle.fixup_chain.specs.Words.{in_rebase, number_of, word_addend, word_by}
 use Rattle.fixup_chain.specs.declared.chains.Fixup.{Fixup}
-use Rattle.image_read.specs.Fixups.{bind_of, fixup_of, import_at, next_of, ordinal_of}
-use Rattle.image_read.specs.declared.fixups.FixupRead.{FixupRead}
+use Rattle.image_read.specs.Fixups.{fixup_of, import_at, next_of, ordinal_of}
 use Rattle.image_read.specs.declared.fixups.FixupRead.TheVariants.{Bind, Rebase}
 use Rattle.image_read.specs.declared.fixups.Import.{Import}
 use Rattle.image_read.specs.declared.imports.FixupsHeader.{FixupsHeader}

@@ -1,5 +1,5 @@
 -- An image that carries the chains of some pointers, and what the loader finds in it.
-use Rattle.std.specs.Prelude.{ℕ, ◌≡◌, ◌≢◌, ◌+◌, ◌<◌, ◌≤◌, ◌^◌, Bool, true, false, ℤ, pos, negsuc, List, [], ◌∷◌, map, length, take, drop, Contains, Some, FitsSigned, if◌then◌else◌}
+use Rattle.std.specs.Prelude.{ℕ, ◌≡◌, ◌≢◌, ◌+◌, ◌<◌, ◌≤◌, ◌^◌, Bool, true, false, ℤ, pos, List, [], ◌∷◌, map, length, take, drop, Contains, Some, FitsSigned, if◌then◌else◌}
 use Rattle.std.specs.Int.{w64}
 use Rattle.std.specs.List.{All, filter}
 use Rattle.mo_bytes.specs.Number.{number_at}
@@ -8,10 +8,8 @@ use Rattle.mo_format.specs.declared.segment.SegmentCommand.{SegmentCommand}
 use Rattle.mo_types.specs.Goals.{name_of}
 use Rattle.mo_types.specs.declared.goal.Goal.{Goal}
 use Rattle.mo_types.specs.declared.goal.Goal.TheVariants as goal
-use Rattle.sect_place.specs.Whole.{IsWholeLayout}
 use Rattle.sect_place.specs.declared.layout.Layout.{Layout}
 use Rattle.sect_place.specs.declared.layout.Segment.{Segment}
-use Rattle.fixup_chain.specs.Chained.{AreChains}
 use Rattle.fixup_chain.specs.Encoded.{AreApart}
 use Rattle.fixup_chain.specs.Faults.{target_of}
 use Rattle.fixup_chain.specs.Imports.{is_bound, optional_of}

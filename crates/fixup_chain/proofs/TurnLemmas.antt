@@ -1,6 +1,6 @@
 -- The first pointer with a fault.
 use Rattle.std.proofs.Common.{◌≡◌, ◌≢◌, ℕ, ◌+◌, ◌<◌, true, List, length, get_or, Option, Some, None, is_some, refl, sym, ap, subst, ◌∙◌, inl, inr, arith}
-use Rattle.std.specs.Prelude.{Contains, MatchOption}
+use Rattle.std.specs.Prelude.{MatchOption}
 use Rattle.std.specs.Cmp.{IsTotalOrder}
 use Rattle.std.specs.Cmp.Lexicographic.{options_total}
 use Rattle.std.specs.declared.cmp.Ordering.{Ordering}
@@ -147,7 +147,4 @@ turn_ends layout fixups at x why first is e = by why e
           (subst (λ (f : Fixup). compare_turns (get_or fixups at other) f ≢ Greater) h.2 (first.first h.0 other h.1 bad));
     }
 
-pub sound_all : (layout : Layout) (fixups : List Fixup) → AreSound layout fixups (length fixups) → (fixup : Fixup) → Contains fixups fixup → fault_of layout fixup ≡ None
-sound_all layout fixups sound fixup h = subst (λ (f : Fixup). fault_of layout f ≡ None) h.2 (sound.none h.0 fixup h.1)
-
-pub ruleset ending = (turn_ends, sound_all)
+pub ruleset ending = (turn_ends)
