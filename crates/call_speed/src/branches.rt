@@ -71,7 +71,8 @@ impl<'a> Meeting for Branches<'a> {
     }
 }
 
-fn sum_of(bytes: &[u8]) -> u64 {
+/// The sum of bytes modulo 2^64.
+pub(crate) fn sum_of(bytes: &[u8]) -> u64 {
     let mut sum = 0u64;
     for byte in bytes {
         sum = sum.wrapping_add(u64::from(*byte));

@@ -4,6 +4,8 @@
 //!
 //! - `fan WORKERS JOBS STEPS`: jobs of so many steps, shared out by `par_work::fan`
 //! - `fill WORKERS ATOMS`: atoms that `image_join::fill` writes into an image
+//! - `seal WORKERS BYTES`: an image of so many bytes and its signature that `image_join::seal` seals
+//! - `hash WORKERS BYTES`: so many bytes whose pages `sign_adhoc::hash_pages` hashes
 //! - `patch ATOMS`: fields that `patch::patch_range` writes, of 4 references an atom
 //! - `archive PATH`: an archive that `mo_ar::read_archive` reads
 //! - `slots NEEDS GOALS`: needs whose slots `slot_plan::slots` lists
@@ -21,8 +23,8 @@
 //! - `object PATH COUNT NUMBER`: one of them, which is written to a file
 //!
 //! A word `then` ends a call's words, and those of another call follow. What each call counted is printed, a line each.
-//! The milliseconds that a call took go to standard error, of `fill`, `patch`, `unwind`, `section` and `generate` the
-//! microseconds; `fan`, `image`, `yaml` and `stub` are timed by the program as a whole.
+//! The milliseconds that a call took go to standard error, of `fill`, `seal`, `hash`, `patch`, `unwind`, `section` and
+//! `generate` the microseconds; `fan`, `image`, `yaml` and `stub` are timed by the program as a whole.
 #![tactic(auto)]
 
 mod branches;
@@ -38,6 +40,7 @@ mod objects;
 mod once;
 mod order;
 mod places;
+mod seals;
 mod tables;
 mod texts;
 mod unwinding;
@@ -49,6 +52,7 @@ use crate::jobs::fan_out;
 use crate::libraries::{closure_of, providers};
 use crate::made::{make_objects, write_object};
 use crate::places::places;
+use crate::seals::{hash_image, seal_image};
 use crate::tables::{archive, number_names, slot_lists};
 use crate::texts::{read_stub, read_text};
 use crate::unwinding::{unwinding, unwinding_to};
@@ -78,6 +82,8 @@ fn call_on_pair<T: Threads + Sync>(
 ) -> Result<()> {
     match name {
         "fill" => fill_by(rt, threads, first, second),
+        "seal" => seal_image(rt, threads, first, second),
+        "hash" => hash_image(rt, threads, first, second),
         "slots" => slot_lists(rt, first, second),
         "names" => number_names(rt, first, second),
         "places" => places(rt, u16::try_from(first)?, second),
