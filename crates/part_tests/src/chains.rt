@@ -171,8 +171,8 @@ struct Case {
 
 // Pointers of all kinds: an addend at the bounds of a word's, a name with two of them, all ordinals in both forms of the
 // imports, segments without pointers between others, a page's last place, and the last page and the last target there
-// are. The digests are of a writer in Python that was made apart from this one; `llvm-objdump` reads the same of those
-// whose imports are in the narrow form.
+// are. The digests are of a writer in Python that was made apart from this one; `llvm-objdump` reads the same binds where
+// the imports are in the narrow form.
 const CASES: [Case; 10] = [
     Case {
         rows: &[(None, 0, CONST, PUTS, 255)],
