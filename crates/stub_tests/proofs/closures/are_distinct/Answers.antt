@@ -2,7 +2,7 @@ use Rattle.std.proofs.Common.{◌≢◌, ℕ, List, take, get_or, subst, sym, re
 use Rattle.std.specs.List.{AllPairs}
 use Rattle.std.proofs.lemmas.List.{take_all, take_more}
 use Rattle.std.proofs.lemmas.List.Quantifiers.{all_pairs_push}
-use Rattle.read_tests.proofs.closures.are_distinct.Goals as goal
+use Rattle.stub_tests.proofs.closures.are_distinct.Goals as goal
 
 abbrev Apart : List ℕ × List ℕ → List ℕ × List ℕ → Type 0
 Apart a b = a.0 ≢ b.0

@@ -5,12 +5,21 @@ mod rows;
 ghost use Rattle.std.specs.Prelude.{◌≡◌, ◌≢◌, IsTrue, All, AllPairs, IfOk, IfSome, length, true};
 ghost use Rattle.lib_bind.specs.Named.{are_named as are_named_by};
 
-use crate::words::command_of;
 use lib_bind::{BindFault, Libraries, NamedStub, StubFileList, closure, read_stub_text};
+use mo_cmd::{Command, read_all_words};
 use mo_outside::{FileList, MemFiles};
-use mo_types::{Bytes, Items, OutOfMemory};
+use mo_types::{Arg, ArgList, Bytes, Items, OutOfMemory};
 use std::alloc::Global;
 use std::test::Fail;
+
+// The command of some words.
+fn command_of(alloc: Global, words: &str) -> Result<Option<Command>, OutOfMemory> {
+    let mut list = ArgList::new(alloc);
+    for word in words.split(' ') {
+        list.push(Arg::new(String::from_str(alloc, word)?))?;
+    }
+    Ok(read_all_words(alloc, &list).ok())
+}
 
 // Adds a document: its install name, and behind each `>` a library that it re-exports. It is of another version behind
 // a `!`, and for another machine behind a `?`.
@@ -97,8 +106,7 @@ fn closed(
     files: FileList,
     failing: u64,
 ) -> Result<Option<Libraries>, BindFault> {
-    let command = command_of(alloc, words)?;
-    let Some(command) = &command else {
+    let Some(command) = command_of(alloc, words)? else {
         return Ok(None);
     };
     if !are_distinct(files.as_slice())
@@ -109,7 +117,7 @@ fn closed(
     let mut calls = Items::new(alloc);
     calls.push(failing)?;
     let mut files = MemFiles::new(files, calls);
-    Ok(Some(closure(alloc, command, &mut files, named)?))
+    Ok(Some(closure(alloc, &command, &mut files, named)?))
 }
 
 #[test]
