@@ -3,8 +3,8 @@
 
 Links an object of clang's by `ld64.lld-VERSION` with chained fixups (16 unless told otherwise; 15 is the first that
 makes them), turns its pointers from DYLD_CHAINED_PTR_64 into DYLD_CHAINED_PTR_64_OFFSET, as macOS 12 has them, and asks
-`call_speed image` of each place of 8 bytes in the writable segments, alone, what stands there. `llvm-objdump-VERSION
---macho --dyld-info` has to list the same rebases and binds. `speed_calls.py` says how `call_speed` is built.
+`call_times image` of each place of 8 bytes in the writable segments, alone, what stands there. `llvm-objdump-VERSION
+--macho --dyld-info` has to list the same rebases and binds. `speed_calls.py` says how `call_times` is built.
 """
 import re
 import struct

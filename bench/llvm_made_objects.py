@@ -1,10 +1,10 @@
 #!/usr/bin/env python3
 """Compares what LLVM's tools list of made objects with what the numbers say: `llvm_made_objects.py`.
 
-`call_speed object` writes every object of inputs of 1 to 1,000 functions. Of each, `llvm-objdump --macho -d -r` has to list
+`call_times object` writes every object of inputs of 1 to 1,000 functions. Of each, `llvm-objdump --macho -d -r` has to list
 the stated instructions, labels, calls and relocations, and `llvm-nm -m -p` the stated symbols in their order, with the weak
 ones marked; here they are computed from the recurrence of the calls alone. All names that an input's objects call have to be
-defined, and those that aren't weak once. `speed_calls.py` says how `call_speed` is built.
+defined, and those that aren't weak once. `speed_calls.py` says how `call_times` is built.
 """
 import subprocess
 import tempfile

@@ -1,9 +1,9 @@
 #!/usr/bin/env python3
 """Compares sections of unwinding with LLVM's account of them: `llvm_unwind.py [VERSION]`.
 
-Has `call_speed section` write the sections of some functions, puts each into an image by itself, and reads it by
+Has `call_times section` write the sections of some functions, puts each into an image by itself, and reads it by
 `llvm-objdump-VERSION --macho --unwind-info` (19 unless told otherwise), which has to list a row for each function, with
-its encoding, personality and data, one where a gap begins, and where they end. `speed_calls.py` says how `call_speed` is
+its encoding, personality and data, one where a gap begins, and where they end. `speed_calls.py` says how `call_times` is
 built.
 """
 import re
@@ -34,7 +34,7 @@ def image_of(section):
 
 
 def functions_of(count, encodings, each):
-    """What `call_speed` makes: function, end, encoding, slot and data."""
+    """What `call_times` makes: function, end, encoding, slot and data."""
     for number in range(count):
         function = 0x1000 + 32 * number
         has_data = number % 4 == 0

@@ -4,7 +4,7 @@ ghost use Rattle.std.specs.Prelude.{◌≡◌, ◌+◌, ◌<◌, ◌≤◌, ◌^
 
 /// A field of an instruction word: `width` bits, of which the lowest is bit `low`.
 #[derive(Clone, Copy)]
-pub struct Field {
+pub struct BitField {
     pub low: u32,
     pub width: u32,
     ghost begins_in_word: { low < 32 },
@@ -12,7 +12,7 @@ pub struct Field {
     ghost narrow: { width < 32 },
 }
 
-impl Field {
+impl BitField {
     ghost use Rattle.arm64_insn.specs.Field.{field_at, with_field};
 
     /// The value of the field in a word.

@@ -16,37 +16,37 @@ ghost use Rattle.arm64_insn.specs.Low12.{IsWholeSteps, imm12_scale, low12_word, 
 
 mod field;
 
-use field::{Field, sign_extended, twos_complement};
+use field::{BitField, sign_extended, twos_complement};
 
 /// Bits 0 to 25 of `B` and `BL`: a signed distance in words of 4 bytes.
-const IMM26: Field = Field { low: 0, width: 26 };
+const IMM26: BitField = BitField { low: 0, width: 26 };
 
 /// Bits 5 to 23 of `ADRP`: the upper 19 bits of a signed distance in pages.
-const IMMHI: Field = Field { low: 5, width: 19 };
+const IMMHI: BitField = BitField { low: 5, width: 19 };
 
 /// Bits 29 and 30 of `ADRP`: the low 2 bits of that distance.
-const IMMLO: Field = Field { low: 29, width: 2 };
+const IMMLO: BitField = BitField { low: 29, width: 2 };
 
 /// The bits of immhi:immlo.
 const PAGE_BITS: u32 = 21;
 
 /// Bits 10 to 21 of `ADD` (immediate), and of a load or store with an unsigned offset.
-const IMM12: Field = Field { low: 10, width: 12 };
+const IMM12: BitField = BitField { low: 10, width: 12 };
 
 /// Bits 27 to 29, 111 in the loads and stores of one register.
-const LOAD_STORE: Field = Field { low: 27, width: 3 };
+const LOAD_STORE: BitField = BitField { low: 27, width: 3 };
 
 /// Bits 24 and 25 of such a load or store, 01 where its offset is unsigned.
-const ADDRESSING: Field = Field { low: 24, width: 2 };
+const ADDRESSING: BitField = BitField { low: 24, width: 2 };
 
 /// size, bits 30 and 31 of such a load or store.
-const SIZE: Field = Field { low: 30, width: 2 };
+const SIZE: BitField = BitField { low: 30, width: 2 };
 
 /// V, bit 26 of such a load or store: the register is one of SIMD and floating point.
-const VECTOR: Field = Field { low: 26, width: 1 };
+const VECTOR: BitField = BitField { low: 26, width: 1 };
 
 /// The upper bit of opc, bit 23 of such a load or store.
-const OPC_HIGH: Field = Field { low: 23, width: 1 };
+const OPC_HIGH: BitField = BitField { low: 23, width: 1 };
 
 /// The bytes that a branch reaches backwards; forwards it reaches 4 bytes less.
 const BRANCH_REACH: i64 = 1 << 27;

@@ -4,8 +4,8 @@ use Rattle.std.specs.Option.{option_and_then}
 use Rattle.std.proofs.lemmas.Bool.{le-leb}
 use Rattle.mo_bytes.specs.Number.{number, number_at}
 use Rattle.mo_bytes.proofs.Numbers.{length-number_bytes}
-use Rattle.mo_format.specs.ChainedFixups.{chained_fixups_header_fields}
-use Rattle.mo_format.specs.declared.fixup_chains.TheConstants.{DYLD_CHAINED_IMPORT, DYLD_CHAINED_IMPORT_ADDEND64}
+use Rattle.image_format.specs.ChainedFixups.{chained_fixups_header_fields}
+use Rattle.image_format.specs.declared.fixup_chains.TheConstants.{DYLD_CHAINED_IMPORT, DYLD_CHAINED_IMPORT_ADDEND64}
 use Rattle.mo_format.specs.Fields.{spelled}
 use Rattle.fixup_chain.specs.Encoded.{format_of, header_bytes, joined, padded, unit_of}
 use Rattle.fixup_chain.specs.Starts.{zeros_to}

@@ -4,7 +4,7 @@ use Rattle.std.specs.List.{All, filter}
 use Rattle.std.proofs.lemmas.Bool.{cases_Bool, cases_lt, eq-eqb, eqb-true, leb-true}
 use Rattle.std.proofs.lemmas.List.{get_or_default}
 use Rattle.list_lemmas.proofs.Members.{In, from_filter, from_map, in_filter, in_from_Contains}
-use Rattle.mo_format.specs.declared.fixup_chains.TheConstants.{DYLD_CHAINED_PTR_START_NONE}
+use Rattle.image_format.specs.declared.fixup_chains.TheConstants.{DYLD_CHAINED_PTR_START_NONE}
 use Rattle.mo_types.specs.Gives.{◌>>=◌}
 use Rattle.sect_place.specs.Whole.{IsWholeSegment}
 use Rattle.sect_place.specs.declared.layout.Segment.{Segment}

@@ -10,13 +10,13 @@ use Rattle.std.proofs.lemmas.List.Quantifiers.{position-Some}
 use Rattle.std.proofs.lemmas.List.Sums.{fails_before_first}
 use Rattle.mo_bytes.specs.Number.{number_at, number_bytes}
 use Rattle.mo_bytes.proofs.Numbers.{length-number_bytes}
-use Rattle.mo_format.specs.ChainedImport.{import_word, wide_import_word}
-use Rattle.mo_format.specs.ChainedImport as forms
+use Rattle.image_format.specs.ChainedImport.{import_word, wide_import_word}
+use Rattle.image_format.specs.ChainedImport as forms
 use Rattle.mo_format.specs.Relocation.{bit}
-use Rattle.mo_format.specs.declared.chained_import.ChainedImport.{ChainedImport}
-use Rattle.mo_format.specs.declared.chained_import.ChainedImportAddend64.{ChainedImportAddend64}
-use Rattle.mo_format.specs.declared.fixup_chains.TheConstants.{DYLD_CHAINED_IMPORT, DYLD_CHAINED_IMPORT_ADDEND64}
-use Rattle.mo_format.proofs.ImportLemmas.{import_of-import_word, wide_import_of-wide_import_word}
+use Rattle.image_format.specs.declared.chained_import.ChainedImport.{ChainedImport}
+use Rattle.image_format.specs.declared.chained_import.ChainedImportAddend64.{ChainedImportAddend64}
+use Rattle.image_format.specs.declared.fixup_chains.TheConstants.{DYLD_CHAINED_IMPORT, DYLD_CHAINED_IMPORT_ADDEND64}
+use Rattle.image_format.proofs.ImportLemmas.{import_of-import_word, wide_import_of-wide_import_word}
 use Rattle.mo_strings.specs.Strings.{string_at}
 use Rattle.fixup_chain.specs.ImportOrder as order
 use Rattle.fixup_chain.specs.ImportOrder.{compare_imports, compare_imports_equal}

@@ -6,9 +6,9 @@ use Rattle.std.proofs.lemmas.Bool.{eqb-true, lt-ltb, ltb-true}
 use Rattle.list_lemmas.proofs.Members.{In, from_filter, from_map, in_filter, in_map}
 use Rattle.mo_bytes.specs.Number.{number_at, number_bytes}
 use Rattle.mo_bytes.proofs.Numbers.{length-number_bytes}
-use Rattle.mo_format.specs.ChainedFixups.{chained_starts_in_image_bytes, chained_starts_in_segment_bytes, chained_starts_in_segment_fields}
+use Rattle.image_format.specs.ChainedFixups.{chained_starts_in_image_bytes, chained_starts_in_segment_bytes, chained_starts_in_segment_fields}
 use Rattle.mo_format.specs.Fields.{spelled}
-use Rattle.mo_format.specs.declared.fixup_chains.TheConstants.{DYLD_CHAINED_PTR_64_OFFSET, DYLD_CHAINED_PTR_START_NONE}
+use Rattle.image_format.specs.declared.fixup_chains.TheConstants.{DYLD_CHAINED_PTR_64_OFFSET, DYLD_CHAINED_PTR_START_NONE}
 use Rattle.sect_place.specs.declared.layout.Segment.{Segment}
 use Rattle.fixup_chain.specs.Places as chain
 use Rattle.fixup_chain.specs.Places.{page_in, page_of, is_in, pages_of, greatest, least}

@@ -3,11 +3,11 @@ use Rattle.std.proofs.Common.{◌≡◌, ℕ, ◌+◌, ◌/◌, ◌%◌, ◌^◌
 use Rattle.std.specs.Int.{cast_signed, cast_unsigned, w64}
 use Rattle.std.proofs.lemmas.Bool.{lt-ltb, ltb-true, false≢true}
 use Rattle.std.proofs.lemmas.Int.{to_z-of_z}
-use Rattle.mo_format.specs.ChainedPointer as pointer
-use Rattle.mo_format.specs.ChainedPointer.{bind_word, rebase_word}
-use Rattle.mo_format.specs.declared.chained_pointer.ChainedBind.{ChainedBind}
-use Rattle.mo_format.specs.declared.chained_pointer.ChainedRebase.{ChainedRebase}
-use Rattle.mo_format.proofs.PointerLemmas.{bind_of-bind_word, rebase_of-rebase_word}
+use Rattle.image_format.specs.ChainedPointer as pointer
+use Rattle.image_format.specs.ChainedPointer.{bind_word, rebase_word}
+use Rattle.image_format.specs.declared.chained_pointer.ChainedBind.{ChainedBind}
+use Rattle.image_format.specs.declared.chained_pointer.ChainedRebase.{ChainedRebase}
+use Rattle.image_format.proofs.PointerLemmas.{bind_of-bind_word, rebase_of-rebase_word}
 use Rattle.mo_types.specs.declared.goal.Goal.{Goal}
 use Rattle.mo_types.specs.declared.goal.Goal.TheVariants as goal
 use Rattle.fixup_chain.specs.ImportOrder as order

@@ -1,8 +1,9 @@
 //! The files of inputs. What is expected was worked out by hand.
 ghost use Rattle.std.specs.Prelude.{◌≢◌, AllPairs, IfOk};
 
+use command_line::Command;
 use input_fetch::{ContentList, FetchStop, fetch_inputs};
-use mo_cmd::{Command, read_all_words};
+use mo_cmd::read_all_words;
 use mo_outside::{FileList, MemFiles};
 use mo_types::{Arg, ArgList, Bytes, Items, OutOfMemory};
 use std::alloc::Global;

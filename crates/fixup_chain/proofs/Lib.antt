@@ -1,4 +1,3 @@
-pub mod AddressLemmas
 pub mod Appends
 pub mod BlobLemmas
 pub mod EncodeLemmas

@@ -8,7 +8,7 @@ use Rattle.fixup_chain.specs.Encoded.{AreApart}
 use Rattle.fixup_chain.specs.Places.{PAGE, page_of, addresses_of, steps_to_next, page_start, pages_of}
 use Rattle.fixup_chain.specs.inner.Near.{IsThere, address_at, last_address, pages_by, start_by, steps_by}
 use Rattle.fixup_chain.specs.declared.chains.Fixup.{Fixup}
-use Rattle.mo_format.specs.declared.fixup_chains.TheConstants.{DYLD_CHAINED_PTR_START_NONE}
+use Rattle.image_format.specs.declared.fixup_chains.TheConstants.{DYLD_CHAINED_PTR_START_NONE}
 use Rattle.fixup_chain.proofs.PlaceLemmas.{in_turn, not_below, pages_missing, pages_there, start_missing, start_there, steps_missing, steps_there}
 
 -- ---- the address at an index

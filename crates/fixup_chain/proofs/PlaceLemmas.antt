@@ -10,7 +10,7 @@ use Rattle.sect_place.specs.declared.layout.Segment.{Segment}
 use Rattle.fixup_chain.specs.Encoded.{AreApart}
 use Rattle.fixup_chain.specs.Places.{PAGE, page_of, addresses_of, least, greatest, is_after, next_after, steps_to_next, page_start, is_in, page_in, pages_of}
 use Rattle.fixup_chain.specs.declared.chains.Fixup.{Fixup}
-use Rattle.mo_format.specs.declared.fixup_chains.TheConstants.{DYLD_CHAINED_PTR_START_NONE}
+use Rattle.image_format.specs.declared.fixup_chains.TheConstants.{DYLD_CHAINED_PTR_START_NONE}
 
 -- ---- the least of some numbers, and the greatest
 

@@ -5,7 +5,7 @@ use Rattle.fixup_chain.specs.Places.{addresses_of, page_start}
 use Rattle.sect_place.specs.declared.layout.Segment.{Segment}
 use Rattle.std.proofs.lemmas.List.{drop_all, drop_more, length-replicate}
 use Rattle.fixup_chain.specs.Starts.{lead, offset_of, offsets_from, page_starts, part_of, parts_from, starts_bytes, zeros_to}
-use Rattle.mo_format.specs.ChainedFixups.{chained_starts_in_image_bytes}
+use Rattle.image_format.specs.ChainedFixups.{chained_starts_in_image_bytes}
 use Rattle.fixup_chain.specs.declared.chains.Fixup.{Fixup}
 
 pub record IsPaging (fixups : List Fixup) (page count : ℕ) (old : List ℕ) (at : ℕ) (now : List ℕ) : Type 0 where

@@ -2,8 +2,8 @@
 -- (`fixup-chains.h`: dyld_chained_fixups_header).
 use Rattle.std.specs.Prelude.{ℕ, ◌+◌, ◌^◌, ◌≤◌, ◌%◌, Bool, List, [], ◌∷◌, ◌++◌, length, if◌then◌else◌}
 use Rattle.std.specs.List.{AllPairs}
-use Rattle.mo_format.specs.ChainedFixups.{chained_fixups_header_bytes}
-use Rattle.mo_format.specs.declared.fixup_chains.TheConstants.{DYLD_CHAINED_IMPORT, DYLD_CHAINED_IMPORT_ADDEND64}
+use Rattle.image_format.specs.ChainedFixups.{chained_fixups_header_bytes}
+use Rattle.image_format.specs.declared.fixup_chains.TheConstants.{DYLD_CHAINED_IMPORT, DYLD_CHAINED_IMPORT_ADDEND64}
 use Rattle.fixup_chain.specs.ImportOrder.{Import}
 use Rattle.fixup_chain.specs.Imports.{pool_of}
 use Rattle.fixup_chain.specs.Pool.{rows_from}

@@ -1,9 +1,9 @@
 -- Where pointers lead, and which of them can't be on a chain (`fixup-chains.h`: dyld_chained_ptr_64_rebase,
 -- dyld_chained_starts_in_segment).
 use Rattle.std.specs.Prelude.{ℕ, ◌≡◌, ◌≢◌, ◌+◌, ◌-◌, ◌%◌, ◌==◌, ◌&&◌, ◌||◌, Bool, true, not, nat_le, nat_lt, is_none, is_some, unwrap_or, ℤ, pos, ◌+ℤ◌, ◌-ℤ◌, List, Contains, codes, Option, Some, None, if◌then◌else◌}
-use Rattle.std.specs.List.{AllPairs, find, list_any}
-use Rattle.std.specs.Option.{option_cmp, option_map, option_map_or}
-use Rattle.std.specs.Ordering.{is_eq, nat_cmp, on, then_cmp}
+use Rattle.std.specs.List.{find, list_any}
+use Rattle.std.specs.Option.{option_cmp, option_map_or}
+use Rattle.std.specs.Ordering.{nat_cmp, on, then_cmp}
 use Rattle.std.specs.Str.{bytes_eq}
 use Rattle.std.specs.declared.cmp.Ordering.{Ordering}
 use Rattle.std.specs.declared.cmp.Ordering.TheVariants.{Greater}
@@ -12,9 +12,8 @@ use Rattle.mo_types.specs.declared.cause.RangeKind.{RangeKind}
 use Rattle.mo_types.specs.declared.cause.RangeKind.TheVariants.{FixupPlace, RebaseTarget}
 use Rattle.mo_types.specs.declared.goal.Goal.{Goal}
 use Rattle.mo_types.specs.declared.goal.Goal.TheVariants as goal
-use Rattle.mo_types.specs.declared.key.AtomKey.{AtomKey}
+use Rattle.sect_place.specs.Addresses.{address_in}
 use Rattle.sect_place.specs.declared.layout.Layout.{Layout}
-use Rattle.sect_place.specs.declared.layout.Placed.{Placed}
 use Rattle.sect_place.specs.declared.layout.Segment.{Segment}
 use Rattle.fixup_chain.specs.Imports.{is_bound}
 use Rattle.fixup_chain.specs.Places.{PAGE, is_in, page_in}
@@ -22,14 +21,6 @@ use Rattle.fixup_chain.specs.Words.{in_rebase}
 use Rattle.fixup_chain.specs.declared.chains.ChainFault.{ChainFault}
 use Rattle.fixup_chain.specs.declared.chains.ChainFault.TheVariants as fault
 use Rattle.fixup_chain.specs.declared.chains.Fixup.{Fixup}
-
--- no atom stands in two places
-abbrev pub AreOnce : List Placed → Type 0
-AreOnce placed = AllPairs (λ p q. p.atom ≢ q.atom) placed
-
--- the address of an atom
-unfoldable pub address_in : List Placed → AtomKey → Option ℕ
-address_in placed key = option_map (λ p. p.address) (find (λ p. is_eq (compare_keys p.atom key)) placed)
 
 abbrev pub is_text : Segment → Bool
 is_text segment = bytes_eq segment.name (codes "__TEXT")

@@ -1,7 +1,7 @@
 -- The imports as they stand in the file, each with the place of its name in the pool.
 use Rattle.std.specs.Prelude.{ℕ, ◌+◌, ◌%◌, ◌^◌, Bool, true, false, List, [], ◌∷◌, ◌++◌, length}
 use Rattle.std.specs.Int.{cast_unsigned, w64}
-use Rattle.mo_format.specs.ChainedImport.{chained_import_bytes, chained_import_addend64_bytes}
+use Rattle.image_format.specs.ChainedImport.{chained_import_bytes, chained_import_addend64_bytes}
 use Rattle.fixup_chain.specs.ImportOrder.{Import}
 use Rattle.fixup_chain.specs.Imports.{last_name}
 

@@ -2,8 +2,8 @@
 -- dyld_chained_starts_in_segment).
 use Rattle.std.specs.Prelude.{ℕ, zero, suc, ◌+◌, ◌-◌, ◌*◌, ◌%◌, ◌^◌, ◌==◌, List, [], ◌∷◌, ◌++◌, length, replicate, if◌then◌else◌}
 use Rattle.mo_bytes.specs.Number.{number_bytes}
-use Rattle.mo_format.specs.ChainedFixups.{chained_starts_in_image_bytes, chained_starts_in_segment_bytes}
-use Rattle.mo_format.specs.declared.fixup_chains.TheConstants.{DYLD_CHAINED_PTR_64_OFFSET}
+use Rattle.image_format.specs.ChainedFixups.{chained_starts_in_image_bytes, chained_starts_in_segment_bytes}
+use Rattle.image_format.specs.declared.fixup_chains.TheConstants.{DYLD_CHAINED_PTR_64_OFFSET}
 use Rattle.sect_place.specs.declared.layout.Segment.{Segment}
 use Rattle.fixup_chain.specs.Places.{PAGE, page_of, page_start, pages_of}
 

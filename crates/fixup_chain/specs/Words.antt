@@ -2,7 +2,7 @@
 use Rattle.std.specs.Prelude.{ℕ, ◌%◌, ◌^◌, nat_lt, Bool, ℤ, pos, negsuc, List, map, position, Option, Some, None, unwrap_or, if◌then◌else◌}
 use Rattle.std.specs.Int.{cast_unsigned, w64}
 use Rattle.std.specs.Ordering.{eq_by_cmp}
-use Rattle.mo_format.specs.ChainedPointer.{bind_word, rebase_word}
+use Rattle.image_format.specs.ChainedPointer.{bind_word, rebase_word}
 use Rattle.fixup_chain.specs.ImportOrder.{Import, compare_imports}
 use Rattle.fixup_chain.specs.Imports.{import_of, is_bound}
 use Rattle.fixup_chain.specs.Places.{addresses_of, steps_to_next}

@@ -4,8 +4,8 @@ ghost use Rattle.fixup_chain.specs.Encoded as encoded;
 
 use crate::pool::Table;
 use crate::starts::put_zeros;
-use mo_format::ChainedFixupsHeader;
-use mo_format::fixup_chains::{DYLD_CHAINED_IMPORT, DYLD_CHAINED_IMPORT_ADDEND64};
+use image_format::ChainedFixupsHeader;
+use image_format::fixup_chains::{DYLD_CHAINED_IMPORT, DYLD_CHAINED_IMPORT_ADDEND64};
 use mo_types::OutOfMemory;
 use std::alloc::Global;
 

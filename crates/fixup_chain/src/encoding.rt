@@ -9,6 +9,7 @@ ghost use Rattle.fixup_chain.specs.Places.{addresses_of};
 ghost use Rattle.fixup_chain.specs.Pool.{rows_from};
 ghost use Rattle.fixup_chain.specs.Words as words;
 ghost use Rattle.fixup_chain.specs.inner.Turn.{IsFirst};
+ghost use Rattle.sect_place.specs.Addresses.{AreOnce};
 
 use crate::blob::joined;
 use crate::chains::{ChainFault, ChainWord, Chains, Fixup, FixupList, WordList};
@@ -42,7 +43,7 @@ fn walk(
     fixups: &[Fixup],
 ) -> Result<Walked, OutOfMemory>
     requires apart { AreApart fixups.now }
-    requires once { faults.AreOnce layout.now.placed }
+    requires once { AreOnce layout.now.placed }
     requires base { base ≡ faults.base_of layout.now.segments }
     requires few { length formed.now.imports.keys < encoded.IMPORTS }
     ensures words { IfOk result (λ walked. walked.words ≡ words.words_of (faults.target_of layout.now) formed.now.wide formed.now.imports.keys fixups.now) }
@@ -95,7 +96,7 @@ fn blob_of(
 /// with the least address comes first, then that of the least atom and place.
 pub fn encode(alloc: Global, fixups: &FixupList, layout: &Layout) -> Result<Chains, ChainFault>
     requires apart { AreApart fixups.now }
-    requires once { faults.AreOnce layout.now.placed }
+    requires once { AreOnce layout.now.placed }
     ensures chains { IfOk result (AreChains layout.now fixups.now) }
     ensures fault { IfErr result (IsCause layout.now fixups.now) }
 {

@@ -7,6 +7,7 @@ ghost use Rattle.fixup_chain.specs.Places as places;
 ghost use Rattle.fixup_chain.specs.Words as words;
 ghost use Rattle.fixup_chain.specs.declared.chains.Fixup.{Fixup};
 ghost use Rattle.fixup_chain.specs.inner.Turn.{AreSound, IsFirst};
+ghost use Rattle.sect_place.specs.Addresses.{AreOnce};
 
 use crate::chains::{ChainFault, Fixup};
 use crate::goals::is_bound;
@@ -136,7 +137,7 @@ pub(crate) fn first_fault(
     fixups: &[Fixup],
     first: Option<usize>,
 ) -> Option<ChainFault>
-    requires once { spec.AreOnce layout.now.placed }
+    requires once { AreOnce layout.now.placed }
     requires base { base ≡ spec.base_of layout.now.segments }
     requires first { IsFirst layout.now fixups.now (length fixups.now) first }
     ensures { MatchOption result (AreSound layout.now fixups.now (length fixups.now)) (spec.IsFirstFault layout.now fixups.now) }

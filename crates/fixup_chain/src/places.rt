@@ -6,7 +6,7 @@ ghost use Rattle.fixup_chain.specs.Places as places;
 ghost use Rattle.fixup_chain.specs.inner.Near as near;
 
 use crate::chains::Fixup;
-use mo_format::fixup_chains::DYLD_CHAINED_PTR_START_NONE;
+use image_format::fixup_chains::DYLD_CHAINED_PTR_START_NONE;
 use sect_place::Segment;
 
 /// The bytes of a page.

@@ -6,7 +6,7 @@ ghost use Rattle.std.specs.Option.{option_copied};
 ghost use Rattle.fixup_chain.specs.inner.Held.{name_before};
 
 use crate::import::Import;
-use mo_format::{ChainedImport, ChainedImportAddend64};
+use image_format::{ChainedImport, ChainedImportAddend64};
 use mo_types::OutOfMemory;
 use std::alloc::Global;
 

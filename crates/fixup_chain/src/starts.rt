@@ -7,8 +7,8 @@ ghost use Rattle.fixup_chain.specs.Starts as starts;
 
 use crate::chains::Fixup;
 use crate::places::{PAGE, page_start, pages_of};
-use mo_format::fixup_chains::DYLD_CHAINED_PTR_64_OFFSET;
-use mo_format::{ChainedStartsInImage, ChainedStartsInSegment};
+use image_format::fixup_chains::DYLD_CHAINED_PTR_64_OFFSET;
+use image_format::{ChainedStartsInImage, ChainedStartsInSegment};
 use mo_types::OutOfMemory;
 use sect_place::Segment;
 use std::alloc::Global;

@@ -3,6 +3,7 @@ ghost use Rattle.std.specs.Prelude.{◌≡◌, ◌<◌, ◌^◌};
 ghost use Rattle.std.specs.List.{find};
 ghost use Rattle.std.specs.Option.{option_copied};
 ghost use Rattle.fixup_chain.specs.Faults as spec;
+ghost use Rattle.sect_place.specs.Addresses.{AreOnce, address_in};
 
 use crate::chains::Fixup;
 use mo_types::{AtomKey, Goal};
@@ -32,15 +33,15 @@ pub(crate) fn is_text(segment: &Segment) -> bool
 }
 
 fn address_of(layout: &Layout, atom: AtomKey) -> Option<u64>
-    requires { spec.AreOnce layout.now.placed }
-    ensures { result ≡ spec.address_in layout.now.placed atom }
+    requires { AreOnce layout.now.placed }
+    ensures { result ≡ address_in layout.now.placed atom }
 {
     address(layout, atom)
 }
 
 #[tactic(auto, unfolding(crate::specs::Faults::goal_address))]
 fn goal_address(layout: &Layout, base: u64, goal: &Goal) -> u128
-    requires once { spec.AreOnce layout.now.placed }
+    requires once { AreOnce layout.now.placed }
     requires base { base ≡ spec.base_of layout.now.segments }
     ensures value { result ≡ spec.goal_address layout.now goal.now }
     ensures small { result < 2 ^ 65 }
@@ -60,7 +61,7 @@ fn goal_address(layout: &Layout, base: u64, goal: &Goal) -> u128
 /// The offset of what a pointer leads to that is rebased, in an image that begins at `base`.
 #[tactic(auto, unfolding(crate::specs::Faults::target_of))]
 pub(crate) fn target_of(layout: &Layout, base: u64, fixup: &Fixup) -> i128
-    requires once { spec.AreOnce layout.now.placed }
+    requires once { AreOnce layout.now.placed }
     requires base { base ≡ spec.base_of layout.now.segments }
     ensures { result ≡ spec.target_of layout.now fixup.now }
 {

@@ -7,8 +7,8 @@ use crate::chains::Fixup;
 use crate::goals::is_bound;
 use crate::import::Import;
 use crate::imports::Formed;
+use image_format::{ChainedBind, ChainedRebase};
 use indexmap::IndexSet;
-use mo_format::{ChainedBind, ChainedRebase};
 
 /// The offset, where a rebase has room for it.
 pub(crate) fn in_rebase(target: i128) -> Option<u64>

@@ -13,7 +13,7 @@ use Rattle.mo_types.specs.Rows.{field_size, first_before, is_authenticated, is_f
 use Rattle.mo_types.specs.declared.object.RawReloc.{RawReloc}
 use Rattle.mo_types.specs.declared.object.Section.{Section}
 use Rattle.mo_types.specs.declared.object.Symbol.{Symbol}
-use Rattle.mo_types.specs.declared.reference.Field.{Field}
+use Rattle.mo_types.specs.declared.reference.FieldRange.{FieldRange}
 use Rattle.mo_types.specs.declared.reference.RefKind.{RefKind}
 use Rattle.mo_types.specs.declared.reference.RefKind.TheVariants.{Branch}
 use Rattle.mo_obj.specs.Rules.{IsBadRelocation}
@@ -77,7 +77,7 @@ kind_there made r low =
     ∙ ap (option_and_then (kind_of None)) (last_there made r low)
 
 -- the bytes of an instruction
-field_of : ℕ → Field
+field_of : ℕ → FieldRange
 field_of r = record { offset = 16 * (r / 3) + 4 * (r % 3); size = 4 }
 
 field_there : (made : MadeObject) (r : ℕ) → r < 3 * function_count made → field_at (calls_of made) r ≡ Some (field_of r)
@@ -85,7 +85,7 @@ unfolding field_at call_at field_of
 field_there made r low =
     ap (option_and_then (λ (kind : RefKind). option_and_then (λ (reloc : RawReloc). when (nat_lt reloc.address (2 ^ 31)) (record { offset = reloc.address; size = field_size kind })) (slice_get (calls_of made) r))) (kind_there made r low)
     ∙ ap (option_and_then (λ (reloc : RawReloc). when (nat_lt reloc.address (2 ^ 31)) (record { offset = reloc.address; size = 4 }))) (call_there made r low)
-    ∙ ap (λ (b : Bool). let field : Option Field = when b (record { offset = 16 * (r / 3) + 4 * (r % 3); size = 4 }) in field) (lt-ltb (16 * (r / 3) + 4 * (r % 3)) (2 ^ 31) (omega arith))
+    ∙ ap (λ (b : Bool). let field : Option FieldRange = when b (record { offset = 16 * (r / 3) + 4 * (r % 3); size = 4 }) in field) (lt-ltb (16 * (r / 3) + 4 * (r % 3)) (2 ^ 31) (omega arith))
 
 -- ---- Pair, Shape
 
@@ -158,7 +158,7 @@ alone made r low = none_passes (λ (other : ℕ). not (other == r) && option_map
       | inl e ↦ ap (λ (b : Bool). not b && option_map_or (overlap (field_of r)) (field_at (calls_of made) other) false) (eq-eqb other r e)
       | inr ne ↦
           ap (λ (b : Bool). not b && option_map_or (overlap (field_of r)) (field_at (calls_of made) other) false) (ne_eqb other r ne)
-          ∙ ap (λ (o : Option Field). option_map_or (overlap (field_of r)) o false) there
+          ∙ ap (λ (o : Option FieldRange). option_map_or (overlap (field_of r)) o false) there
           ∙ apart r other ne
     ])
 
@@ -191,7 +191,7 @@ good_field made r is_made low = joined _ _ _ _ (inside made r is_made low) (alig
 well_placed : (made : MadeObject) (r : ℕ) → IsMade made → r < 3 * function_count made → is_misplaced (made_object made) 1 (text_section made) r Branch ≡ false
 well_placed made r is_made low =
     ap (λ (l : List RawReloc). option_map_or (is_bad_field (made_object made) 1 (text_section made) r Branch) (field_at l r) true) (relocs_are made)
-    ∙ ap (λ (o : Option Field). option_map_or (is_bad_field (made_object made) 1 (text_section made) r Branch) o true) (field_there made r low)
+    ∙ ap (λ (o : Option FieldRange). option_map_or (is_bad_field (made_object made) 1 (text_section made) r Branch) o true) (field_there made r low)
     ∙ good_field made r is_made low
 
 place_kept : (made : MadeObject) (r : ℕ) → IsMade made → r < 3 * function_count made → place_fault (made_object made) 1 (text_section made) r ≡ None
@@ -220,11 +220,11 @@ nameable sections symbol = by symbol.place
     by None = refl
     by (Some p) = refl
 
-by_number : (made : MadeObject) (r : ℕ) (contents : List ℕ) (field : Field) → is_bad_target (made_object made) contents field (call_at made r) ≡ option_map_or (is_unnameable (made_object made).sections) (slice_get (made_object made).symbols (call_at made r).number) true
+by_number : (made : MadeObject) (r : ℕ) (contents : List ℕ) (field : FieldRange) → is_bad_target (made_object made) contents field (call_at made r) ≡ option_map_or (is_unnameable (made_object made).sections) (slice_get (made_object made).symbols (call_at made r).number) true
 unfolding call_at
 by_number made r contents field = refl
 
-good_target : (made : MadeObject) (r : ℕ) (contents : List ℕ) (field : Field) → IsMade made → r < 3 * function_count made → is_bad_target (made_object made) contents field (call_at made r) ≡ false
+good_target : (made : MadeObject) (r : ℕ) (contents : List ℕ) (field : FieldRange) → IsMade made → r < 3 * function_count made → is_bad_target (made_object made) contents field (call_at made r) ≡ false
 good_target made r contents field is_made low =
     let there = symbol_there made r is_made low in
     by_number made r contents field
@@ -234,8 +234,8 @@ good_target made r contents field is_made low =
 target_kept : (made : MadeObject) (r : ℕ) → IsMade made → r < 3 * function_count made → target_fault (made_object made) 1 (text_section made) r ≡ None
 unfolding target_fault
 target_kept made r is_made low =
-    ap (λ (l : List RawReloc). option_and_then (λ (field : Field). option_and_then (λ (reloc : RawReloc). if option_map_or (λ first. is_subtractor first && is_bad_target (made_object made) (text_section made).bytes field first) (first_before l r) false then Some (r - 1) else when (is_bad_target (made_object made) (text_section made).bytes field reloc) r) (last_at l r)) (field_at l r)) (relocs_are made)
-    ∙ ap (option_and_then (λ (field : Field). option_and_then (λ (reloc : RawReloc). if option_map_or (λ first. is_subtractor first && is_bad_target (made_object made) (text_section made).bytes field first) (first_before (calls_of made) r) false then Some (r - 1) else when (is_bad_target (made_object made) (text_section made).bytes field reloc) r) (last_at (calls_of made) r))) (field_there made r low)
+    ap (λ (l : List RawReloc). option_and_then (λ (field : FieldRange). option_and_then (λ (reloc : RawReloc). if option_map_or (λ first. is_subtractor first && is_bad_target (made_object made) (text_section made).bytes field first) (first_before l r) false then Some (r - 1) else when (is_bad_target (made_object made) (text_section made).bytes field reloc) r) (last_at l r)) (field_at l r)) (relocs_are made)
+    ∙ ap (option_and_then (λ (field : FieldRange). option_and_then (λ (reloc : RawReloc). if option_map_or (λ first. is_subtractor first && is_bad_target (made_object made) (text_section made).bytes field first) (first_before (calls_of made) r) false then Some (r - 1) else when (is_bad_target (made_object made) (text_section made).bytes field reloc) r) (last_at (calls_of made) r))) (field_there made r low)
     ∙ ap (λ (o : Option RawReloc). option_and_then (λ (reloc : RawReloc). if option_map_or (λ first. is_subtractor first && is_bad_target (made_object made) (text_section made).bytes (field_of r) first) o false then Some (r - 1) else when (is_bad_target (made_object made) (text_section made).bytes (field_of r) reloc) r) (last_at (calls_of made) r)) (none_before made r low)
     ∙ ap (option_and_then (λ (reloc : RawReloc). when (is_bad_target (made_object made) (text_section made).bytes (field_of r) reloc) r)) (last_there made r low)
     ∙ ap (λ (b : Bool). when b r) (good_target made r (text_section made).bytes (field_of r) is_made low)

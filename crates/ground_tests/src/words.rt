@@ -1,6 +1,5 @@
-use mo_cmd::{
-    Command, InputForm, Rows, UsageFault, paths_for, read_all_words, read_list, read_words,
-};
+use command_line::{Command, InputForm, paths_for};
+use mo_cmd::{Rows, UsageFault, read_all_words, read_list, read_words};
 use mo_types::{Arg, ArgList, Bytes, Feature, Items, NameList, ObjFault, OutOfMemory, UsageRule};
 use std::alloc::Global;
 use std::test::Fail;

@@ -11,7 +11,7 @@ use Rattle.mo_types.specs.Keys.{compare_keys}
 use Rattle.mo_types.specs.declared.atom.Atom.{Atom}
 use Rattle.mo_types.specs.declared.key.AtomKey.{AtomKey}
 use Rattle.mo_types.proofs.KeyOrder.{compare_keys_total}
-use Rattle.key_hints.proofs.Keys.{find_found, find_missing, sorted_from_rising}
+use Rattle.atom_index.proofs.Keys.{find_found, find_missing, sorted_from_rising}
 use Rattle.literal_merge.specs.declared.representative.Representative.{Representative}
 use Rattle.image_make.specs.Atoms.{atom_of, kept_as, kept_at, raised}
 use Rattle.image_make.specs.declared.kept.KeptAtom.{KeptAtom}

@@ -12,12 +12,12 @@ use Rattle.mo_types.proofs.KeyOrder.{compare_keys_total}
 use Rattle.mo_types.specs.Keys.{compare_keys}
 use Rattle.lib_bind.specs.declared.library.LibraryGraph.{LibraryGraph}
 use Rattle.load_cmds.specs.Sizes.{other_size}
-use Rattle.mo_cmd.specs.declared.command.Command.{Command}
+use Rattle.command_line.specs.declared.command.Command.{Command}
 use Rattle.mo_types.specs.declared.atom.Atom.{Atom}
 use Rattle.mo_types.specs.declared.loaded.LoadedFile.{LoadedFile}
 use Rattle.mo_types.specs.declared.out_section.OutSection.{OutSection}
 use Rattle.sect_place.specs.Layout.{plan_of}
-use Rattle.sect_place.specs.OutSections.{out_sections}
+use Rattle.sect_list.specs.OutSections.{out_sections}
 use Rattle.sect_place.specs.declared.island.IslandPlan.{IslandPlan}
 use Rattle.sect_place.specs.declared.layout.Placed.{Placed}
 use Rattle.slot_plan.specs.declared.list.Slots.{Slots}
@@ -29,7 +29,7 @@ use Rattle.patch.specs.declared.met.RangeFault.{RangeFault}
 use Rattle.patch.specs.Range.{AreStanding, AreWork, HasFields, IsLeastFault, IsPlaced, IsSameBeside}
 use Rattle.patch.specs.declared.met.Met.{Met}
 use Rattle.patch.specs.declared.range.PlacedWork.{PlacedWork}
-use Rattle.image_make.specs.Addresses.{AreOnce}
+use Rattle.sect_place.specs.Addresses.{AreOnce}
 
 less_not_equal : Less ≡ Equal → ⊥
 less_not_equal e = cc

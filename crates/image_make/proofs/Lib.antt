@@ -1,5 +1,4 @@
 mod LaidLemmas
-pub mod AddressLemmas
 pub mod GrowLemmas
 pub mod KeptLemmas
 pub mod KeptListLemmas

@@ -1,9 +1,6 @@
 -- Where the places stand to which references lead.
-use Rattle.std.specs.Prelude.{ℕ, ◌+◌, ◌≢◌, List, Option, slice_get, unwrap_or}
-use Rattle.std.specs.List.{AllPairs, find}
-use Rattle.std.specs.Option.{option_map, option_map_or}
-use Rattle.std.specs.Ordering.{is_eq}
-use Rattle.mo_types.specs.Keys.{compare_keys}
+use Rattle.std.specs.Prelude.{ℕ, ◌+◌, List, slice_get, unwrap_or}
+use Rattle.std.specs.Option.{option_map_or}
 use Rattle.mo_types.specs.declared.goal.Goal.{Goal}
 use Rattle.mo_types.specs.declared.goal.Goal.TheVariants.{Def, WeakSelf, Header, Nobody}
 use Rattle.mo_types.specs.declared.key.AtomKey.{AtomKey}
@@ -11,15 +8,8 @@ use Rattle.mo_types.specs.declared.reference.Target.{Target}
 use Rattle.mo_types.specs.declared.reference.Target.TheVariants.{Name, Local}
 use Rattle.resolve.specs.Goals.{goal_at}
 use Rattle.literal_merge.specs.declared.representative.Representative.{Representative}
+use Rattle.sect_place.specs.Addresses.{address_in}
 use Rattle.sect_place.specs.declared.layout.Placed.{Placed}
-
--- no atom stands in two places
-abbrev pub AreOnce : List Placed → Type 0
-AreOnce placed = AllPairs (λ p q. p.atom ≢ q.atom) placed
-
--- the address of an atom
-unfoldable pub address_in : List Placed → AtomKey → Option ℕ
-address_in placed key = option_map (λ p. p.address) (find (λ p. is_eq (compare_keys p.atom key)) placed)
 
 -- a place in an atom
 abbrev pub place_address : List Placed → AtomKey → ℕ → ℕ

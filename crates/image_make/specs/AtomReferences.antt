@@ -3,7 +3,8 @@ use Rattle.std.specs.Prelude.{◌≡◌, List, map}
 use Rattle.resolve.specs.Table.{goals_of}
 use Rattle.patch.specs.declared.met.Met.{Met}
 use Rattle.patch.specs.declared.range.PlacedWork.{PlacedWork}
-use Rattle.image_make.specs.Addresses.{AreOnce, Addressing}
+use Rattle.image_make.specs.Addresses.{Addressing}
+use Rattle.sect_place.specs.Addresses.{AreOnce}
 use Rattle.image_make.specs.Rows.{kept_mets}
 use Rattle.image_make.specs.declared.meeting.AtomReferences.{AtomReferences}
 use Rattle.image_make.specs.inner.Orders.{AreOrders}

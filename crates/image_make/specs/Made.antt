@@ -12,7 +12,7 @@ use Rattle.load_cmds.specs.Sizes.{other_size}
 use Rattle.load_cmds.specs.declared.parts.PartKinds.{PartKinds}
 use Rattle.load_cmds.specs.declared.parts.PartPlace.{PartPlace}
 use Rattle.load_cmds.specs.declared.parts.PartSizes.{PartSizes}
-use Rattle.mo_cmd.specs.declared.command.Command.{Command}
+use Rattle.command_line.specs.declared.command.Command.{Command}
 use Rattle.mo_types.specs.declared.goal.Goal.{Goal}
 use Rattle.mo_types.specs.declared.key.AtomKey.{AtomKey}
 use Rattle.mo_types.specs.declared.loaded.LoadedFile.{LoadedFile}
@@ -21,7 +21,7 @@ use Rattle.patch.specs.declared.range.PlacedWork.{PlacedWork}
 use Rattle.patch.specs.Range.{AreWork, IsLeastFault, IsPlaced, IsSameBeside}
 use Rattle.literal_merge.specs.declared.representative.Representative.{Representative}
 use Rattle.sect_place.specs.Layout.{IsLayoutOf, IsTooLarge, Plan, base_of, image_size, plan_of}
-use Rattle.sect_place.specs.OutSections.{out_sections}
+use Rattle.sect_list.specs.OutSections.{out_sections}
 use Rattle.sect_place.specs.declared.island.IslandPlan.{IslandPlan}
 use Rattle.sect_place.specs.declared.layout.Layout.{Layout}
 use Rattle.sect_place.specs.declared.layout.Segment.{Segment}

@@ -10,7 +10,8 @@ use Rattle.patch.specs.declared.met.Met.{Met}
 use Rattle.patch.specs.declared.range.PlacedWork.{PlacedWork}
 use Rattle.sect_place.specs.declared.layout.Placed.{Placed}
 use Rattle.sect_place.specs.declared.layout.PlacedSection.{PlacedSection}
-use Rattle.image_make.specs.Addresses.{Addressing, address_in}
+use Rattle.image_make.specs.Addresses.{Addressing}
+use Rattle.sect_place.specs.Addresses.{address_in}
 use Rattle.image_make.specs.Atoms.{kept_at}
 use Rattle.image_make.specs.Mets.{mets_of}
 use Rattle.image_make.specs.declared.kept.KeptAtom.{KeptAtom}

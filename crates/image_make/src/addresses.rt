@@ -5,6 +5,7 @@ ghost use Rattle.resolve.specs.Table.{AreWithin, goals_in};
 ghost use Rattle.mo_types.specs.declared.reference.Target.TheVariants as target;
 ghost use Rattle.image_make.specs.Addresses as spec;
 ghost use Rattle.image_make.specs.inner.Told.{AreTold, goal_told, scene_of, told};
+ghost use Rattle.sect_place.specs.Addresses.{AreOnce, address_in};
 
 use mo_types::{AtomKey, Goal, OutOfMemory, Target};
 use resolve::GoalTable;
@@ -25,16 +26,16 @@ pub(crate) struct Addressing<'a> {
 
 // The address of an atom.
 fn address_of(layout: &Layout, atom: AtomKey) -> Option<u64>
-    requires { spec.AreOnce layout.now.placed }
-    ensures { result ≡ spec.address_in layout.now.placed atom }
+    requires { AreOnce layout.now.placed }
+    ensures { result ≡ address_in layout.now.placed atom }
 {
     address(layout, atom)
 }
 
 // The same, of an atom that mostly stands at a place of the list of addresses.
 pub(crate) fn address_beside(layout: &Layout, near: usize, atom: AtomKey) -> Option<u64>
-    requires { spec.AreOnce layout.now.placed }
-    ensures { result ≡ spec.address_in layout.now.placed atom }
+    requires { AreOnce layout.now.placed }
+    ensures { result ≡ address_in layout.now.placed atom }
 {
     address_near(layout, near, atom)
 }
@@ -42,7 +43,7 @@ pub(crate) fn address_beside(layout: &Layout, near: usize, atom: AtomKey) -> Opt
 // The address of a place in an atom, or `None` exactly where it is 2^64 or more.
 #[tactic(auto, using(crate::proofs::ToldLemmas::tells))]
 fn place_address(layout: &Layout, atom: AtomKey, offset: u64) -> Option<u64>
-    requires { spec.AreOnce layout.now.placed }
+    requires { AreOnce layout.now.placed }
     ensures { result ≡ told (spec.place_address layout.now.placed atom offset) }
 {
     match address_of(layout, atom) {
@@ -54,7 +55,7 @@ fn place_address(layout: &Layout, atom: AtomKey, offset: u64) -> Option<u64>
 // The address of a goal, or `None` exactly where it is 2^64 or more.
 #[tactic(auto, using(crate::proofs::ToldLemmas::tells), unfolding(crate::specs::inner::Told::goal_told))]
 fn told_address(layout: &Layout, base: u64, goal: &Goal) -> Option<u64>
-    requires { spec.AreOnce layout.now.placed }
+    requires { AreOnce layout.now.placed }
     ensures { result ≡ goal_told base layout.now.placed goal.now }
 {
     match goal {
@@ -69,7 +70,7 @@ fn told_address(layout: &Layout, base: u64, goal: &Goal) -> Option<u64>
 /// more is answered as want of memory.
 #[tactic(auto, using(crate::proofs::ToldLemmas::tells), unfolding(crate::specs::inner::Told::goal_told))]
 pub fn goal_address(layout: &Layout, base: u64, goal: &Goal) -> Result<u64, OutOfMemory>
-    requires { spec.AreOnce layout.now.placed }
+    requires { AreOnce layout.now.placed }
     ensures { IfOk result (λ place. place ≡ spec.goal_address base layout.now.placed goal.now) }
 {
     match told_address(layout, base, goal) {
@@ -86,7 +87,7 @@ pub(crate) fn addresses_of(
     base: u64,
     goals: &[Goal],
 ) -> Result<Vec<Option<u64>>, OutOfMemory>
-    requires { spec.AreOnce layout.now.placed }
+    requires { AreOnce layout.now.placed }
     ensures { IfOk result (λ addresses. addresses.items ≡ map (goal_told base layout.now.placed) goals.now) }
 {
     let mut addresses = Vec::with_capacity(alloc, goals.len())?;
@@ -112,7 +113,7 @@ fn name_address(setting: &Addressing, places: &[u32], index: u32) -> Option<u64>
 // The address to which a target leads, where it has 64 bits.
 #[tactic(auto, unfolding(crate::specs::inner::Told::goal_told))]
 fn told_target(setting: &Addressing, places: &[u32], target: &Target) -> Option<u64>
-    requires once { spec.AreOnce setting.now.layout.now.placed }
+    requires once { AreOnce setting.now.layout.now.placed }
     requires told { AreTold setting.now }
     requires within { AreWithin setting.now.goals.now.pool places.now }
     ensures { result ≡ goal_told setting.now.base setting.now.layout.now.placed (spec.target_goal setting.now.winners.now.literals (goals_in setting.now.goals.now.pool places.now) target.now) }
@@ -133,7 +134,7 @@ pub(crate) fn target_address(
     places: &[u32],
     target: &Target,
 ) -> Result<u64, OutOfMemory>
-    requires once { spec.AreOnce setting.now.layout.now.placed }
+    requires once { AreOnce setting.now.layout.now.placed }
     requires told { AreTold setting.now }
     requires within { AreWithin setting.now.goals.now.pool places.now }
     ensures { IfOk result (λ place. place ≡ spec.target_address (scene_of setting.now) (goals_in setting.now.goals.now.pool places.now) target.now) }

@@ -1,6 +1,7 @@
 //! The header of an image with its load commands.
 ghost use Rattle.std.specs.Prelude.{◌≡◌, ◌-◌, IfOk};
-ghost use Rattle.image_make.specs.Addresses.{AreOnce, goal_address};
+ghost use Rattle.image_make.specs.Addresses.{goal_address};
+ghost use Rattle.sect_place.specs.Addresses.{AreOnce};
 ghost use Rattle.load_cmds.specs.Commands.{commands_of};
 ghost use Rattle.sect_place.specs.Layout.{base_of};
 ghost use Rattle.sect_place.specs.Whole.{IsWholeLayout};
@@ -8,9 +9,9 @@ ghost use Rattle.image_make.specs.Made as spec;
 
 use crate::addresses::goal_address;
 use crate::laying::NO_PARTS;
+use command_line::Command;
 use lib_bind::Libraries;
 use load_cmds::{PartPlace, PartSizes, commands};
-use mo_cmd::Command;
 use mo_types::{Bytes, Goal, OutOfMemory};
 use sect_place::Layout;
 use std::alloc::Global;

@@ -3,7 +3,7 @@ ghost use Rattle.std.specs.Prelude.{◌≡◌, ◌≤◌, ◌<◌, ◌^◌, All,
 ghost use Rattle.std.specs.List.{AllPairs};
 ghost use Rattle.std.specs.List.Sorted.{IsStrictlySortedBy};
 ghost use Rattle.std.specs.Ordering.{on};
-ghost use Rattle.image_make.specs.Addresses.{AreOnce};
+ghost use Rattle.sect_place.specs.Addresses.{AreOnce};
 ghost use Rattle.image_make.specs.declared.kept.KeptAtom.{KeptAtom};
 ghost use Rattle.mo_types.specs.Keys.{compare_keys};
 ghost use Rattle.mo_types.specs.Loaded.{IsBefore};
@@ -14,11 +14,12 @@ ghost use Rattle.image_make.specs.Made as spec;
 
 use crate::fault::MakeFault;
 use crate::kept::KeptList;
+use command_line::Command;
 use lib_bind::Libraries;
 use load_cmds::{PartKinds, other_size};
-use mo_cmd::Command;
 use mo_types::Loaded;
-use sect_place::{IslandPlan, Layout, PlaceFault, PlaceSizes, out_sections, place};
+use sect_list::out_sections;
+use sect_place::{IslandPlan, Layout, PlaceFault, PlaceSizes, place};
 use slot_plan::Slots;
 use std::alloc::Global;
 

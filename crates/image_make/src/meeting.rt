@@ -1,7 +1,7 @@
 //! What the references of an image's atoms mean in it.
 ghost use Rattle.std.specs.Prelude.{◌≡◌, ◌++◌, IfOk, OnOk};
 ghost use Rattle.resolve.specs.Table.{goals_of};
-ghost use Rattle.image_make.specs.Addresses.{AreOnce};
+ghost use Rattle.sect_place.specs.Addresses.{AreOnce};
 ghost use Rattle.image_make.specs.AtomReferences.{IsReady, met_by};
 ghost use Rattle.image_make.specs.Rows.{kept_mets};
 ghost use Rattle.image_make.specs.inner.Orders.{AreOrders};

@@ -5,24 +5,17 @@ ghost use Rattle.std.specs.List.Sorted.{IsStrictlySortedBy};
 ghost use Rattle.std.specs.Option.{option_map, option_to_list};
 ghost use Rattle.std.specs.Ordering.{on};
 ghost use Rattle.mo_types.specs.Keys.{compare_keys};
-ghost use Rattle.image_make.specs.Addresses.{AreOnce};
+ghost use Rattle.sect_place.specs.Addresses.{AreOnce};
 ghost use Rattle.image_make.specs.Atoms.{kept_at};
 ghost use Rattle.image_make.specs.Rows as spec;
 ghost use Rattle.image_make.specs.declared.kept.KeptAtom.{KeptAtom};
 
 use crate::addresses::address_beside;
 use crate::kept::{KeptAtom, KeptList};
-use mo_types::{AtomKey, OutOfMemory};
+use mo_types::{AtomKey, OutOfMemory, compare_atoms};
 use patch::PlacedWork;
 use sect_place::{Layout, PlacedSection, is_zerofill};
 use std::alloc::Global;
-use std::cmp::Ordering;
-
-fn compare(a: &AtomKey, b: &AtomKey) -> Ordering
-    ensures { result ≡ compare_keys a.now b.now }
-{
-    a.cmp(b)
-}
 
 // A kept atom, and its place in the list.
 #[derive(Clone, Copy)]
@@ -47,7 +40,7 @@ fn find_kept(atoms: &KeptList, key: AtomKey) -> Option<PlacedKept>
     ensures { option_map (λ found. found.kept) result ≡ kept_at atoms.now key }
 {
     let alone = atoms.atoms().as_slice();
-    match alone.binary_search_by(|atom| compare(&atom.key, &key)) {
+    match alone.binary_search_by(|atom| compare_atoms(&atom.key, &key)) {
         Ok(at) => found_at(atoms, at),
         Err(_) => None,
     }

@@ -5,7 +5,7 @@ use Rattle.mo_bytes.specs.Number.{number_at}
 use Rattle.mo_types.specs.Gives.{◌>>=◌}
 use Rattle.mo_format.specs.Segment.{segment_command_at}
 use Rattle.image_read.specs.Commands.{cmdsize, fits, ncmds}
-use Rattle.mo_format.specs.declared.fixup_chains.TheConstants.{DYLD_CHAINED_IMPORT, DYLD_CHAINED_IMPORT_ADDEND64, DYLD_CHAINED_PTR_START_NONE}
+use Rattle.image_format.specs.declared.fixup_chains.TheConstants.{DYLD_CHAINED_IMPORT, DYLD_CHAINED_IMPORT_ADDEND64, DYLD_CHAINED_PTR_START_NONE}
 use Rattle.image_read.specs.Imports.{fixups_command, header_by}
 use Rattle.image_read.specs.Mapped.{holds, is_segment, mapped}
 use Rattle.image_read.specs.declared.fixups.FixupRead.{FixupRead}

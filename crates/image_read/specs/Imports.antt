@@ -3,7 +3,7 @@ use Rattle.std.specs.Prelude.{ℕ, ◌+◌, ◌*◌, ◌/◌, ◌==◌, nat_le, 
 use Rattle.std.specs.Option.{option_and_then, option_map}
 use Rattle.mo_strings.specs.Strings.{string_at}
 use Rattle.mo_bytes.specs.Number.{number, number_at}
-use Rattle.mo_format.specs.declared.fixup_chains.TheConstants.{DYLD_CHAINED_IMPORT, DYLD_CHAINED_IMPORT_ADDEND64}
+use Rattle.image_format.specs.declared.fixup_chains.TheConstants.{DYLD_CHAINED_IMPORT, DYLD_CHAINED_IMPORT_ADDEND64}
 use Rattle.mo_format.specs.declared.loader.TheConstants.{LC_DYLD_CHAINED_FIXUPS}
 use Rattle.mo_types.specs.Rows.{when}
 use Rattle.mo_types.specs.Scan.{first_some}

@@ -9,11 +9,11 @@ use crate::commands::{cmdsize, fits, ncmds};
 use crate::imports::{FixupsHeader, fixups_command, header_by};
 use crate::memory::{holds, is_segment};
 use crate::window::{Window, long_by, window_in};
-use mo_bytes::{read_u16, read_u32, read_u64};
-use mo_format::SegmentCommand;
-use mo_format::fixup_chains::{
+use image_format::fixup_chains::{
     DYLD_CHAINED_IMPORT, DYLD_CHAINED_IMPORT_ADDEND64, DYLD_CHAINED_PTR_START_NONE,
 };
+use mo_bytes::{read_u16, read_u32, read_u64};
+use mo_format::SegmentCommand;
 
 /// What the loader does with the pointer at an address.
 #[derive(Clone, Copy, Debug, PartialEq, Eq)]

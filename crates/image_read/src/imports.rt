@@ -6,8 +6,8 @@ ghost use Rattle.image_read.specs.Commands.{IsFitting};
 ghost use Rattle.image_read.specs.Imports as imports;
 
 use crate::commands::{cmd, cmdsize, fits, ncmds, number};
+use image_format::fixup_chains::{DYLD_CHAINED_IMPORT, DYLD_CHAINED_IMPORT_ADDEND64};
 use mo_bytes::{read_u32, read_u64};
-use mo_format::fixup_chains::{DYLD_CHAINED_IMPORT, DYLD_CHAINED_IMPORT_ADDEND64};
 use mo_format::loader::LC_DYLD_CHAINED_FIXUPS;
 use mo_strings::string_at;
 

@@ -7,9 +7,9 @@ use bytes::{
     EMPTY_DYLIB, EMPTY_DYLIB_AT_FIRST, EVERY_COMMAND, HELLO, HELLO_AT_FIRST, MANY_LIBRARY,
     ONE_FUNCTION,
 };
+use command_line::Command;
 use lib_bind::{Libraries, Library, LibraryList, LinkList, are_libraries, are_links};
 use load_cmds::{PartKinds, PartPlace, PartSizes, commands, other_size};
-use mo_cmd::Command;
 use mo_format::loader::{
     MH_DYLDLINK, MH_NO_REEXPORTED_DYLIBS, MH_NOUNDEFS, MH_PIE, MH_TWOLEVEL,
     S_ATTR_PURE_INSTRUCTIONS, S_ATTR_SOME_INSTRUCTIONS, S_CSTRING_LITERALS, S_REGULAR, S_ZEROFILL,

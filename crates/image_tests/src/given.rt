@@ -1,5 +1,6 @@
 //! Commands and slots that are put together for layouts.
-use mo_cmd::{Command, UsageFault, read_all_words};
+use command_line::Command;
+use mo_cmd::{UsageFault, read_all_words};
 use mo_types::{Arg, ArgList, Goal, OutOfMemory};
 use slot_plan::{Need, NeedList, Slots, Way, slots};
 use std::alloc::Global;

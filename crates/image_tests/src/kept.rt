@@ -2,7 +2,7 @@
 use mo_types::{
     AtomList, Bytes, Object, OutOfMemory, OutSection, Section, SectionList, SymbolList,
 };
-use sect_place::out_sections;
+use sect_list::out_sections;
 use std::alloc::Global;
 use std::test::Fail;
 use test_objects::{atom, file_id, key, only};

@@ -1,11 +1,11 @@
 -- The paths to try for inputs.
 use Rattle.std.proofs.Common.{◌≡◌, ℕ, ◌<◌, ◌++◌, ◌∷◌, [], List, length, map, get_or, sym, ◌∙◌, subst, arith, length-append}
 use Rattle.std.proofs.lemmas.List.{get_or-map, length-map}
-use Rattle.mo_cmd.specs.Paths.{in_defaults, paths_by, paths_of, stem_of}
-use Rattle.mo_cmd.specs.declared.command.Command.{Command}
-use Rattle.mo_cmd.specs.declared.command.CommandInput.{CommandInput}
-use Rattle.mo_cmd.specs.declared.command.InputForm.{InputForm}
-use Rattle.mo_cmd.specs.declared.command.InputForm.TheVariants.{Path, Library, Framework}
+use Rattle.command_line.specs.Paths.{in_defaults, paths_by, paths_of, stem_of}
+use Rattle.command_line.specs.declared.command.Command.{Command}
+use Rattle.command_line.specs.declared.command.CommandInput.{CommandInput}
+use Rattle.command_line.specs.declared.command.InputForm.{InputForm}
+use Rattle.command_line.specs.declared.command.InputForm.TheVariants.{Path, Library, Framework}
 use Rattle.input_fetch.specs.Contents.{first_of, places_of}
 
 some_more : {A : Type 0} (xs ys : List A) → 0 < length ys → 0 < length (xs ++ ys)

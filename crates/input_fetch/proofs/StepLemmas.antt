@@ -3,7 +3,7 @@ use Rattle.std.proofs.Common.{◌≡◌, ◌≢◌, ℕ, suc, ◌+◌, ◌<◌, 
 use Rattle.std.proofs.Math.Seq.{drop-cons, take-append_seam}
 use Rattle.std.proofs.lemmas.List.{append-nil, drop_all, map-append}
 use Rattle.std.proofs.lemmas.Result.{err_from_is_err_and}
-use Rattle.mo_outside.specs.Answers.{Agrees, Answer, Asked, Chain, answer_of}
+use Rattle.mo_outside.specs.Answers.{Agrees, Answer, Exchange, Chain, answer_of}
 use Rattle.mo_outside.specs.Files.{FileMap, Fetches}
 use Rattle.mo_outside.specs.Log.{Logs}
 use Rattle.mo_outside.specs.Tells.{Tells}
@@ -50,11 +50,11 @@ said fetches path first second old new same step = subst (λ (o : Option (List �
 
 -- steps, and then more of them
 
-chain-append : {S : Type 0} (fetches : S → List ℕ → Answer → S → Type 0) (first second : List Asked) (a b c : S) → Chain fetches a first b → Chain fetches b second c → Chain fetches a (first ++ second) c
+chain-append : {S : Type 0} (fetches : S → List ℕ → Answer → S → Type 0) (first second : List Exchange) (a b c : S) → Chain fetches a first b → Chain fetches b second c → Chain fetches a (first ++ second) c
 chain-append fetches [] second a b c same rest = subst (λ x. Chain fetches x second c) same rest
 chain-append fetches (one ∷ first) second a b c (next, shows, more) rest = (next, shows, chain-append fetches first second next b c more rest)
 
-agree-append : (held : Option FileMap) (first second : List Asked) → AllAgree held first → AllAgree held second → AllAgree held (first ++ second)
+agree-append : (held : Option FileMap) (first second : List Exchange) → AllAgree held first → AllAgree held second → AllAgree held (first ++ second)
 agree-append held [] second all rest = rest
 agree-append held (one ∷ first) second (here, all) rest = (here, agree-append held first second all rest)
 
@@ -65,11 +65,11 @@ tells-append first second None (Some b) (Some c) p q = absurd p
 tells-append first second (Some a) (Some b) (Some c) p q =
     record { asked = q.asked ∙ ap (λ (paths : List (List ℕ)). paths ++ second) p.asked ∙ append_assoc a first second }
 
-pub paths-append : (first second : List Asked) → paths_in (first ++ second) ≡ paths_in first ++ paths_in second
-paths-append first second = map-append (λ (one : Asked). one.0) first second
+pub paths-append : (first second : List Exchange) → paths_in (first ++ second) ≡ paths_in first ++ paths_in second
+paths-append first second = map-append (λ (one : Exchange). one.0) first second
 
-pub answers-append : (first second : List Asked) → answers_in (first ++ second) ≡ answers_in first ++ answers_in second
-answers-append first second = map-append (λ (one : Asked). one.1) first second
+pub answers-append : (first second : List Exchange) → answers_in (first ++ second) ≡ answers_in first ++ answers_in second
+answers-append first second = map-append (λ (one : Exchange). one.1) first second
 
 pub no_step : {S A : Type 0} (fetches : S → List ℕ → Answer → S → Type 0) (given : List Answer → Result A FetchStop) (asks : List Answer → List (List ℕ)) (seen : FilesSeen S)
     → Steps fetches given given asks asks seen seen
@@ -86,8 +86,8 @@ no_step fetches given asks seen = record {
 then_step : {S A : Type 0} (fetches : S → List ℕ → Answer → S → Type 0) (given middle rest : List Answer → Result A FetchStop) (asks between left : List Answer → List (List ℕ)) (old mid new : FilesSeen S)
     → Steps fetches given middle asks between old mid → Steps fetches middle rest between left mid new → Steps fetches given rest asks left old new
 then_step fetches given middle rest asks between left old mid new first second =
-    let a : List Asked = first.asked in
-    let b : List Asked = second.asked in
+    let a : List Exchange = first.asked in
+    let b : List Exchange = second.asked in
     let names : paths_in (a ++ b) ≡ paths_in a ++ paths_in b = paths-append a b in
     let answers : (more : List Answer) → answers_in (a ++ b) ++ more ≡ answers_in a ++ (answers_in b ++ more) =
     λ more. ap (λ (list : List Answer). list ++ more) (answers-append a b) ∙ append_assoc (answers_in a) (answers_in b) more in
@@ -400,7 +400,7 @@ none_left (Err OutOfMemory) rest left ends other = absurd (other refl)
 pub fetched_all : {S : Type 0} (fetches : S → List ℕ → Answer → S → Type 0) (places : List (List (List ℕ))) (result : Result (List Content) FetchStop) (old new : FilesSeen S) → StepsTo fetches all_of result (contents_of places) (asked_for places) old new
     → Fetching fetches places result old new
 fetched_all fetches places result old new step =
-    let asked : List Asked = step.steps.asked in
+    let asked : List Exchange = step.steps.asked in
     let all : answers_in asked ≡ answers_in asked ++ [] = sym (append-nil (answers_in asked)) in
     let names : asked_for places (answers_in asked) ≡ paths_in asked ++ step.left [] = ap (asked_for places) all ∙ step.steps.paths [] in
     record {

@@ -1,7 +1,7 @@
 -- The answers of files that are told.
 use Rattle.std.proofs.Common.{◌≡◌, ◌↔◌, ℕ, ◌++◌, ◌∷◌, [], List, ◌⊎◌, inl, inr, Bool, ◌||◌, Option, Some, None, Result, Ok, Err, is_some, if◌then◌else◌, refl, sym, ap, ◌∙◌}
 use Rattle.std.specs.List.{list_any}
-use Rattle.mo_outside.specs.Answers.{Answer, Asked, There, Absent, Unread}
+use Rattle.mo_outside.specs.Answers.{Answer, Exchange, There, Absent, Unread}
 use Rattle.mo_outside.specs.Answers as given
 use Rattle.mo_outside.specs.Files.{FileMap, fetched}
 use Rattle.mo_types.specs.Gives.{◌>>=◌}
@@ -63,10 +63,10 @@ contents_told files (paths ∷ places) =
 -- the answers that agree with files are theirs
 
 AreTold : FileMap → List (List (List ℕ)) → Type 0
-AreTold files places = (asked : List Asked) → AllAgree (Some files) asked → paths_in asked ≡ asked_for places (answers_in asked)
+AreTold files places = (asked : List Exchange) → AllAgree (Some files) asked → paths_in asked ≡ asked_for places (answers_in asked)
     → ((path : List ℕ) → contents_of places (answers_in asked) ≡ Err (ReadFault path) → ⊥) → answers_in asked ≡ answers_from files places
 
-told_of : (files : FileMap) (first : List ℕ) (paths : List (List ℕ)) (places : List (List (List ℕ))) → AreTold files places → (asked : List Asked) → AllAgree (Some files) asked
+told_of : (files : FileMap) (first : List ℕ) (paths : List (List ℕ)) (places : List (List (List ℕ))) → AreTold files places → (asked : List Exchange) → AllAgree (Some files) asked
     → paths_in asked ≡ asked_of paths (answers_in asked) ++ after_ok (content_of first paths (answers_in asked)) (λ found. asked_for places found.1)
     → ((path : List ℕ) → (content_of first paths (answers_in asked) >>= next_content places) ≡ Err (ReadFault path) → ⊥)
     → answers_in asked ≡ answers_of files paths ++ rest_of files places (is_there files paths)
@@ -96,13 +96,13 @@ are_told files [] [] agree names read = refl
 are_told files [] (one ∷ asked) agree names read = absurd cc
 are_told files (paths ∷ places) asked agree names read = told_of files (first_of paths) paths places (are_told files places) asked agree names read
 
-pub answers_told : (files : FileMap) (places : List (List (List ℕ))) (asked : List Asked) → AllAgree (Some files) asked → paths_in asked ≡ asked_for places (answers_in asked)
+pub answers_told : (files : FileMap) (places : List (List (List ℕ))) (asked : List Exchange) → AllAgree (Some files) asked → paths_in asked ≡ asked_for places (answers_in asked)
     → ((path : List ℕ) → ¬ (contents_of places (answers_in asked) ≡ Err (ReadFault path))) → answers_in asked ≡ answers_from files places
 unfolding AreTold
 answers_told files places = are_told files places
 
 -- so they give the same, or a file couldn't be read
-pub same_contents : (files : FileMap) (places : List (List (List ℕ))) (asked : List Asked) → AllAgree (Some files) asked → paths_in asked ≡ asked_for places (answers_in asked)
+pub same_contents : (files : FileMap) (places : List (List (List ℕ))) (asked : List Exchange) → AllAgree (Some files) asked → paths_in asked ≡ asked_for places (answers_in asked)
     → (contents_of places (answers_in asked) ≡ contents_of places (answers_from files places)) ⊎ ((path : List ℕ) × (contents_of places (answers_in asked) ≡ Err (ReadFault path)))
 same_contents files places asked agree names = by (contents_of places (answers_in asked)) refl (answers_told files places asked agree names)
   where

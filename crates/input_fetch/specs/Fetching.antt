@@ -1,6 +1,6 @@
 -- Files that are asked for the inputs of a command.
 use Rattle.std.specs.Prelude.{ℕ, ◌≡◌, ◌≢◌, List, map, take, Result, Ok, Err}
-use Rattle.mo_outside.specs.Answers.{Answer, Asked, Chain}
+use Rattle.mo_outside.specs.Answers.{Answer, Exchange, Chain}
 use Rattle.mo_outside.specs.Tells.{Tells}
 use Rattle.mo_types.specs.Gives.{Gives}
 use Rattle.lib_bind.specs.Asking.{AllAgree, Asks, FilesSeen, paths_in}
@@ -9,7 +9,7 @@ use Rattle.input_fetch.specs.declared.content.Content.{Content}
 use Rattle.input_fetch.specs.declared.stop.FetchStop.{FetchStop}
 use Rattle.input_fetch.specs.declared.stop.FetchStop.TheVariants.{ReadFault, Missing, OutOfMemory}
 
-abbrev pub answers_in : List Asked → List Answer
+abbrev pub answers_in : List Exchange → List Answer
 answers_in asked = map (λ one. one.1) asked
 
 -- an answer other than want of memory
@@ -30,7 +30,7 @@ IsReadWell (Err OutOfMemory) = ⊥
 -- out.
 pub record Fetching {S : Type 0} (fetches : S → List ℕ → Answer → S → Type 0) (places : List (List (List ℕ)))
     (result : Result (List Content) FetchStop) (old new : FilesSeen S) : Type 0 where
-  pub asked : List Asked
+  pub asked : List Exchange
   pub chain : Chain fetches old.self asked new.self
   pub agree : AllAgree old.holds asked
   pub logged : Tells (Asks (paths_in asked)) old.told new.told

@@ -1,6 +1,6 @@
 -- Files that are asked for paths, one after the other, and what is still to be asked for.
 use Rattle.std.specs.Prelude.{ℕ, ◌≡◌, List, [], ◌∷◌, ◌++◌, Option, None, Some, Result, Ok, Err}
-use Rattle.mo_outside.specs.Answers.{Agrees, Answer, Asked, Chain, There, Absent, Unread}
+use Rattle.mo_outside.specs.Answers.{Agrees, Answer, Exchange, Chain, There, Absent, Unread}
 use Rattle.mo_outside.specs.Tells.{Tells}
 use Rattle.lib_bind.specs.Asking.{AllAgree, Asks, FilesSeen, paths_in}
 use Rattle.input_fetch.specs.Fetching.{IsFetchStop, answers_in}
@@ -12,7 +12,7 @@ use Rattle.input_fetch.specs.declared.stop.FetchStop.TheVariants.{ReadFault, Mis
 -- `asks` are these paths and then `left`.
 pub record Steps {S A : Type 0} (fetches : S → List ℕ → Answer → S → Type 0) (given rest : List Answer → Result A FetchStop)
     (asks left : List Answer → List (List ℕ)) (old new : FilesSeen S) : Type 0 where
-  pub asked : List Asked
+  pub asked : List Exchange
   pub chain : Chain fetches old.self asked new.self
   pub agree : AllAgree old.holds asked
   pub logged : Tells (Asks (paths_in asked)) old.told new.told

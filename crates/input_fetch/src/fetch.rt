@@ -11,7 +11,7 @@ ghost use Rattle.input_fetch.specs.declared.stop.FetchStop.TheVariants.{ReadFaul
 
 use crate::content::{Content, ContentList};
 use crate::stop::FetchStop;
-use mo_cmd::{Command, paths_for};
+use command_line::{Command, paths_for};
 use mo_outside::{FetchFault, Files};
 use mo_types::{Bytes, Items};
 use std::alloc::{AllocError, Global};

@@ -1,9 +1,9 @@
 //! What the definitions mean, each on a call that does nothing.
 ghost use Rattle.std.specs.Prelude.{◌≡◌, ◌↔◌, ◌<◌, ℕ, List, length, Some, Ok, Err};
-ghost use Rattle.mo_cmd.specs.Paths.{paths_of};
-ghost use Rattle.mo_cmd.specs.declared.command.Command.{Command};
-ghost use Rattle.mo_cmd.specs.declared.command.CommandInput.{CommandInput};
-ghost use Rattle.mo_outside.specs.Answers.{Asked};
+ghost use Rattle.command_line.specs.Paths.{paths_of};
+ghost use Rattle.command_line.specs.declared.command.Command.{Command};
+ghost use Rattle.command_line.specs.declared.command.CommandInput.{CommandInput};
+ghost use Rattle.mo_outside.specs.Answers.{Exchange};
 ghost use Rattle.mo_outside.specs.Files.{FileMap};
 ghost use Rattle.lib_bind.specs.Asking.{AllAgree, paths_in};
 ghost use Rattle.input_fetch.specs.Contents.{answers_from, asked_for, contents_of};
@@ -22,7 +22,7 @@ pub fn an_input_has_a_path()
 /// these give is said without answers.
 #[tactic(auto, using(crate::proofs::ToldLemmas::told))]
 pub fn answers_are_those_of_the_files()
-    ensures answers { (files : FileMap) (places : List (List (List ℕ))) (asked : List Asked) → AllAgree (Some files) asked → paths_in asked ≡ asked_for places (answers_in asked)
+    ensures answers { (files : FileMap) (places : List (List (List ℕ))) (asked : List Exchange) → AllAgree (Some files) asked → paths_in asked ≡ asked_for places (answers_in asked)
         → ((path : List ℕ) → ¬ (contents_of places (answers_in asked) ≡ Err (ReadFault path))) → answers_in asked ≡ answers_from files places }
     ensures contents { (files : FileMap) (places : List (List (List ℕ))) → contents_of places (answers_from files places) ≡ contents_in files places }
     ensures read { (files : FileMap) (places : List (List (List ℕ))) (path : List ℕ) → ¬ (contents_of places (answers_from files places) ≡ Err (ReadFault path)) }

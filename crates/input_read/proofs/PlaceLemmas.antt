@@ -20,10 +20,11 @@ use Rattle.mo_ar.specs.declared.slice.SliceFault.TheVariants as slice
 use Rattle.mo_obj.proofs.WholeLemmas.{object_faulty}
 use Rattle.mo_obj.specs.Faults.{IsObjFault}
 use Rattle.mo_obj.specs.Object.{object_of}
-use Rattle.tbd_yaml.specs.File.{IsYamlFault, file_of}
-use Rattle.tbd_yaml.specs.declared.fault.YamlFault.{YamlFault}
-use Rattle.tbd_yaml.specs.declared.fault.YamlFault.TheVariants as yaml
-use Rattle.tbd_yaml.specs.declared.file.YamlFile.{YamlFile}
+use Rattle.tbd_yaml.specs.File.{file_of}
+use Rattle.yaml_text.specs.FaultText.{IsYamlFault}
+use Rattle.yaml_text.specs.declared.fault.YamlFault.{YamlFault}
+use Rattle.yaml_text.specs.declared.fault.YamlFault.TheVariants as yaml
+use Rattle.yaml_text.specs.declared.file.YamlFile.{YamlFile}
 use Rattle.tbd_doc.specs.Stubs.{IsStubFault, stub_file_of}
 use Rattle.tbd_doc.specs.declared.fault.StubFault.{StubFault}
 use Rattle.tbd_doc.specs.declared.fault.StubFault.TheVariants as stub

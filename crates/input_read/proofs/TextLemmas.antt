@@ -3,27 +3,28 @@ use Rattle.std.proofs.Common.{ℕ, ◌+◌, ◌++◌, Bool, true, false, nat_lt,
 use Rattle.std.specs.Prelude.{◌==◌, ◌&&◌, not, drop, slice_index}
 use Rattle.std.specs.Str.{is_utf8}
 use Rattle.tbd_yaml.specs.Blocks.{answered, begins_block, closed_to, closing, goes_on, has_key, is_map, key_added, placed, with_entry, with_flow, with_item, with_item_of, with_key, with_line, with_line_at, with_pair, with_rest, with_value}
-use Rattle.tbd_yaml.specs.Characters.{is_forbidden, is_quote}
-use Rattle.tbd_yaml.specs.File.{IsYamlFault, closed, ends, file_of, finished, flow_in, new_reading, read_on, with_any_line, with_block_line, with_flow_line, with_mark, with_next, with_text}
-use Rattle.tbd_yaml.specs.Flow.{flow_of, new_state, settled, tokens_from, with_token, with_tokens}
-use Rattle.tbd_yaml.specs.Lines.{begins_with, blanks, is_bare, is_empty, is_ended, is_item, lines_of, spaces, tag_of, without_blanks}
-use Rattle.tbd_yaml.specs.Scalars.{Keyed, Quoted, is_key_end, key_of, plain_alone, plain_size, quoted_alone, quoted_of, scalar_begun, scalar_of}
+use Rattle.yaml_text.specs.Characters.{is_forbidden, is_quote}
+use Rattle.tbd_yaml.specs.File.{closed, ends, file_of, finished, flow_in, new_reading, read_on, with_any_line, with_block_line, with_flow_line, with_mark, with_next, with_text}
+use Rattle.yaml_text.specs.FaultText.{IsYamlFault}
+use Rattle.yaml_text.specs.Flow.{flow_of, new_state, settled, tokens_from, with_token, with_tokens}
+use Rattle.yaml_text.specs.Lines.{begins_with, blanks, is_bare, is_empty, is_ended, is_item, lines_of, spaces, tag_of, without_blanks}
+use Rattle.yaml_text.specs.Scalars.{Keyed, Quoted, is_key_end, key_of, plain_alone, plain_size, quoted_alone, quoted_of, scalar_begun, scalar_of}
 use Rattle.tbd_yaml.specs.declared.block.Block.{Block}
 use Rattle.tbd_yaml.specs.declared.body.Body.{Body}
 use Rattle.tbd_yaml.specs.declared.body.FlowList.{FlowList}
-use Rattle.tbd_yaml.specs.declared.fault.YamlFault.{YamlFault}
-use Rattle.tbd_yaml.specs.declared.file.YamlDoc.{YamlDoc}
-use Rattle.tbd_yaml.specs.declared.file.YamlEvent.{YamlEvent}
-use Rattle.tbd_yaml.specs.declared.file.YamlEvent.TheVariants as event
-use Rattle.tbd_yaml.specs.declared.file.YamlFile.{YamlFile}
-use Rattle.tbd_yaml.specs.declared.flow.FlowPlace.{FlowPlace}
-use Rattle.tbd_yaml.specs.declared.flow.FlowState.{FlowState}
+use Rattle.yaml_text.specs.declared.fault.YamlFault.{YamlFault}
+use Rattle.yaml_text.specs.declared.file.YamlDoc.{YamlDoc}
+use Rattle.yaml_text.specs.declared.file.YamlEvent.{YamlEvent}
+use Rattle.yaml_text.specs.declared.file.YamlEvent.TheVariants as event
+use Rattle.yaml_text.specs.declared.file.YamlFile.{YamlFile}
+use Rattle.yaml_text.specs.declared.flow.FlowPlace.{FlowPlace}
+use Rattle.yaml_text.specs.declared.flow.FlowState.{FlowState}
 use Rattle.tbd_yaml.specs.declared.reading.OpenDoc.{OpenDoc}
 use Rattle.tbd_yaml.specs.declared.reading.Reading.{Reading}
-use Rattle.tbd_yaml.specs.declared.token.Token.{Token}
-use Rattle.tbd_yaml.specs.declared.token.Token.TheVariants as token
+use Rattle.yaml_text.specs.declared.token.Token.{Token}
+use Rattle.yaml_text.specs.declared.token.Token.TheVariants as token
 use Rattle.tbd_doc.specs.Forms.{is_well_formed}
-use Rattle.tbd_doc.specs.Nodes.{Field, fields_of, tree_of}
+use Rattle.tbd_doc.specs.Nodes.{KeyedNode, fields_of, tree_of}
 use Rattle.tbd_doc.specs.Stubs.{IsStubFault, is_tbd4, stub_at, stub_file_of, stub_for, stubs_from, target_of}
 use Rattle.input_read.proofs.FaultLemmas.{either, then_real}
 
@@ -187,11 +188,11 @@ file_faulty bytes = read_faulty (lines_of bytes) 0 new_reading
 
 -- ---- what documents say
 
-for_faulty : (doc : ℕ) (fields : List Field) (target : Option (List ℕ)) → IfErr (stub_for doc fields target) IsStubFault
+for_faulty : (doc : ℕ) (fields : List KeyedNode) (target : Option (List ℕ)) → IfErr (stub_for doc fields target) IsStubFault
 for_faulty doc fields None = either IsStubFault (doc == 0) _ _ tt tt
 for_faulty doc fields (Some target) = either IsStubFault (is_well_formed fields) _ _ tt tt
 
-at_faulty : (doc : ℕ) (tag : List ℕ) (fields : List Field) → IfErr (stub_at doc tag fields) IsStubFault
+at_faulty : (doc : ℕ) (tag : List ℕ) (fields : List KeyedNode) → IfErr (stub_at doc tag fields) IsStubFault
 unfolding stub_at
 at_faulty doc tag fields = either IsStubFault (is_tbd4 tag fields) _ _ (for_faulty doc fields (target_of fields)) tt
 

@@ -5,7 +5,7 @@ use Rattle.std.proofs.lemmas.List.Elements.{All-get_or}
 use Rattle.std.proofs.lemmas.List.Folds.{list_any-append}
 use Rattle.std.proofs.lemmas.Option.{slice_get-get_or}
 use Rattle.std.proofs.lemmas.Slice.Eq.{bytes_eq-Decides}
-use Rattle.mo_outside.specs.Answers.{Absent, Answer, Asked}
+use Rattle.mo_outside.specs.Answers.{Absent, Answer, Exchange}
 use Rattle.lib_bind.specs.Asking.{AreNew, Asking, FilesSeen, Gave, paths_in}
 use Rattle.lib_bind.specs.Closing.{asked_in, linked, target}
 use Rattle.lib_bind.specs.Graph.{AreLibraries, AreLinks}
@@ -19,11 +19,11 @@ use Rattle.lib_bind.specs.inner.Held.{AreHeads, IsFound, IsGrown, IsHeld, IsOf, 
 use Rattle.lib_bind.proofs.HeldLemmas.{heads_more, linked_held, target_found}
 use Rattle.lib_bind.proofs.ChosenLemmas.{ok_holds}
 
-abbrev look_past : (List ℕ → Answer) → Asked → List ℕ → Answer
+abbrev look_past : (List ℕ → Answer) → Exchange → List ℕ → Answer
 look_past look one path = cond (bytes_eq path one.0) one.1 (look path)
 
 -- the look-up that has some answers
-abbrev look_in : List Asked → List ℕ → Answer
+abbrev look_in : List Exchange → List ℕ → Answer
 look_in [] path = Absent
 look_in (one ∷ more) path = look_past (look_in more) one path
 
@@ -51,14 +51,14 @@ tells_more : (before : List (List ℕ)) (path more : List ℕ) → Tells before 
 tells_more before path more tells other is =
     tells other (or_first (list_any (bytes_eq other) before) (list_any (bytes_eq other) (more ∷ [])) (sym (list_any-append (bytes_eq other) before (more ∷ [])) ∙ is))
 
-gave_past : (look : List ℕ → Answer) (one : Asked) (more : List Asked) (before : List (List ℕ)) → Tells before one.0 → AreNew before (paths_in more) → Gave look more → Gave (look_past look one) more
+gave_past : (look : List ℕ → Answer) (one : Exchange) (more : List Exchange) (before : List (List ℕ)) → Tells before one.0 → AreNew before (paths_in more) → Gave look more → Gave (look_past look one) more
 gave_past look one [] before tells new gave = tt
 gave_past look one (two ∷ more) before tells new gave = (
   ap (λ (test : Bool). cond test one.1 (look two.0)) (tells two.0 new.0) ∙ gave.0,
   gave_past look one more (before ++ two.0 ∷ []) (tells_more before one.0 two.0 tells) new.1 gave.1,
 )
 
-gave_in : (before : List (List ℕ)) (asked : List Asked) → AreNew before (paths_in asked) → Gave (look_in asked) asked
+gave_in : (before : List (List ℕ)) (asked : List Exchange) → AreNew before (paths_in asked) → Gave (look_in asked) asked
 gave_in before [] new = tt
 gave_in before (one ∷ more) new = (
   ap (λ (test : Bool). cond test one.1 (look_in more one.0)) ((bytes_eq-Decides one.0 one.0).1 refl),

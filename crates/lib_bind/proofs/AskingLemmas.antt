@@ -3,7 +3,7 @@ use Rattle.std.proofs.Common.{◌≡◌, ℕ, ◌≤◌, ◌++◌, ◌∷◌, []
 use Rattle.std.specs.List.{list_any}
 use Rattle.std.proofs.lemmas.List.{append-nil, map-append}
 use Rattle.std.proofs.lemmas.Result.{err_from_is_err_and}
-use Rattle.mo_outside.specs.Answers.{Agrees, Answer, Asked, Chain, answer_of}
+use Rattle.mo_outside.specs.Answers.{Agrees, Answer, Exchange, Chain, answer_of}
 use Rattle.mo_outside.specs.Faults.{Rises}
 use Rattle.mo_outside.specs.Files.{FileMap, Fetches}
 use Rattle.mo_outside.specs.Log.{Logs}
@@ -95,11 +95,11 @@ one_asked fetches pairs known result given path sent bytes fetched old new same 
 
 -- a call, and then another one
 
-chain-append : {S : Type 0} (fetches : S → List ℕ → Answer → S → Type 0) (first second : List Asked) (a b c : S) → Chain fetches a first b → Chain fetches b second c → Chain fetches a (first ++ second) c
+chain-append : {S : Type 0} (fetches : S → List ℕ → Answer → S → Type 0) (first second : List Exchange) (a b c : S) → Chain fetches a first b → Chain fetches b second c → Chain fetches a (first ++ second) c
 chain-append fetches [] second a b c same rest = subst (λ x. Chain fetches x second c) same rest
 chain-append fetches (one ∷ first) second a b c (next, shows, more) rest = (next, shows, chain-append fetches first second next b c more rest)
 
-agree-append : (held : Option FileMap) (first second : List Asked) → AllAgree held first → AllAgree held second → AllAgree held (first ++ second)
+agree-append : (held : Option FileMap) (first second : List Exchange) → AllAgree held first → AllAgree held second → AllAgree held (first ++ second)
 agree-append held [] second all rest = rest
 agree-append held (one ∷ first) second (here, all) rest = (here, agree-append held first second all rest)
 
@@ -115,16 +115,16 @@ new-append before [] second all rest = subst (λ (paths : List (List ℕ)). AreN
 new-append before (path ∷ first) second (here, all) rest =
     (here, new-append (before ++ path ∷ []) first second all (subst (λ (paths : List (List ℕ)). AreNew paths second) (sym (append_assoc before (path ∷ []) first)) rest))
 
-gave-first : (look : List ℕ → Answer) (first second : List Asked) → Gave look (first ++ second) → Gave look first
+gave-first : (look : List ℕ → Answer) (first second : List Exchange) → Gave look (first ++ second) → Gave look first
 gave-first look [] second all = tt
 gave-first look (one ∷ first) second (here, all) = (here, gave-first look first second all)
 
-gave-second : (look : List ℕ → Answer) (first second : List Asked) → Gave look (first ++ second) → Gave look second
+gave-second : (look : List ℕ → Answer) (first second : List Exchange) → Gave look (first ++ second) → Gave look second
 gave-second look [] second all = all
 gave-second look (one ∷ first) second (here, all) = gave-second look first second all
 
-paths-append : (first second : List Asked) → paths_in (first ++ second) ≡ paths_in first ++ paths_in second
-paths-append first second = map-append (λ (one : Asked). one.0) first second
+paths-append : (first second : List Exchange) → paths_in (first ++ second) ≡ paths_in first ++ paths_in second
+paths-append first second = map-append (λ (one : Exchange). one.0) first second
 
 after_first : {A B : Type 0} (x : A) (paths : List (List ℕ)) (result : Result B BindFault) (given : Result A Ended) (next : A → Result B Ended) → given ≡ Ok x → Follows paths result (next x) → Follows paths result (given >>= next)
 after_first {A = A} x paths result given next is follows = subst (λ (r : Result A Ended). Follows paths result (r >>= next)) (sym is) follows
@@ -134,8 +134,8 @@ pub then_asked : {S A B : Type 0} (fetches : S → List ℕ → Answer → S →
     → middle ≡ known x → Asking fetches before known (Ok x) given old mid → Asking fetches middle last result (λ look. next look x) mid new
     → Asking fetches before last result (λ look. given look >>= next look) old new
 then_asked fetches before middle known last x result given next old mid new is first second =
-    let a : List Asked = first.asked in
-    let b : List Asked = second.asked in
+    let a : List Exchange = first.asked in
+    let b : List Exchange = second.asked in
     let paths : paths_in (a ++ b) ≡ paths_in a ++ paths_in b = paths-append a b in
     let here : middle ≡ before ++ paths_in a = is ∙ first.adds in
     let whole : middle ++ paths_in b ≡ before ++ paths_in (a ++ b) =

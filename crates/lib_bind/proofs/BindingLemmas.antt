@@ -1,7 +1,7 @@
 -- What a command line binds to, by the answers of files.
 use Rattle.std.proofs.Common.{◌≡◌, ℕ, ◌≤◌, [], List, length, Option, Result, Ok, Err, IfOk, IsErrAnd, refl, sym, ap, ◌∙◌, subst}
 use Rattle.std.proofs.lemmas.Result.{err_from_is_err_and}
-use Rattle.mo_cmd.specs.declared.command.Command.{Command}
+use Rattle.command_line.specs.declared.command.Command.{Command}
 use Rattle.mo_outside.specs.Answers.{Answer}
 use Rattle.mo_types.specs.Gives.{◌>>=◌, Gives}
 use Rattle.lib_bind.specs.Asking.{FilesSeen, Follows, paths_in}

@@ -1,8 +1,8 @@
 -- Libraries that are chosen, and files that are read, one after the other.
 use Rattle.std.proofs.Common.{◌≡◌, ℕ, suc, ◌+◌, ◌++◌, ◌∷◌, [], List, All, length, Result, Ok, Err, IsErrAnd, refl, sym, ap, ◌∙◌, subst, arith}
 use Rattle.std.proofs.lemmas.Result.{err_from_is_err_and}
-use Rattle.mo_cmd.specs.declared.command.Command.{Command}
-use Rattle.mo_cmd.specs.declared.command.CommandInput.{CommandInput}
+use Rattle.command_line.specs.declared.command.Command.{Command}
+use Rattle.command_line.specs.declared.command.CommandInput.{CommandInput}
 use Rattle.mo_types.specs.Gives.{◌>>=◌, Gives}
 use Rattle.tbd_doc.specs.declared.stub.StubFile.{StubFile}
 use Rattle.lib_bind.specs.Closing.{IsBindFault, choose, choose_all, install_of, with_library}

@@ -4,8 +4,8 @@ use Rattle.std.specs.Prelude.{if◌then◌else◌, ◌&&◌, nat_le, nat_lt}
 use Rattle.std.proofs.lemmas.Bool.{and_parts}
 use Rattle.std.proofs.lemmas.List.Elements.{All-nil, All-push, All-weaker}
 use Rattle.std.proofs.lemmas.Option.{slice_get-get_or, slice_get_within}
-use Rattle.mo_cmd.specs.declared.command.Command.{Command}
-use Rattle.mo_cmd.specs.declared.command.CommandInput.{CommandInput}
+use Rattle.command_line.specs.declared.command.Command.{Command}
+use Rattle.command_line.specs.declared.command.CommandInput.{CommandInput}
 use Rattle.mo_types.specs.declared.answer.Refusal.TheVariants as refusal
 use Rattle.mo_types.specs.declared.cause.Which.TheVariants.{Libraries}
 use Rattle.tbd_doc.specs.declared.stub.StubFile.{StubFile}

@@ -3,7 +3,7 @@ use Rattle.std.proofs.Common.{◌≡◌, ℕ, zero, suc, ◌+◌, ◌≤◌, Lis
 use Rattle.std.proofs.lemmas.Option.{slice_get_past}
 use Rattle.mo_outside.specs.Answers.{Answer}
 use Rattle.mo_types.specs.Gives.{◌>>=◌}
-use Rattle.mo_cmd.specs.declared.command.Command.{Command}
+use Rattle.command_line.specs.declared.command.Command.{Command}
 use Rattle.lib_bind.specs.Closing.{Ended, after, begun, chosen_of, met, step}
 use Rattle.lib_bind.specs.Closure.{Bound, bound_after, started}
 use Rattle.lib_bind.specs.declared.choosing.Chosen.{Chosen}

@@ -7,8 +7,8 @@ use Rattle.std.proofs.lemmas.List.{append-nil}
 use Rattle.std.proofs.lemmas.Option.{slice_get-get_or}
 use Rattle.std.proofs.lemmas.Slice.Eq.{bytes_eq-Decides}
 use Rattle.list_lemmas.proofs.Members.{all_in, all_weaker, in_from_Contains}
-use Rattle.mo_cmd.specs.declared.command.Command.{Command}
-use Rattle.mo_cmd.specs.declared.command.CommandInput.{CommandInput}
+use Rattle.command_line.specs.declared.command.Command.{Command}
+use Rattle.command_line.specs.declared.command.CommandInput.{CommandInput}
 use Rattle.mo_outside.specs.Answers.{Answer}
 use Rattle.mo_types.specs.Gives.{◌>>=◌}
 use Rattle.mo_types.specs.Scan.{option_or_else}

@@ -4,7 +4,7 @@ use Rattle.std.proofs.lemmas.Cmp.{nat_cmp_total}
 use Rattle.std.proofs.lemmas.Option.{slice_get-get_or}
 use Rattle.list_lemmas.proofs.Members.{Contains_from_in, in_from_Contains}
 use Rattle.list_lemmas.proofs.Rising.{rising_same}
-use Rattle.mo_cmd.specs.declared.command.Command.{Command}
+use Rattle.command_line.specs.declared.command.Command.{Command}
 use Rattle.mo_outside.specs.Answers.{Answer}
 use Rattle.tbd_doc.specs.declared.stub.Stub.{Stub}
 use Rattle.lib_bind.specs.Closing.{Ended, asked_in}

@@ -6,14 +6,14 @@ use Rattle.mo_types.specs.Kind.{kind_of}
 use Rattle.mo_types.specs.declared.kind.Kind.{Kind}
 use Rattle.mo_types.specs.declared.kind.Kind.TheVariants as kind
 use Rattle.tbd_yaml.specs.File.{closed, ends, file_of, finished, flow_in, new_reading, read_on, with_next}
-use Rattle.tbd_yaml.specs.Lines.{lines_of}
+use Rattle.yaml_text.specs.Lines.{lines_of}
 use Rattle.tbd_yaml.specs.declared.body.FlowList.{FlowList}
-use Rattle.tbd_yaml.specs.declared.fault.YamlFault.{YamlFault}
-use Rattle.tbd_yaml.specs.declared.file.YamlDoc.{YamlDoc}
-use Rattle.tbd_yaml.specs.declared.file.YamlFile.{YamlFile}
+use Rattle.yaml_text.specs.declared.fault.YamlFault.{YamlFault}
+use Rattle.yaml_text.specs.declared.file.YamlDoc.{YamlDoc}
+use Rattle.yaml_text.specs.declared.file.YamlFile.{YamlFile}
 use Rattle.tbd_yaml.specs.declared.reading.OpenDoc.{OpenDoc}
 use Rattle.tbd_yaml.specs.declared.reading.Reading.{Reading}
-use Rattle.tbd_doc.specs.Nodes.{Field, fields_of, tree_of}
+use Rattle.tbd_doc.specs.Nodes.{KeyedNode, fields_of, tree_of}
 use Rattle.tbd_doc.specs.Forms.{is_well_formed}
 use Rattle.tbd_doc.specs.Stubs.{is_tbd4, stub_at, stub_file_of, stub_for, stub_of, stubs_from, target_of, with_stub}
 use Rattle.tbd_doc.specs.declared.fault.StubFault.{StubFault}
@@ -66,11 +66,11 @@ file_has bytes = read_has (lines_of bytes) 0 new_reading
 
 -- the first document has a target
 
-first_for : (fields : List Field) (target : Option (List ℕ)) → IfOk (stub_for 0 fields target) (λ stub. IsSome stub)
+first_for : (fields : List KeyedNode) (target : Option (List ℕ)) → IfOk (stub_for 0 fields target) (λ stub. IsSome stub)
 first_for fields None = tt
 first_for fields (Some target) = either (λ (stub : Option Stub). IsSome stub) (is_well_formed fields) (Ok (Some (stub_of target fields))) _ refl tt
 
-first_at : (tag : List ℕ) (fields : List Field) → IfOk (stub_at 0 tag fields) (λ stub. IsSome stub)
+first_at : (tag : List ℕ) (fields : List KeyedNode) → IfOk (stub_at 0 tag fields) (λ stub. IsSome stub)
 unfolding stub_at
 first_at tag fields = either (λ (stub : Option Stub). IsSome stub) (is_tbd4 tag fields) (stub_for 0 fields (target_of fields)) _ (first_for fields (target_of fields)) tt
 

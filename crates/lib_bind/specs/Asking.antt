@@ -1,7 +1,7 @@
 -- Files that are asked for paths, one after the other.
 use Rattle.std.specs.Prelude.{ℕ, ◌≡◌, ◌≤◌, ◌++◌, List, [], ◌∷◌, map, false, bytes_eq, Option, Result, Ok, Err, IfOk}
 use Rattle.std.specs.List.{list_any}
-use Rattle.mo_outside.specs.Answers.{Agrees, Answer, Asked, Chain}
+use Rattle.mo_outside.specs.Answers.{Agrees, Answer, Exchange, Chain}
 use Rattle.mo_outside.specs.Faults.{Rises}
 use Rattle.mo_outside.specs.Files.{FileMap}
 use Rattle.mo_outside.specs.Tells.{Tells}
@@ -9,7 +9,7 @@ use Rattle.lib_bind.specs.declared.bind_fault.BindFault.{BindFault}
 use Rattle.lib_bind.specs.declared.bind_fault.BindFault.TheVariants as fault
 use Rattle.lib_bind.specs.Closing.{Ended, IsBindFault}
 
-abbrev pub paths_in : List Asked → List (List ℕ)
+abbrev pub paths_in : List Exchange → List (List ℕ)
 paths_in asked = map (λ one. one.0) asked
 
 -- the paths were asked for, each once, and no others
@@ -17,12 +17,12 @@ pub record Asks (paths old new : List (List ℕ)) : Type 0 where
   pub asked : new ≡ old ++ paths
 
 -- each answer is that of the files, where these are told
-abbrev pub AllAgree : Option FileMap → List Asked → Type 0
+abbrev pub AllAgree : Option FileMap → List Exchange → Type 0
 AllAgree held [] = Unit {0}
 AllAgree held (one ∷ more) = Agrees held one.0 one.1 × AllAgree held more
 
 -- each answer is the one that is looked up under its path
-abbrev pub Gave : (List ℕ → Answer) → List Asked → Type 0
+abbrev pub Gave : (List ℕ → Answer) → List Exchange → Type 0
 Gave look [] = Unit {0}
 Gave look (one ∷ more) = (look one.0 ≡ one.1) × Gave look more
 
@@ -66,7 +66,7 @@ AreNew before (path ∷ paths) = (list_any (bytes_eq path) before ≡ false) × 
 -- returned is what the definition gives by any look-up that has these answers.
 pub record Asking {S A : Type 0} (fetches : S → List ℕ → Answer → S → Type 0) (before : List (List ℕ)) (known : A → List (List ℕ))
     (result : Result A BindFault) (given : (List ℕ → Answer) → Result A Ended) (old new : FilesSeen S) : Type 0 where
-  pub asked : List Asked
+  pub asked : List Exchange
   pub chain : Chain fetches old.self asked new.self
   pub agree : AllAgree old.holds asked
   pub logged : Tells (Asks (paths_in asked)) old.told new.told

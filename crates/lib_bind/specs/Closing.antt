@@ -1,9 +1,9 @@
 -- The libraries that a command line names, and what they re-export, breadth first.
 use Rattle.std.specs.Prelude.{ℕ, zero, suc, ◌+◌, ◌++◌, List, [], ◌∷◌, map, length, get_or, set, slice_get, false, bytes_eq, nat_eq, nat_le, Option, None, Some, Result, Ok, Err, if◌then◌else◌}
 use Rattle.std.specs.List.{list_any}
-use Rattle.mo_cmd.specs.declared.command.Command.{Command}
-use Rattle.mo_cmd.specs.declared.command.CommandInput.{CommandInput}
-use Rattle.mo_cmd.specs.declared.command.InputForm.TheVariants.{Path}
+use Rattle.command_line.specs.declared.command.Command.{Command}
+use Rattle.command_line.specs.declared.command.CommandInput.{CommandInput}
+use Rattle.command_line.specs.declared.command.InputForm.TheVariants.{Path}
 use Rattle.mo_outside.specs.Answers.{Answer, There, Absent, Unread}
 use Rattle.mo_outside.specs.Answers as answer
 use Rattle.mo_types.specs.Gives.{◌>>=◌}

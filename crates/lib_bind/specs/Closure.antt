@@ -1,7 +1,7 @@
 -- What the files that a command line names and leads to make of its libraries.
 use Rattle.std.specs.Prelude.{ℕ, ◌≡◌, ◌≤◌, List, [], length, Option, Result, Ok, Err, IfOk}
-use Rattle.mo_cmd.specs.declared.command.Command.{Command}
-use Rattle.mo_outside.specs.Answers.{Answer, Asked, Chain}
+use Rattle.command_line.specs.declared.command.Command.{Command}
+use Rattle.mo_outside.specs.Answers.{Answer, Exchange, Chain}
 use Rattle.mo_outside.specs.Tells.{Tells}
 use Rattle.mo_types.specs.Gives.{◌>>=◌}
 use Rattle.lib_bind.specs.Asking.{AllAgree, AreNew, Asking, Asks, FilesSeen, Gave, paths_in}
@@ -56,7 +56,7 @@ Binds paths count (Err why) given = IsBindFault why → given ≡ Err (record { 
 pub record Closes {S : Type 0} (fetches : S → List ℕ → Answer → S → Type 0) (command : Command) (named : List NamedStub)
     (result : Result LibraryGraph BindFault) (old new : FilesSeen S) : Type 0 where
   pub count : ℕ
-  pub asked : List Asked
+  pub asked : List Exchange
   pub chain : Chain fetches old.self asked new.self
   pub agree : AllAgree old.holds asked
   pub logged : Tells (Asks (paths_in asked)) old.told new.told

@@ -1,7 +1,7 @@
 -- Where a re-exported library is looked for.
 use Rattle.std.specs.Prelude.{ℕ, ◌-◌, ◌++◌, List, [], ◌∷◌, codes, length, nat_eq, take, Option, if◌then◌else◌}
 use Rattle.std.specs.List.{ends_with}
-use Rattle.mo_cmd.specs.Paths.{root_or_empty}
+use Rattle.command_line.specs.Paths.{root_or_empty}
 
 -- an install name without a final `.dylib`
 abbrev pub stem_of : List ℕ → List ℕ

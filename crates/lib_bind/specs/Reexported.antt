@@ -10,9 +10,9 @@ use Rattle.mo_types.specs.declared.kind.Kind.TheVariants as kind
 use Rattle.mo_types.specs.declared.object_fault.ObjFault.{ObjFault}
 use Rattle.mo_types.specs.declared.object_fault.ObjFault.TheVariants.{Malformed, Unsupported, Limit, OutOfMemory}
 use Rattle.tbd_yaml.specs.File.{file_of}
-use Rattle.tbd_yaml.specs.declared.fault.YamlFault.{YamlFault}
-use Rattle.tbd_yaml.specs.declared.fault.YamlFault.TheVariants as yaml
-use Rattle.tbd_yaml.specs.declared.file.YamlFile.{YamlFile}
+use Rattle.yaml_text.specs.declared.fault.YamlFault.{YamlFault}
+use Rattle.yaml_text.specs.declared.fault.YamlFault.TheVariants as yaml
+use Rattle.yaml_text.specs.declared.file.YamlFile.{YamlFile}
 use Rattle.tbd_doc.specs.Stubs.{stub_file_of}
 pub use Rattle.tbd_doc.specs.Stubs.{HaveTrees}
 use Rattle.tbd_doc.specs.declared.fault.StubFault.{StubFault}

@@ -14,7 +14,7 @@ use crate::growing::Growing;
 use crate::libraries::Libraries;
 use crate::library::LibraryList;
 use crate::named::StubFileList;
-use mo_cmd::Command;
+use command_line::Command;
 use mo_outside::Files;
 use mo_types::OutOfMemory;
 use std::alloc::Global;

@@ -12,7 +12,7 @@ use crate::by_name::ByName;
 use crate::checks::MOST;
 use crate::library::{Library, LibraryList};
 use crate::named::{NamedStub, StubFileList};
-use mo_cmd::{Command, CommandInput};
+use command_line::{Command, CommandInput};
 use mo_types::{Bytes, Items, OutOfMemory, Refusal, Which};
 use std::alloc::Global;
 use tbd_doc::StubFile;

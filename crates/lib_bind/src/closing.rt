@@ -12,7 +12,7 @@ use crate::growing::{Growing, Reexport, nothing, with_file};
 use crate::library::{Library, LinkList, NumberList};
 use crate::number_set::NumberSet;
 use crate::sought::{Target, target_of};
-use mo_cmd::Command;
+use command_line::Command;
 use mo_outside::Files;
 use mo_types::{Items, OutOfMemory};
 use std::alloc::Global;

@@ -1,6 +1,6 @@
 //! What the definitions mean, each on a call that does nothing.
 ghost use Rattle.std.specs.Prelude.{◌≡◌, ◌+◌, ◌≤◌, ℕ, List, length, true, Option, Some, None, Ok, Err, Contains, slice_get, get_or, []};
-ghost use Rattle.mo_cmd.specs.declared.command.Command.{Command};
+ghost use Rattle.command_line.specs.declared.command.Command.{Command};
 ghost use Rattle.mo_outside.specs.Answers.{Answer};
 ghost use Rattle.lib_bind.specs.Closing.{Ended};
 ghost use Rattle.lib_bind.specs.Closure.{Bound, IsGraphOf, bound_after};

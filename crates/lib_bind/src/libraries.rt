@@ -48,7 +48,7 @@ impl Libraries {
         ensures links { IfOk result (λ libs. libs.links ≡ links) }
         ensures whole { IfOk result IsWhole }
     {
-        let Found { reach, index } = found_of(
+        let LibraryIndex { reach, index } = found_of(
             alloc,
             libraries.as_slice(),
             documents.as_slice(),
@@ -74,7 +74,7 @@ impl Libraries {
 
 // What is found of libraries: what they reach, and the names that they provide.
 #[derive(Drop)]
-pub struct Found {
+pub struct LibraryIndex {
     pub reach: LinkList,
     pub index: NameIndex,
 }
@@ -84,7 +84,7 @@ fn found_of(
     libraries: &[Library],
     documents: &[Stub],
     links: &[NumberList],
-) -> Result<Found, OutOfMemory>
+) -> Result<LibraryIndex, OutOfMemory>
     requires links { AreLinks (length documents.now) links.now }
     requires libraries { AreLibraries (length documents.now) libraries.now }
     ensures reach { IfOk result (λ found. AreReaches libraries.now links.now found.reach) }
@@ -92,5 +92,5 @@ fn found_of(
 {
     let reach = Items::from_vec(reaches(alloc, libraries, links)?);
     let index = index_of(alloc, libraries, reach.as_slice(), documents)?;
-    Ok(Found { reach, index })
+    Ok(LibraryIndex { reach, index })
 }

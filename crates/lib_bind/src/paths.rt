@@ -1,8 +1,8 @@
 ghost use Rattle.std.specs.Prelude.{◌≡◌, ◌++◌, IfOk, codes};
-ghost use Rattle.mo_cmd.specs.Paths.{root_or_empty};
+ghost use Rattle.command_line.specs.Paths.{root_or_empty};
 ghost use Rattle.lib_bind.specs.Paths as paths;
 
-use mo_cmd::Command;
+use command_line::Command;
 use mo_types::{Bytes, Items, NameList, OutOfMemory};
 use std::alloc::Global;
 

@@ -14,7 +14,7 @@ use crate::by_name::ByName;
 use crate::growing::{Growing, Reexport, with_file, with_known};
 use crate::paths::{plain_path_of, stub_path_of};
 use crate::stub_text::read_reexported;
-use mo_cmd::Command;
+use command_line::Command;
 use mo_outside::{FetchFault, Files};
 use mo_types::{Bytes, ObjFault, Refusal};
 use std::alloc::Global;

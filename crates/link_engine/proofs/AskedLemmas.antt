@@ -19,10 +19,10 @@ use Rattle.input_files.specs.declared.fault.LoadFault.{LoadFault}
 use Rattle.input_files.specs.declared.fault.LoadFault.TheVariants as rounds
 use Rattle.input_files.specs.declared.input.Input.{Input}
 use Rattle.mo_cmd.specs.Command.{command_by}
-use Rattle.mo_cmd.specs.declared.command.Command.{Command}
-use Rattle.mo_cmd.specs.declared.command.UsageFault.{UsageFault}
-use Rattle.mo_cmd.specs.declared.command.UsageFault.TheVariants as usage
-use Rattle.mo_outside.specs.Answers.{Answer, Asked, Chain}
+use Rattle.command_line.specs.declared.command.Command.{Command}
+use Rattle.mo_cmd.specs.declared.usage_fault.UsageFault.{UsageFault}
+use Rattle.mo_cmd.specs.declared.usage_fault.UsageFault.TheVariants as usage
+use Rattle.mo_outside.specs.Answers.{Answer, Exchange, Chain}
 use Rattle.mo_outside.specs.Faults.{Rises}
 use Rattle.mo_outside.specs.Files.{FileMap}
 use Rattle.mo_outside.specs.Tells.{Tells}
@@ -51,17 +51,17 @@ pub nothing_logged : (x : Option Paths) → Tells (Asks []) x x
 nothing_logged None = tt
 nothing_logged (Some old) = record { asked = sym (append-nil old) }
 
-pub chain_append : {S : Type 0} (fetches : S → List ℕ → Answer → S → Type 0) (first more : List Asked) (a b c : S) → Chain fetches a first b → Chain fetches b more c → Chain fetches a (first ++ more) c
+pub chain_append : {S : Type 0} (fetches : S → List ℕ → Answer → S → Type 0) (first more : List Exchange) (a b c : S) → Chain fetches a first b → Chain fetches b more c → Chain fetches a (first ++ more) c
 chain_append fetches [] more a b c same rest = subst (λ x. Chain fetches x more c) same rest
 chain_append fetches (one ∷ first) more a b c (next, step, steps) rest = (next, step, chain_append fetches first more next b c steps rest)
 
-pub agree_append : (held : Option FileMap) (first more : List Asked) → AllAgree held first → AllAgree held more → AllAgree held (first ++ more)
+pub agree_append : (held : Option FileMap) (first more : List Exchange) → AllAgree held first → AllAgree held more → AllAgree held (first ++ more)
 agree_append held [] more p q = q
 agree_append held (one ∷ first) more (p, ps) q = (p, agree_append held first more ps q)
 
-pub logged_append : (first more : List Asked) (x y z : Option Paths) → Tells (Asks (paths_in first)) x y → Tells (Asks (paths_in more)) y z → Tells (Asks (paths_in (first ++ more))) x z
+pub logged_append : (first more : List Exchange) (x y z : Option Paths) → Tells (Asks (paths_in first)) x y → Tells (Asks (paths_in more)) y z → Tells (Asks (paths_in (first ++ more))) x z
 logged_append first more x y z p q =
-    subst (λ (l : Paths). Tells (Asks l) x z) (sym (map-append (λ (one : Asked). one.0) first more))
+    subst (λ (l : Paths). Tells (Asks l) x z) (sym (map-append (λ (one : Exchange). one.0) first more))
     (tells_both (Asks (paths_in first)) (Asks (paths_in more)) (Asks (paths_in first ++ paths_in more))
     (λ a b c one two. record { asked = two.asked ∙ ap (λ (l : Paths). l ++ paths_in more) one.asked ∙ append_assoc a (paths_in first) (paths_in more) }) x y z p q)
 

@@ -12,8 +12,8 @@ use Rattle.input_fetch.specs.declared.content.Content.{Content}
 use Rattle.input_files.specs.Sources.{AreInOrder}
 use Rattle.input_files.specs.declared.input.Input.{Input}
 use Rattle.input_files.proofs.EachLemmas.{all_from}
-use Rattle.mo_cmd.specs.declared.command.Command.{Command}
-use Rattle.mo_cmd.specs.declared.command.CommandInput.{CommandInput}
+use Rattle.command_line.specs.declared.command.Command.{Command}
+use Rattle.command_line.specs.declared.command.CommandInput.{CommandInput}
 use Rattle.link_engine.specs.Input.{input_at, inputs_from, inputs_with}
 
 -- ---- they rise

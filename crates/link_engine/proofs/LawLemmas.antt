@@ -40,9 +40,9 @@ use Rattle.member_rounds.proofs.RiseLemmas.{loaded_rises}
 use Rattle.input_files.proofs.EachLemmas.{all_from}
 use Rattle.name_ids.specs.Names.{external_names, numbered}
 use Rattle.mo_cmd.specs.Command.{command_by}
-use Rattle.mo_cmd.specs.declared.command.Command.{Command}
-use Rattle.mo_cmd.specs.declared.command.UsageFault.{UsageFault}
-use Rattle.mo_cmd.specs.declared.command.UsageFault.TheVariants as usage
+use Rattle.command_line.specs.declared.command.Command.{Command}
+use Rattle.mo_cmd.specs.declared.usage_fault.UsageFault.{UsageFault}
+use Rattle.mo_cmd.specs.declared.usage_fault.UsageFault.TheVariants as usage
 use Rattle.mo_outside.specs.Answers.{Answer, There, Absent, Unread}
 use Rattle.mo_outside.specs.Answers as given
 use Rattle.mo_types.specs.Atoms.{atoms_of}

@@ -14,8 +14,8 @@ use Rattle.link_steps.specs.Asking.{last}
 use Rattle.link_steps.specs.Steps.{Meets}
 use Rattle.link_steps.specs.declared.fault.StepFault.{StepFault}
 use Rattle.link_steps.specs.declared.fault.StepFault.TheVariants as fault
-use Rattle.mo_cmd.specs.declared.command.Command.{Command}
-use Rattle.mo_outside.specs.Answers.{Answer, Asked}
+use Rattle.command_line.specs.declared.command.Command.{Command}
+use Rattle.mo_outside.specs.Answers.{Answer, Exchange}
 use Rattle.mo_outside.specs.Faults.{Rises}
 use Rattle.mo_outside.specs.Files.{FileMap}
 use Rattle.mo_types.specs.declared.answer.Status.{Status}
@@ -275,7 +275,7 @@ same_over words files answers paths known are verdict = record {
     over : (given : Result Plan Stop) → IsVerdict words (record { answers = answers; look = look_in files; more = paths }) given → IsVerdict words (told_by files words paths) given
     over given p = subst (λ (a : List Answer). IsVerdict words (record { answers = a; look = look_in files; more = paths }) given) are p
 
-agree_first : (held : Option FileMap) (first more : List Asked) → AllAgree held (first ++ more) → AllAgree held first × AllAgree held more
+agree_first : (held : Option FileMap) (first more : List Exchange) → AllAgree held (first ++ more) → AllAgree held first × AllAgree held more
 agree_first held [] more all = (tt, all)
 agree_first held (one ∷ first) more (here, rest) = let both = agree_first held first more rest in ((here, both.0), both.1)
 

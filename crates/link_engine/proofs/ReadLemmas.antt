@@ -5,8 +5,8 @@ use Rattle.std.specs.List.{list_any}
 use Rattle.std.proofs.lemmas.List.{map-append}
 use Rattle.std.proofs.lemmas.List.Elements.{All-cons, All-head, All-nil, All-push, All-tail}
 use Rattle.std.proofs.lemmas.Slice.Eq.{bytes_eq-Decides}
-use Rattle.mo_cmd.specs.declared.command.Command.{Command}
-use Rattle.mo_outside.specs.Answers.{Absent, Answer, Asked, IsAnswer, There, Unread}
+use Rattle.command_line.specs.declared.command.Command.{Command}
+use Rattle.mo_outside.specs.Answers.{Absent, Answer, Exchange, IsAnswer, There, Unread}
 use Rattle.mo_outside.specs.Answers as answer
 use Rattle.mo_outside.specs.Files.{FileMap, fetched}
 use Rattle.mo_types.specs.Gives.{◌>>=◌}
@@ -199,12 +199,12 @@ module _ (look : List ℕ → Answer) where
 -- ONE LOOK-UP THAT GIVES ANSWERS
 
 -- the answer of the first pair with the path
-abbrev pub look_up : List Asked → List ℕ → Answer
+abbrev pub look_up : List Exchange → List ℕ → Answer
 look_up [] path = Absent
 look_up (one ∷ more) path = if bytes_eq path one.0 then one.1 else look_up more path
 
 -- where none of the first pairs has the path, the others answer
-others_answer : (before more : List Asked) (path : List ℕ) → list_any (bytes_eq path) (paths_in before) ≡ false → look_up (before ++ more) path ≡ look_up more path
+others_answer : (before more : List Exchange) (path : List ℕ) → list_any (bytes_eq path) (paths_in before) ≡ false → look_up (before ++ more) path ≡ look_up more path
 others_answer [] more path new = refl
 others_answer (one ∷ before) more path new = by (bytes_eq path one.0) new (others_answer before more path)
   where
@@ -213,19 +213,19 @@ others_answer (one ∷ before) more path new = by (bytes_eq path one.0) new (oth
     by true new rest = absurd (cc)
     by false new rest = rest new
 
-first_answers : (one : Asked) (more : List Asked) → look_up (one ∷ more) one.0 ≡ one.1
+first_answers : (one : Exchange) (more : List Exchange) → look_up (one ∷ more) one.0 ≡ one.1
 first_answers one more = ap (λ (test : Bool). if test then one.1 else look_up more one.0) ((bytes_eq-Decides one.0 one.0).1 refl)
 
-gave_from : (before asked : List Asked) → AreNew (paths_in before) (paths_in asked) → Gave (look_up (before ++ asked)) asked
+gave_from : (before asked : List Exchange) → AreNew (paths_in before) (paths_in asked) → Gave (look_up (before ++ asked)) asked
 gave_from before [] new = tt
 gave_from before (one ∷ asked) new = (
   others_answer before (one ∷ asked) one.0 new.0 ∙ first_answers one asked,
-  subst (λ (all : List Asked). Gave (look_up all) asked) (append_assoc before (one ∷ []) asked)
-      (gave_from (before ++ one ∷ []) asked (subst (λ (paths : List (List ℕ)). AreNew paths (paths_in asked)) (sym (map-append (λ (pair : Asked). pair.0) before (one ∷ []))) new.1)),
+  subst (λ (all : List Exchange). Gave (look_up all) asked) (append_assoc before (one ∷ []) asked)
+      (gave_from (before ++ one ∷ []) asked (subst (λ (paths : List (List ℕ)). AreNew paths (paths_in asked)) (sym (map-append (λ (pair : Exchange). pair.0) before (one ∷ []))) new.1)),
 )
 
 -- paths that were each asked for once have one look-up that gives their answers
-pub gave_once : (asked : List Asked) → AreNew [] (paths_in asked) → Gave (look_up asked) asked
+pub gave_once : (asked : List Exchange) → AreNew [] (paths_in asked) → Gave (look_up asked) asked
 gave_once asked new = gave_from [] asked new
 
 found_is : (files : FileMap) (path : List ℕ) (said : Answer) → IsAnswer files path said → IsRead said → found (fetched files path) ≡ said
@@ -235,17 +235,17 @@ found_is files path Unread is read = absurd read
 found_is files path answer.Refused is read = absurd read
 
 -- where files tell what they hold, and all could be read, they are a look-up that gives the answers
-pub gave_files : (files : FileMap) (asked : List Asked) → AllAgree (Some files) asked → All (λ one. IsRead one.1) asked → Gave (λ path. found (fetched files path)) asked
+pub gave_files : (files : FileMap) (asked : List Exchange) → AllAgree (Some files) asked → All (λ one. IsRead one.1) asked → Gave (λ path. found (fetched files path)) asked
 gave_files files [] agree read = tt
 gave_files files (one ∷ asked) agree read = (
-  found_is files one.0 one.1 agree.0 (All-head (λ (pair : Asked). IsRead pair.1) one asked read),
-  gave_files files asked agree.1 (All-tail (λ (pair : Asked). IsRead pair.1) one asked read),
+  found_is files one.0 one.1 agree.0 (All-head (λ (pair : Exchange). IsRead pair.1) one asked read),
+  gave_files files asked agree.1 (All-tail (λ (pair : Exchange). IsRead pair.1) one asked read),
 )
 
 -- what a look-up gave for paths that could be read is that a file was there or not
-pub read_answers : (look : List ℕ → Answer) (asked : List Asked) → Gave look asked → All (λ path. IsRead (look path)) (paths_in asked) → All (λ one. IsRead one.1) asked
-read_answers look [] gave read = All-nil (λ (pair : Asked). IsRead pair.1)
+pub read_answers : (look : List ℕ → Answer) (asked : List Exchange) → Gave look asked → All (λ path. IsRead (look path)) (paths_in asked) → All (λ one. IsRead one.1) asked
+read_answers look [] gave read = All-nil (λ (pair : Exchange). IsRead pair.1)
 read_answers look (one ∷ asked) gave read =
-    All-cons (λ (pair : Asked). IsRead pair.1) one asked
+    All-cons (λ (pair : Exchange). IsRead pair.1) one asked
     (subst (λ (said : Answer). IsRead said) gave.0 (All-head (λ (path : List ℕ). IsRead (look path)) one.0 (paths_in asked) read))
     (read_answers look asked gave.1 (All-tail (λ (path : List ℕ). IsRead (look path)) one.0 (paths_in asked) read))

@@ -1,6 +1,6 @@
 -- The command of words, by its two steps.
 use Rattle.std.proofs.Common.{◌≡◌, ℕ, List, Option, Some, None, Result, Ok, Err, ap, ◌∙◌}
-use Rattle.mo_cmd.specs.declared.command.Command.{Command}
+use Rattle.command_line.specs.declared.command.Command.{Command}
 use Rattle.mo_types.specs.Gives.{◌>>=◌}
 use Rattle.link_engine.specs.Command.{command_of, commanded, crowd_stop, unless_crowded}
 use Rattle.link_engine.specs.declared.stop.Stop.{Stop}

@@ -11,8 +11,8 @@ use Rattle.lib_bind.specs.Graph.{IsWhole}
 use Rattle.lib_bind.specs.declared.bind_fault.BindFault.{BindFault}
 use Rattle.lib_bind.specs.declared.library.LibraryGraph.{LibraryGraph}
 use Rattle.lib_bind.specs.declared.named.NamedStub.{NamedStub}
-use Rattle.mo_cmd.specs.declared.command.Command.{Command}
-use Rattle.mo_outside.specs.Answers.{Answer, Asked, Chain}
+use Rattle.command_line.specs.declared.command.Command.{Command}
+use Rattle.mo_outside.specs.Answers.{Answer, Exchange, Chain}
 use Rattle.mo_outside.specs.Tells.{Tells}
 use Rattle.link_engine.specs.Kept.{KeepsFiles}
 use Rattle.link_engine.specs.Stop.{bind_fault_for, fetch_fault_for, stopped}
@@ -30,8 +30,8 @@ places_by (Err _) = []
 -- holds does so of each look-up that gives these answers.
 pub record Answered {S : Type 0} (fetches : S → List ℕ → Answer → S → Type 0) (places : List (List (List ℕ)))
     (ends : Type 0) (meets : Told → Type 0) (old new : FilesSeen S) : Type 0 where
-  pub inputs : List Asked
-  pub more : List Asked
+  pub inputs : List Exchange
+  pub more : List Exchange
   pub chain : Chain fetches old.self (inputs ++ more) new.self
   pub agree : AllAgree old.holds (inputs ++ more)
   pub logged : Tells (Asks (paths_in (inputs ++ more))) old.told new.told
@@ -65,7 +65,7 @@ pub record BindsLibraries {S : Type 0} (fetches : S → List ℕ → Answer → 
 
 -- The files were asked for paths, none of them twice. They hold what they held, and their count of faults didn't fall.
 pub record AsksMore {S : Type 0} (fetches : S → List ℕ → Answer → S → Type 0) (old new : FilesSeen S) : Type 0 where
-  pub asked : List Asked
+  pub asked : List Exchange
   pub chain : Chain fetches old.self asked new.self
   pub agree : AllAgree old.holds asked
   pub logged : Tells (Asks (paths_in asked)) old.told new.told
@@ -75,8 +75,8 @@ pub record AsksMore {S : Type 0} (fetches : S → List ℕ → Answer → S → 
 
 -- they were asked for the first of the paths of inputs before
 pub record AsksFor {S : Type 0} (fetches : S → List ℕ → Answer → S → Type 0) (places : List (List (List ℕ))) (old new : FilesSeen S) : Type 0 where
-  pub inputs : List Asked
-  pub more : List Asked
+  pub inputs : List Exchange
+  pub more : List Exchange
   pub chain : Chain fetches old.self (inputs ++ more) new.self
   pub agree : AllAgree old.holds (inputs ++ more)
   pub logged : Tells (Asks (paths_in (inputs ++ more))) old.told new.told

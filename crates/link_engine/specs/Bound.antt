@@ -6,7 +6,7 @@ use Rattle.lib_bind.specs.Graph.{IsWhole}
 use Rattle.lib_bind.specs.declared.bind_fault.BindFault.{BindFault}
 use Rattle.lib_bind.specs.declared.library.LibraryGraph.{LibraryGraph}
 use Rattle.lib_bind.specs.declared.named.NamedStub.{NamedStub}
-use Rattle.mo_cmd.specs.declared.command.Command.{Command}
+use Rattle.command_line.specs.declared.command.Command.{Command}
 use Rattle.mo_outside.specs.Answers.{Answer}
 use Rattle.link_engine.specs.declared.stop.Stop.{Stop}
 use Rattle.link_engine.specs.Stop.{bind_fault_for, stopped}

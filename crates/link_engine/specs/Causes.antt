@@ -22,7 +22,7 @@ use Rattle.member_rounds.specs.Rounds.{loaded_of, round_fault}
 use Rattle.input_files.specs.declared.fault.LoadFault.TheVariants as rounds
 use Rattle.input_files.specs.declared.input.Input.{Input}
 use Rattle.mo_cmd.specs.Command.{command_by}
-use Rattle.mo_cmd.specs.declared.command.Command.{Command}
+use Rattle.command_line.specs.declared.command.Command.{Command}
 use Rattle.mo_outside.specs.Answers.{Answer}
 use Rattle.mo_types.specs.Scan.{first_some}
 use Rattle.mo_types.specs.declared.answer.Refusal.TheVariants.{Limit, Missing}

@@ -1,9 +1,9 @@
 -- The command that the words of a command line are.
 use Rattle.std.specs.Prelude.{ℕ, ◌^◌, nat_lt, List, length, Option, Some, None, Result, Ok, Err, if◌then◌else◌}
 use Rattle.mo_cmd.specs.Command.{command_by}
-use Rattle.mo_cmd.specs.declared.command.Command.{Command}
-use Rattle.mo_cmd.specs.declared.command.UsageFault.{UsageFault}
-use Rattle.mo_cmd.specs.declared.command.UsageFault.TheVariants as usage
+use Rattle.command_line.specs.declared.command.Command.{Command}
+use Rattle.mo_cmd.specs.declared.usage_fault.UsageFault.{UsageFault}
+use Rattle.mo_cmd.specs.declared.usage_fault.UsageFault.TheVariants as usage
 use Rattle.mo_cmd.specs.declared.parts.Rows.{Rows}
 use Rattle.mo_cmd.specs.declared.parts.Rows.TheVariants as rows
 use Rattle.mo_types.specs.Gives.{◌>>=◌}

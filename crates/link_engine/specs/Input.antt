@@ -2,8 +2,8 @@
 use Rattle.std.specs.Prelude.{ℕ, ◌+◌, ◌||◌, Bool, List, [], ◌∷◌}
 use Rattle.input_fetch.specs.declared.content.Content.{Content}
 use Rattle.input_files.specs.declared.input.Input.{Input}
-use Rattle.mo_cmd.specs.declared.command.Command.{Command}
-use Rattle.mo_cmd.specs.declared.command.CommandInput.{CommandInput}
+use Rattle.command_line.specs.declared.command.Command.{Command}
+use Rattle.command_line.specs.declared.command.CommandInput.{CommandInput}
 
 -- messages call an input by the path under which it was found; all members of its archive are loaded where its word says so
 -- or `-all_load` does (ld(1))

@@ -12,7 +12,7 @@ use Rattle.link_steps.specs.Asking.{Reply, asks, gives, last, tries, unless}
 use Rattle.link_steps.specs.Steps.{Answer, ◌>>=◌, ◌>>◌}
 use Rattle.member_rounds.specs.Rounds.{loaded_of}
 use Rattle.input_files.specs.declared.input.Input.{Input}
-use Rattle.mo_cmd.specs.declared.command.Command.{Command}
+use Rattle.command_line.specs.declared.command.Command.{Command}
 use Rattle.mo_outside.specs.Answers as outside
 use Rattle.mo_outside.specs.Files.{FileMap}
 use Rattle.mo_types.specs.declared.loaded.Loaded.{Loaded}

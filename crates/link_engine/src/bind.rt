@@ -6,9 +6,9 @@ ghost use Rattle.link_engine.specs.Asks.{AsksMore, BindsLibraries};
 ghost use Rattle.link_steps.specs.Asking.{Acts};
 
 use crate::stop::{Stop, bind_fault};
+use command_line::Command;
 use lib_bind::{Libraries, StubFileList, closure};
 use link_steps::StepFault;
-use mo_cmd::Command;
 use mo_outside::Files;
 use std::alloc::Global;
 

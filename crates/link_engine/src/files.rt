@@ -9,11 +9,11 @@ ghost use Rattle.mo_types.specs.Loaded.{IsWholeLoaded};
 
 use crate::inputs::Inputs;
 use crate::stop::{Stop, load_fault, refused};
+use command_line::Command;
 use lib_bind::Libraries;
 use link_files::{link_files, wanted_names};
 use link_steps::StepFault;
 use member_rounds::load;
-use mo_cmd::Command;
 use mo_outside::Gate;
 use mo_types::{Bytes, Loaded};
 use std::alloc::Global;

@@ -12,12 +12,12 @@ ghost use Rattle.input_fetch.specs.Contents.{places_of};
 ghost use Rattle.input_files.specs.Sources.{AreInOrder};
 
 use crate::stop::{Stop, fetch_fault, load_fault};
+use command_line::{Command, CommandInput};
 use input_fetch::{Content, ContentList, fetch_inputs};
 use input_files::{Input, InputList};
 use input_read::{Opened, SourceList, open_inputs};
 use lib_bind::StubFileList;
 use link_steps::StepFault;
-use mo_cmd::{Command, CommandInput};
 use mo_outside::{Files, Gate};
 use mo_types::{LoadedList, OutOfMemory};
 use std::alloc::Global;

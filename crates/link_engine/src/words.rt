@@ -4,8 +4,9 @@ ghost use Rattle.link_engine.specs.Command.{commanded, crowd_stop};
 ghost use Rattle.link_steps.specs.Steps.{Finds, Yields};
 
 use crate::stop::Stop;
+use command_line::Command;
 use link_steps::StepFault;
-use mo_cmd::{Command, Rows, UsageFault, read_words};
+use mo_cmd::{Rows, UsageFault, read_words};
 use mo_types::{ArgList, Refusal, Which};
 use std::alloc::Global;
 

@@ -8,7 +8,7 @@ use Rattle.std.specs.declared.cmp.Ordering.TheVariants.{Equal, Greater, Less}
 use Rattle.std.proofs.lemmas.List.Kept.{AllPairs-cons}
 use Rattle.std.proofs.lemmas.List.Elements.{All-from_recursion}
 use Rattle.list_lemmas.proofs.Members.{In, all_from_in, find_some, in_map}
-use Rattle.image_make.specs.Addresses.{address_in}
+use Rattle.sect_place.specs.Addresses.{address_in}
 use Rattle.image_make.specs.Atoms.{atom_of, kept_at}
 use Rattle.image_make.specs.Rows.{has_bytes, row_at, row_of, rows, section_rows}
 use Rattle.image_make.specs.declared.kept.KeptAtom.{KeptAtom}
@@ -19,16 +19,16 @@ use Rattle.mo_types.specs.declared.key.AtomKey.{AtomKey}
 use Rattle.mo_types.specs.declared.out_section.OutSection.{OutSection}
 use Rattle.patch.specs.declared.range.PlacedWork.{PlacedWork}
 use Rattle.sect_place.specs.Layout.{IsLayoutOf, image_sections, plan_of}
-use Rattle.sect_place.specs.OutSections.{out_sections}
+use Rattle.sect_list.specs.OutSections.{out_sections}
 use Rattle.sect_place.specs.Places.{file_bytes, group_end, groups_sections, page_up, part_end, parts_sections, placed_section}
 use Rattle.sect_place.specs.declared.layout.Layout.{Layout}
 use Rattle.sect_place.specs.declared.layout.Placed.{Placed}
 use Rattle.sect_place.specs.declared.layout.PlacedSection.{PlacedSection}
 use Rattle.sect_place.specs.declared.part.Group.{Group}
 use Rattle.sect_place.specs.declared.part.Part.{Part}
-use Rattle.sect_place.proofs.Once.{Apart, listed_once}
+use Rattle.sect_list.proofs.Once.{Apart, listed_once}
 use Rattle.sect_place.proofs.Positions.{all_apart, all_group_keys, flat_join, from_pairs, group_keys, part_keys}
-use Rattle.key_hints.proofs.Keys.{same_key}
+use Rattle.atom_index.proofs.Keys.{same_key}
 use Rattle.tlv_plan.specs.Template.{keys_of}
 
 -- ---- the keys of a layout's sections

@@ -7,7 +7,7 @@ use Rattle.liveness.specs.Undefined.{undefined}
 use Rattle.lib_bind.specs.declared.library.LibraryGraph.{LibraryGraph}
 use Rattle.link_steps.proofs.StepLemmas.{checks_stops, gives_stops, some_stops, unless_stops}
 use Rattle.link_steps.specs.Steps.{Stops}
-use Rattle.mo_cmd.specs.declared.command.Command.{Command}
+use Rattle.command_line.specs.declared.command.Command.{Command}
 use Rattle.mo_types.specs.declared.answer.Refusal.{Refusal}
 use Rattle.mo_types.specs.declared.answer.Refusal.TheVariants as refusal
 use Rattle.mo_types.specs.declared.cause.Feature.TheVariants.{Later}

@@ -4,7 +4,7 @@ use Rattle.list_lemmas.proofs.Members.{Contains_from_in, in_from_Contains}
 use Rattle.image_make.specs.Made.{IsMade, ImageInputs}
 use Rattle.image_make.specs.declared.fault.MakeFault.{MakeFault}
 use Rattle.lib_bind.specs.declared.library.LibraryGraph.{LibraryGraph}
-use Rattle.mo_cmd.specs.declared.command.Command.{Command}
+use Rattle.command_line.specs.declared.command.Command.{Command}
 use Rattle.mo_types.specs.declared.answer.Refusal.{Refusal}
 use Rattle.mo_types.specs.declared.goal.Goal.{Goal}
 use Rattle.mo_types.specs.declared.key.AtomKey.{AtomKey}

@@ -3,7 +3,7 @@ use Rattle.std.proofs.Common.{◌≡◌, ℕ, List, Option, Some, None, Ok, refl
 use Rattle.liveness.specs.Undefined.{undefined}
 use Rattle.lib_bind.specs.declared.library.LibraryGraph.{LibraryGraph}
 use Rattle.link_steps.proofs.StepLemmas.{checks_passed, gives_passed, unless_passed}
-use Rattle.mo_cmd.specs.declared.command.Command.{Command}
+use Rattle.command_line.specs.declared.command.Command.{Command}
 use Rattle.mo_types.specs.declared.answer.Refusal.TheVariants as refusal
 use Rattle.mo_types.specs.declared.cause.Feature.TheVariants.{Later}
 use Rattle.mo_types.specs.declared.goal.Goal.{Goal}

@@ -8,7 +8,7 @@ use Rattle.liveness.specs.Undefined.{undefined}
 use Rattle.liveness.specs.declared.lost.Lost.{Lost}
 use Rattle.liveness.specs.inner.Lost.{held}
 use Rattle.lib_bind.specs.declared.library.LibraryGraph.{LibraryGraph}
-use Rattle.mo_cmd.specs.declared.command.Command.{Command}
+use Rattle.command_line.specs.declared.command.Command.{Command}
 use Rattle.mo_types.specs.declared.answer.Refusal.{Refusal}
 use Rattle.mo_types.specs.declared.answer.Refusal.TheVariants.{Undefined}
 use Rattle.mo_types.specs.declared.goal.Goal.{Goal}

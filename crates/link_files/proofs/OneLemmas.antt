@@ -13,7 +13,7 @@ use Rattle.image_make.specs.declared.fault.MakeFault.TheVariants as make
 use Rattle.lib_bind.specs.declared.library.LibraryGraph.{LibraryGraph}
 use Rattle.mark_core.proofs.LawLemmas.{kept_is_one}
 use Rattle.mark_core.specs.Kept.{IsKept}
-use Rattle.mo_cmd.specs.declared.command.Command.{Command}
+use Rattle.command_line.specs.declared.command.Command.{Command}
 use Rattle.mo_types.specs.Keys.{compare_keys}
 use Rattle.mo_types.specs.Loaded.{IsBefore}
 use Rattle.mo_format.specs.declared.loader.TheConstants.{MH_DYLDLINK, MH_NOUNDEFS, MH_TWOLEVEL}
@@ -35,10 +35,10 @@ use Rattle.literal_merge.specs.Representatives.{representatives_of}
 use Rattle.liveness.specs.Roots.{exported_root, exported_roots, kept_roots, marked_root, name_root, plain_roots, roots, wanted_roots}
 use Rattle.literal_merge.specs.declared.representative.Representative.{Representative}
 use Rattle.symbol_winners.specs.declared.winner.Winner.{Winner}
-use Rattle.sect_place.proofs.Once.{listed_once}
+use Rattle.sect_list.proofs.Once.{listed_once}
 use Rattle.sect_place.proofs.Single.{layouts_same}
 use Rattle.sect_place.specs.Layout.{image_size}
-use Rattle.sect_place.specs.OutSections.{out_sections}
+use Rattle.sect_list.specs.OutSections.{out_sections}
 use Rattle.sect_place.specs.declared.layout.Layout.{Layout}
 use Rattle.sect_place.specs.declared.size.PlaceFault.TheVariants as place
 use Rattle.link_files.specs.Flags.{header_flags, is_weak_export, kind_flag, weak_flag}

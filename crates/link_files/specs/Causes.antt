@@ -5,7 +5,7 @@ use Rattle.image_make.specs.declared.fault.MakeFault.TheVariants as make
 use Rattle.liveness.specs.Undefined.{undefined}
 use Rattle.lib_bind.specs.declared.library.LibraryGraph.{LibraryGraph}
 use Rattle.link_steps.specs.Steps.{Cause, ◌>>=◌, ◌>>◌, always, passes, refuses, stands, taken}
-use Rattle.mo_cmd.specs.declared.command.Command.{Command}
+use Rattle.command_line.specs.declared.command.Command.{Command}
 use Rattle.mo_types.specs.declared.answer.Refusal.{Refusal}
 use Rattle.mo_types.specs.declared.answer.Refusal.TheVariants.{Limit, Range, Undefined, Unsupported}
 use Rattle.mo_types.specs.declared.cause.Feature.TheVariants.{Later}

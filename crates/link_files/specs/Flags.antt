@@ -3,7 +3,7 @@ use Rattle.std.specs.Prelude.{ℕ, ◌+◌, ◌&&◌, Bool, List, if◌then◌el
 use Rattle.std.specs.List.{list_any}
 use Rattle.lib_bind.specs.declared.library.LibraryGraph.{LibraryGraph}
 use Rattle.mark_core.specs.Kept.{has}
-use Rattle.mo_cmd.specs.declared.command.Command.{Command}
+use Rattle.command_line.specs.declared.command.Command.{Command}
 use Rattle.mo_format.specs.declared.loader.TheConstants.{MH_DYLDLINK, MH_NOUNDEFS, MH_NO_REEXPORTED_DYLIBS, MH_PIE, MH_TWOLEVEL, MH_WEAK_DEFINES}
 use Rattle.mo_types.specs.declared.key.AtomKey.{AtomKey}
 use Rattle.symbol_winners.specs.Known.{Known}

@@ -6,7 +6,7 @@ use Rattle.image_make.specs.declared.fault.MakeFault.{MakeFault}
 use Rattle.image_make.specs.declared.fault.MakeFault.TheVariants as make
 use Rattle.lib_bind.specs.declared.library.LibraryGraph.{LibraryGraph}
 use Rattle.link_steps.specs.Steps.{Answer, ◌>>=◌, ◌>>◌, always, checks, gives, some, unless}
-use Rattle.mo_cmd.specs.declared.command.Command.{Command}
+use Rattle.command_line.specs.declared.command.Command.{Command}
 use Rattle.mo_types.specs.Atoms.{atoms_of}
 use Rattle.mo_types.specs.Loaded.{IsBefore}
 use Rattle.mo_types.specs.declared.answer.Refusal.{Refusal}

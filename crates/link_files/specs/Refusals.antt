@@ -2,7 +2,7 @@
 use Rattle.std.specs.Prelude.{ℕ, ◌≡◌, pos, List, Option, Some, None, Result, Ok, Err}
 use Rattle.image_make.specs.declared.fault.MakeFault.{MakeFault}
 use Rattle.image_make.specs.declared.fault.MakeFault.TheVariants as make
-use Rattle.mo_cmd.specs.declared.command.Command.{Command}
+use Rattle.command_line.specs.declared.command.Command.{Command}
 use Rattle.mo_types.specs.declared.answer.Refusal.{Refusal}
 use Rattle.mo_types.specs.declared.answer.Refusal.TheVariants as refusal
 use Rattle.mo_types.specs.declared.cause.RangeKind.TheVariants.{ImageSize}

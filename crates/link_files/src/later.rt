@@ -10,9 +10,9 @@ ghost use Rattle.link_files.specs.Later as spec;
 ghost use Rattle.link_files.specs.Resolved.{files_of, table_of};
 
 use crate::resolved::Resolved;
+use command_line::Command;
 use link_steps::StepFault;
 use mark_core::is_kept;
-use mo_cmd::Command;
 use mo_types::{AtomKey, Bytes, Feature, Goal, KeyList, LoadedFile, Ref, RefList, Refusal, Target};
 use resolve::{FileGoals, GoalTable};
 

@@ -2,7 +2,7 @@
 ghost use Rattle.std.specs.Prelude.{ℕ, List, Ok};
 ghost use Rattle.lib_bind.specs.declared.library.LibraryGraph.{LibraryGraph};
 ghost use Rattle.link_steps.specs.Steps.{IsOne, Stops};
-ghost use Rattle.mo_cmd.specs.declared.command.Command.{Command as Commanded};
+ghost use Rattle.command_line.specs.declared.command.Command.{Command as Commanded};
 ghost use Rattle.mo_types.specs.declared.loaded.LoadedFile.{LoadedFile};
 ghost use Rattle.link_files.specs.Causes.{LinkCause, WentThrough};
 ghost use Rattle.link_files.specs.Linked.{AreCut, AreOrdered, IsLinked};

@@ -5,8 +5,8 @@ ghost use Rattle.name_ids.specs.Names.{numbers_of};
 ghost use Rattle.symbol_winners.specs.Found.{AreNamed};
 ghost use Rattle.link_files.specs.Names as spec;
 
+use command_line::Command;
 use link_steps::StepFault;
-use mo_cmd::Command;
 use mo_types::{Bytes, Loaded, LoadedFile, NameList, OutOfMemory, Refusal, Which};
 use name_ids::{GatherFault, Numbered, gather};
 use std::alloc::Global;

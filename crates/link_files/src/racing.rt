@@ -5,7 +5,7 @@ ghost use Rattle.name_ids.specs.Names.{numbers_of};
 ghost use Rattle.symbol_winners.specs.Winners.{AreLeast};
 ghost use Rattle.link_files.specs.Names.{names_of, wanted};
 
-use mo_cmd::Command;
+use command_line::Command;
 use mo_outside::Gate;
 use mo_types::{Loaded, OutOfMemory};
 use name_ids::Numbered;

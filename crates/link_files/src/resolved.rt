@@ -1,6 +1,6 @@
 //! Files whose names have winners.
+use command_line::Command;
 use lib_bind::Libraries;
-use mo_cmd::Command;
 use mo_types::{Goal, Loaded};
 use resolve::GoalTable;
 use symbol_winners::Winners;

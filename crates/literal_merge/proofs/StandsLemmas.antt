@@ -10,7 +10,7 @@ use Rattle.list_lemmas.proofs.Rising.{rising_at}
 use Rattle.mo_types.specs.Keys.{compare_keys}
 use Rattle.mo_types.specs.declared.key.AtomKey.{AtomKey}
 use Rattle.mo_types.proofs.KeyOrder.{compare_keys_total}
-use Rattle.key_hints.proofs.Keys.{found_key, no_key, sorted_from_rising}
+use Rattle.atom_index.proofs.Keys.{found_key, no_key, sorted_from_rising}
 use Rattle.literal_merge.specs.Standing.{literal_at}
 use Rattle.literal_merge.specs.declared.representative.Representative.{Representative}
 use Rattle.literal_merge.specs.inner.Literals.{AreInOrder, literal_key}

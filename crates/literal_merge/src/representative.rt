@@ -5,8 +5,7 @@ ghost use Rattle.mo_types.specs.Keys.{compare_keys};
 ghost use Rattle.literal_merge.specs.Standing as standing;
 ghost use Rattle.literal_merge.specs.inner.Literals.{AreInOrder};
 
-use mo_types::{AtomKey, Items};
-use std::cmp::Ordering;
+use mo_types::{AtomKey, Items, compare_atoms};
 
 /// Which literal stands in the image for a literal: of all with the same bytes that go to one section of the image, the
 /// one with the least key.
@@ -21,19 +20,12 @@ pub struct Representative {
 /// What stands for each literal, in the order of these.
 pub type RepresentativeList = Items<Representative>;
 
-// The order of atoms.
-fn compare(a: &AtomKey, b: &AtomKey) -> Ordering
-    ensures { result ≡ compare_keys a.now b.now }
-{
-    a.cmp(b)
-}
-
 /// What stands for a literal, or `None` exactly where the atom is none of these.
 pub fn representative_in(literals: &[Representative], key: AtomKey) -> Option<&Representative>
     requires { AreInOrder literals.now }
     ensures { option_copied result ≡ standing.literal_at literals.now key }
 {
-    match literals.binary_search_by(|literal| compare(&literal.literal, &key)) {
+    match literals.binary_search_by(|literal| compare_atoms(&literal.literal, &key)) {
         Ok(at) => Some(&literals[at]),
         Err(_) => None,
     }

@@ -6,7 +6,7 @@ use Rattle.std.specs.Option.{option_map_or}
 use Rattle.std.proofs.lemmas.List.{map-append, take_more}
 use Rattle.std.proofs.lemmas.List.FromFn.{get_or-enumerate_from, length-enumerate_from}
 use Rattle.lib_bind.specs.declared.library.LibraryGraph.{LibraryGraph}
-use Rattle.mo_cmd.specs.declared.command.Command.{Command}
+use Rattle.command_line.specs.declared.command.Command.{Command}
 use Rattle.mo_types.specs.declared.edge.Edge.{Edge}
 use Rattle.mo_types.specs.declared.goal.Goal.{Goal}
 use Rattle.mo_types.specs.declared.key.AtomKey.{AtomKey}

@@ -3,7 +3,7 @@
 use Rattle.std.specs.Prelude.{ℕ, ◌==◌, ◌&&◌, ◌||◌, ◌++◌, bit_and, Bool, false, not, List, [], Option, None, if◌then◌else◌}
 use Rattle.std.specs.List.{enumerate_from, filter_map, flat_map, list_any}
 use Rattle.std.specs.Option.{option_and_then, option_map, option_map_or, option_to_list}
-use Rattle.mo_cmd.specs.declared.command.Command.{Command}
+use Rattle.command_line.specs.declared.command.Command.{Command}
 use Rattle.mo_format.specs.declared.loader.TheConstants.{S_ATTR_NO_DEAD_STRIP, S_MOD_INIT_FUNC_POINTERS}
 use Rattle.mo_types.specs.Candidates.{word_of}
 use Rattle.mo_types.specs.Rows.{when}

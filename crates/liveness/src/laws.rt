@@ -2,7 +2,7 @@
 ghost use Rattle.std.specs.Prelude.{List, None, Some, [], ℕ, ◌≡◌};
 ghost use Rattle.std.specs.List.{flat_map};
 ghost use Rattle.lib_bind.specs.declared.library.LibraryGraph.{LibraryGraph};
-ghost use Rattle.mo_cmd.specs.declared.command.Command.{Command};
+ghost use Rattle.command_line.specs.declared.command.Command.{Command};
 ghost use Rattle.mo_types.specs.declared.loaded.LoadedFile.{LoadedFile};
 ghost use Rattle.mo_types.specs.declared.reference.Target.{Target};
 ghost use Rattle.liveness.specs.Edges.{edges, file_edges, file_supports, goal_atom, supports, target_atom};

@@ -12,7 +12,7 @@ ghost use Rattle.literal_merge.specs.declared.representative.Representative.{Rep
 
 use crate::atom_set::{AtomSet, set_of_atoms};
 use crate::standing::{standing_atoms, symbol_atom, winning_atom, with_atom};
-use mo_cmd::Command;
+use command_line::Command;
 use mo_format::loader::{S_ATTR_NO_DEAD_STRIP, S_MOD_INIT_FUNC_POINTERS};
 use mo_types::{
     Atom, AtomKey, Bytes, COMMON_SECTION, Items, KeyList, Loaded, LoadedFile, Object, OutOfMemory,

@@ -16,7 +16,7 @@ use Rattle.mo_format.specs.declared.dylib.DylibCommand.{DylibCommand}
 use Rattle.mo_format.specs.declared.dylib.RpathCommand.{RpathCommand}
 use Rattle.mo_format.specs.declared.loader.TheConstants.{LC_BUILD_VERSION, LC_CODE_SIGNATURE, LC_DYLD_CHAINED_FIXUPS, LC_DYLD_EXPORTS_TRIE, LC_ID_DYLIB, LC_LOAD_DYLINKER, LC_MAIN, LC_RPATH, LC_SYMTAB, LC_UUID, PLATFORM_MACOS}
 use Rattle.mo_format.specs.declared.symbol.SymtabCommand.{SymtabCommand}
-use Rattle.mo_cmd.specs.declared.command.Command.{Command}
+use Rattle.command_line.specs.declared.command.Command.{Command}
 use Rattle.lib_bind.specs.declared.library.LibraryGraph.{LibraryGraph}
 use Rattle.sect_place.specs.Whole.{AreInSegments, IsWholeLayout}
 use Rattle.sect_place.specs.declared.layout.Layout.{Layout}

@@ -1,6 +1,6 @@
 -- The header of an image with its load commands (`loader.h`).
 use Rattle.std.specs.Prelude.{ℕ, ◌+◌, ◌*◌, List, ◌++◌, length, Bool, if◌then◌else◌}
-use Rattle.mo_cmd.specs.declared.command.Command.{Command}
+use Rattle.command_line.specs.declared.command.Command.{Command}
 use Rattle.mo_format.specs.Header.{mach_header_bytes}
 use Rattle.mo_format.specs.declared.header.MachHeader.{MachHeader}
 use Rattle.mo_format.specs.declared.loader.TheConstants.{CPU_SUBTYPE_ARM64_ALL, CPU_TYPE_ARM64, MH_DYLIB, MH_EXECUTE, MH_MAGIC_64}

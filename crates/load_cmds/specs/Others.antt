@@ -1,7 +1,7 @@
 -- The commands other than those of segments, in their order.
 use Rattle.std.specs.Prelude.{ℕ, ◌+◌, ◌/◌, List, [], ◌++◌, replicate, codes, Bool, not, if◌then◌else◌}
 use Rattle.std.specs.List.{flat_map}
-use Rattle.mo_cmd.specs.declared.command.Command.{Command}
+use Rattle.command_line.specs.declared.command.Command.{Command}
 use Rattle.mo_format.specs.Command.{build_version_command_bytes, dylinker_command_bytes, entry_point_command_bytes, uuid_command_bytes}
 use Rattle.mo_format.specs.Dylib.{dylib_command_bytes, rpath_command_bytes}
 use Rattle.mo_format.specs.Linkedit.{dysymtab_command_bytes, linkedit_data_command_bytes}

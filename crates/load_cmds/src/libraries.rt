@@ -7,8 +7,8 @@ ghost use Rattle.load_cmds.specs.Others as others;
 
 use crate::fields::u32_of;
 use crate::strings::{put_string, string_command_size};
+use command_line::Command;
 use lib_bind::{Library, LibraryGraph};
-use mo_cmd::Command;
 use mo_format::DylibCommand;
 use mo_format::loader::{LC_ID_DYLIB, LC_LOAD_DYLIB, LC_LOAD_WEAK_DYLIB, LC_REEXPORT_DYLIB};
 use std::alloc::AllocError;

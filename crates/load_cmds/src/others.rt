@@ -8,8 +8,8 @@ use crate::fields::u32_of;
 use crate::libraries::{put_id, put_libraries};
 use crate::parts::{PartPlace, PartSizes};
 use crate::strings::{put_string, string_command_size};
+use command_line::Command;
 use lib_bind::LibraryGraph;
-use mo_cmd::Command;
 use mo_format::loader::{
     LC_BUILD_VERSION, LC_CODE_SIGNATURE, LC_DYLD_CHAINED_FIXUPS, LC_DYLD_EXPORTS_TRIE, LC_DYSYMTAB,
     LC_LOAD_DYLINKER, LC_MAIN, LC_RPATH, LC_SYMTAB, LC_UUID, PLATFORM_MACOS,

@@ -6,8 +6,8 @@ ghost use Rattle.load_cmds.specs.Sizes as sizes;
 use crate::libraries::document_of;
 use crate::parts::PartKinds;
 use crate::strings::string_command_size;
+use command_line::Command;
 use lib_bind::{Libraries, Library, LibraryGraph};
-use mo_cmd::Command;
 use mo_types::Bytes;
 
 fn counted(there: bool, number: u128) -> u128

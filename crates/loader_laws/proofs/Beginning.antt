@@ -27,7 +27,7 @@ use Rattle.liveness.specs.Undefined as undefined
 use Rattle.lib_bind.specs.declared.library.LibraryGraph.{LibraryGraph}
 use Rattle.mark_core.specs.Kept.{has}
 use Rattle.input_files.specs.Form.{is_common, is_later, is_later_kind, is_later_section, is_later_type}
-use Rattle.mo_cmd.specs.declared.command.Command.{Command}
+use Rattle.command_line.specs.declared.command.Command.{Command}
 use Rattle.liveness.specs.Edges.{goal_atom}
 use Rattle.resolve.specs.Goals.{goal_of_name, goal_table, is_flat, is_header, name_goal, outer_goal}
 use Rattle.literal_merge.specs.Standing.{literal_at, stands_for}

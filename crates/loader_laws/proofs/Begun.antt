@@ -15,7 +15,7 @@ use Rattle.patch.specs.Range.{IsBeside}
 use Rattle.patch.specs.declared.range.PlacedWork.{PlacedWork}
 use Rattle.sect_place.specs.Arrangement.{parts_count, text_parts}
 use Rattle.sect_place.specs.Layout.{end_of_image, first_segments, image_segments, image_sections, lead_of, linkedit, made_bytes, others_of, plan_of}
-use Rattle.sect_place.specs.OutSections.{out_sections}
+use Rattle.sect_list.specs.OutSections.{out_sections}
 use Rattle.sect_place.specs.Places.{groups_file, groups_segments}
 use Rattle.sect_place.specs.Whole.{IsWholeLayout}
 use Rattle.sect_place.specs.declared.layout.Layout.{Layout}

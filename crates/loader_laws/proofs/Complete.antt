@@ -9,7 +9,7 @@ use Rattle.mo_types.specs.declared.atom.Atom.{Atom}
 use Rattle.mo_types.specs.declared.key.AtomKey.{AtomKey}
 use Rattle.tlv_plan.specs.Template.{aligned, atoms_of, stand}
 use Rattle.sect_place.specs.Layout.{Plan, image_places, image_sections, plan_of}
-use Rattle.sect_place.specs.OutSections.{Home, home_of, out_sections}
+use Rattle.sect_list.specs.OutSections.{Home, home_of, out_sections}
 use Rattle.sect_place.specs.Places.{area_unit, file_bytes, group_end, groups_places, groups_sections, page_up, part_end, part_from, parts_places, parts_sections, placed_section, places, spaced, with_area}
 use Rattle.sect_place.specs.declared.island.IslandArea.{IslandArea}
 use Rattle.sect_place.specs.declared.layout.Layout.{Layout}
@@ -17,14 +17,14 @@ use Rattle.sect_place.specs.declared.layout.Placed.{Placed}
 use Rattle.sect_place.specs.declared.layout.PlacedSection.{PlacedSection}
 use Rattle.sect_place.specs.declared.part.Group.{Group}
 use Rattle.sect_place.specs.declared.part.Part.{Part}
-use Rattle.sect_place.proofs.Listed.{kept_are_listed}
+use Rattle.sect_list.proofs.Listed.{kept_are_listed}
 use Rattle.sect_place.proofs.Positions.{keys_listed, placed_there}
-use Rattle.image_make.specs.Addresses.{address_in}
+use Rattle.sect_place.specs.Addresses.{address_in}
 use Rattle.image_make.specs.Atoms.{atom_of, kept_at}
 use Rattle.image_make.specs.Rows.{has_bytes, row_at, row_of, rows, section_rows}
 use Rattle.patch.specs.declared.range.PlacedWork.{PlacedWork}
 use Rattle.image_make.specs.declared.kept.KeptAtom.{KeptAtom}
-use Rattle.image_make.proofs.AddressLemmas.{address_is}
+use Rattle.sect_place.proofs.AddressLemmas.{address_is}
 use Rattle.image_make.specs.Made.{IsLaid, ImageInputs, kept_of, plan_for, plan_with, rows_of, scene_of, sizes_of}
 use Rattle.loader_laws.specs.Means.{AreRising, IsWritten, IsZerofill}
 use Rattle.loader_laws.proofs.Rowed.{kept_found, placed_once}

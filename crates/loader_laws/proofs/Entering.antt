@@ -4,7 +4,7 @@ use Rattle.std.specs.List.{AllByRecursion, flat_map}
 use Rattle.mo_bytes.specs.Number.{number, number_bytes}
 use Rattle.mo_bytes.proofs.Numbers.{number-number_bytes}
 use Rattle.mo_bytes.specs.Rounding.{least_multiple}
-use Rattle.mo_cmd.specs.declared.command.Command.{Command}
+use Rattle.command_line.specs.declared.command.Command.{Command}
 use Rattle.mo_format.specs.Command.{entry_point_command_at, entry_point_command_bytes}
 use Rattle.mo_format.specs.declared.command.EntryPointCommand.{EntryPointCommand}
 use Rattle.mo_format.specs.declared.loader.TheConstants.{LC_BUILD_VERSION, LC_LOAD_DYLINKER, LC_MAIN, LC_SEGMENT_64}

@@ -9,7 +9,7 @@ use Rattle.link_engine.specs.Input.{inputs_from, inputs_with}
 use Rattle.link_engine.specs.Told.{Told}
 use Rattle.link_engine.specs.declared.plan.Plan.{Plan}
 use Rattle.link_files.specs.Names.{wanted}
-use Rattle.mo_cmd.specs.declared.command.CommandInput.{CommandInput}
+use Rattle.command_line.specs.declared.command.CommandInput.{CommandInput}
 use Rattle.mo_obj.proofs.ReadLemmas.{bind_ok}
 use Rattle.mo_obj.specs.Read.{AreBytes}
 use Rattle.mo_outside.specs.Answers.{Answer, There, Absent, Unread}

@@ -21,7 +21,7 @@ use Rattle.sect_place.specs.declared.layout.Layout.{Layout}
 use Rattle.sect_place.specs.declared.layout.Placed.{Placed}
 use Rattle.sect_place.specs.declared.layout.Segment.{Segment}
 use Rattle.image_make.specs.Addresses as work
-use Rattle.image_make.specs.Addresses.{address_in}
+use Rattle.sect_place.specs.Addresses.{address_in}
 use Rattle.image_make.specs.Made.{ImageInputs, plan_for}
 use Rattle.image_read.specs.Commands.{commands_of, fits}
 use Rattle.image_read.specs.Held.{goal_address, in_atom}

@@ -22,7 +22,7 @@ use Rattle.mo_types.specs.declared.reference.Target.{Target}
 use Rattle.liveness.specs.Undefined.{targets_of}
 use Rattle.lib_bind.specs.declared.library.LibraryGraph.{LibraryGraph}
 use Rattle.mark_core.specs.Kept.{has}
-use Rattle.mo_cmd.specs.declared.command.Command.{Command}
+use Rattle.command_line.specs.declared.command.Command.{Command}
 use Rattle.resolve.specs.Goals.{goal_table}
 use Rattle.literal_merge.specs.Representatives.{representatives_of}
 use Rattle.literal_merge.proofs.RepresentativeLemmas.{atoms_of_file}

@@ -5,7 +5,7 @@ use Rattle.image_make.specs.declared.fault.MakeFault.{MakeFault}
 use Rattle.image_make.specs.declared.fault.MakeFault.TheVariants as make
 use Rattle.loader_laws.specs.Means.{AreRising}
 use Rattle.lib_bind.specs.declared.library.LibraryGraph.{LibraryGraph}
-use Rattle.mo_cmd.specs.declared.command.Command.{Command}
+use Rattle.command_line.specs.declared.command.Command.{Command}
 use Rattle.mo_types.specs.declared.key.AtomKey.{AtomKey}
 use Rattle.mo_types.specs.declared.loaded.LoadedFile.{LoadedFile}
 use Rattle.literal_merge.specs.Representatives.{representatives_of}

@@ -27,8 +27,8 @@ use Rattle.mo_types.specs.declared.object.SymbolKind.TheVariants.{Defined, Commo
 use Rattle.lib_bind.specs.Provides.{provider_of}
 use Rattle.lib_bind.specs.declared.library.LibraryGraph.{LibraryGraph}
 use Rattle.lib_bind.specs.declared.provider.Provider.{Provider}
-use Rattle.mo_cmd.specs.declared.command.Command.{Command}
-use Rattle.symbol_winners.specs.Found.{Found, found, found_at, found_for, found_in}
+use Rattle.command_line.specs.declared.command.Command.{Command}
+use Rattle.symbol_winners.specs.Found.{FileCandidate, found, found_at, found_for, found_in}
 use Rattle.resolve.specs.Goals.{goal_at, goal_of_name, goal_of_symbol, goals_of_symbols, is_flat, is_header, local_goal, name_goal, outer_goal, winner_goal}
 use Rattle.literal_merge.specs.Standing.{literal_at, stands_for}
 use Rattle.symbol_winners.specs.Known.{is_weak}
@@ -162,9 +162,9 @@ pub winner_there : (command : Command) (files : List LoadedFile) (name : List �
 unfolding winner_of winning found_for found found_in found_at is_candidate
 winner_there command files name winner e =
     let one = from_then (winner_from command (found_for files name)) (winning files name) winner e in
-    let f : Found = one.0 in
-    let among = (find_some (λ (g : Found). found_word g == least files name) (found_for files name) f one.1).0 in
-    let chosen = from_filter (λ (g : Found). bytes_eq name g.symbol.name) (found files) f among in
+    let f : FileCandidate = one.0 in
+    let among = (find_some (λ (g : FileCandidate). found_word g == least files name) (found_for files name) f one.1).0 in
+    let chosen = from_filter (λ (g : FileCandidate). bytes_eq name g.symbol.name) (found files) f among in
     let of = from_flat found_in files f chosen.0 in
     let p = from_filter_map (found_at of.0) (enumerate_from 0 of.0.object.symbols) f of.2 in
     let candidate = from_when (is_candidate of.0.object.sections p.0.1) _ f p.2 in
@@ -179,11 +179,11 @@ winner_there command files name winner e =
       symbol = p.0.1;
       numbered = numbered.2;
       external = (and_parts p.0.1.external (has_place of.0.object.sections p.0.1.kind) candidate.0).0;
-      named = (bytes_eq-Decides name f.symbol.name).0 chosen.1 ∙ sym (ap (λ (g : Found). g.symbol.name) candidate.1);
+      named = (bytes_eq-Decides name f.symbol.name).0 chosen.1 ∙ sym (ap (λ (g : FileCandidate). g.symbol.name) candidate.1);
       place = place.0;
-      stands = ap (λ (i : ℕ). place_of of.0 i p.0.1.kind) index ∙ ap (λ (g : Found). place_of g.file g.index g.symbol.kind) candidate.1 ∙ place.1;
+      stands = ap (λ (i : ℕ). place_of of.0 i p.0.1.kind) index ∙ ap (λ (g : FileCandidate). place_of g.file g.index g.symbol.kind) candidate.1 ∙ place.1;
       atom = ap (λ (w : Winner). w.atom) place.2;
-      word = ap (λ (i : ℕ). word_of of.0.id i p.0.1) index ∙ ap (λ (g : Found). found_word g) candidate.1 ∙ ap (λ (w : Winner). w.word) place.2;
+      word = ap (λ (i : ℕ). word_of of.0.id i p.0.1) index ∙ ap (λ (g : FileCandidate). found_word g) candidate.1 ∙ ap (λ (w : Winner). w.word) place.2;
     }
 
 winner_in : (command : Command) (files : List LoadedFile) (name : List ℕ) (winner : Winner) → AreSolid files → winner_of command files name ≡ Some winner → IsAtomIn files winner.atom

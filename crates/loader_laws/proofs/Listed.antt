@@ -4,7 +4,7 @@ use Rattle.std.specs.List.{AllByRecursion, flat_map}
 use Rattle.std.proofs.lemmas.List.{length-take-le}
 use Rattle.mo_bytes.specs.Number.{number_bytes}
 use Rattle.mo_bytes.specs.Rounding.{least_multiple}
-use Rattle.mo_cmd.specs.declared.command.Command.{Command}
+use Rattle.command_line.specs.declared.command.Command.{Command}
 use Rattle.mo_format.specs.Command.{build_version_command_fields, dylinker_command_fields, entry_point_command_fields}
 use Rattle.mo_format.specs.Dylib.{dylib_command_fields, rpath_command_fields}
 use Rattle.mo_format.specs.Fields.{Field, Number, Name, spelled}

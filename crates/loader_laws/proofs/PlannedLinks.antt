@@ -22,7 +22,7 @@ use Rattle.link_steps.proofs.AskLemmas.{asks_case, gives_case, last_case, tries_
 use Rattle.link_steps.specs.Asking.{last}
 use Rattle.member_rounds.proofs.RiseLemmas.{loaded_rises}
 use Rattle.member_rounds.specs.Rounds.{loaded_of}
-use Rattle.mo_cmd.specs.declared.command.Command.{Command}
+use Rattle.command_line.specs.declared.command.Command.{Command}
 use Rattle.mo_outside.specs.Answers.{Answer}
 use Rattle.loader_laws.specs.Plans.{IsPlanOfImage}
 use Rattle.loader_laws.proofs.Going.{no_fault, same_value}

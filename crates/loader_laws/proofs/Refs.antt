@@ -15,7 +15,7 @@ use Rattle.mo_types.specs.declared.object.Object.{Object}
 use Rattle.mo_types.specs.declared.object.RawReloc.{RawReloc}
 use Rattle.mo_types.specs.declared.object.Section.{Section}
 use Rattle.mo_types.specs.declared.object.Symbol.{Symbol}
-use Rattle.mo_types.specs.declared.reference.Field.{Field}
+use Rattle.mo_types.specs.declared.reference.FieldRange.{FieldRange}
 use Rattle.mo_types.specs.declared.reference.Ref.{Ref}
 use Rattle.mo_types.specs.declared.reference.RefKind.{RefKind}
 use Rattle.mo_types.specs.declared.reference.RefKind.TheVariants.{Pointer, Diff32, Diff64, Branch, Page, PageOff, GotPage, GotPageOff, GotDelta, GotPointer, TlvPage, TlvPageOff}
@@ -114,7 +114,7 @@ good_symbol object index e = by (slice_get object.symbols index) refl
 good_section : (sections : List Section) (number address : ℕ) (section : Section) → is_outside sections number address ≡ false → section_numbered sections number ≡ Some section → is_dropped section ≡ false
 good_section sections number address section e f = (neither (is_dropped section) (not (is_within section address)) (rw f at e)).0
 
-good_target : (object : Object) (file : FileId) (bytes : List ℕ) (field : Field) (reloc : RawReloc) (target : Target) → is_bad_target object bytes field reloc ≡ false → target_of object file bytes field reloc ≡ Some target → IsTargetOf object file target
+good_target : (object : Object) (file : FileId) (bytes : List ℕ) (field : FieldRange) (reloc : RawReloc) (target : Target) → is_bad_target object bytes field reloc ≡ false → target_of object file bytes field reloc ≡ Some target → IsTargetOf object file target
 good_target object file bytes field reloc target good is = by reloc.external refl
   where
     by : (b : Bool) → reloc.external ≡ b → IsTargetOf object file target
@@ -182,7 +182,7 @@ is_external true true c d x kind e = refl
 is_external true false c d x kind e = no_some kind e
 is_external false b c d x kind e = no_some kind e
 
-has_minus : (object : Object) (file : FileId) (bytes : List ℕ) (field : Field) (first : Option RawReloc) (reloc : RawReloc) (kind : RefKind) → kind_of first reloc ≡ Some kind → option_map_or (λ first. is_subtractor first && is_bad_target object bytes field first) first false ≡ false → HasMinusBy kind object file (minus_of first)
+has_minus : (object : Object) (file : FileId) (bytes : List ℕ) (field : FieldRange) (first : Option RawReloc) (reloc : RawReloc) (kind : RefKind) → kind_of first reloc ≡ Some kind → option_map_or (λ first. is_subtractor first && is_bad_target object bytes field first) first false ≡ false → HasMinusBy kind object file (minus_of first)
 unfolding kind_of
 has_minus object file bytes field None reloc kind e good = minus_alone object file kind None (subst Holds e (alone reloc))
 has_minus object file bytes field (Some first) reloc kind e good = by (is_subtractor first) refl
@@ -203,15 +203,15 @@ pub record IsRead (object : Object) (file : FileId) (r : Ref) : Type 0 where
   pub target : IsTargetOf object file r.target
   pub minus : HasMinusBy r.kind object file r.minus
 
-low_field : (relocs : List RawReloc) (at : ℕ) (field : Field) → field_at relocs at ≡ Some field → field.offset < 2 ^ 31
+low_field : (relocs : List RawReloc) (at : ℕ) (field : FieldRange) → field_at relocs at ≡ Some field → field.offset < 2 ^ 31
 unfolding field_at
 low_field relocs at field e =
     let kind = from_then _ (kind_at relocs at) field e in
     let reloc = from_then _ (slice_get relocs at) field kind.2 in
     let size : ℕ = field_size kind.0 in
-    let given : Field = record { offset = reloc.0.address; size = size } in
+    let given : FieldRange = record { offset = reloc.0.address; size = size } in
     let found = from_when (nat_lt reloc.0.address (2 ^ 31)) given field reloc.2 in
-    subst (λ (f : Field). f.offset < 2 ^ 31) found.1 (ltb-true reloc.0.address (2 ^ 31) found.0)
+    subst (λ (f : FieldRange). f.offset < 2 ^ 31) found.1 (ltb-true reloc.0.address (2 ^ 31) found.0)
 
 read_at : (object : Object) (file : FileId) (number : ℕ) (section : Section) (at : ℕ) (r : Ref) → reference_at object file number section at ≡ Some r → target_fault object number section at ≡ None → IsRead object file r
 unfolding reference_at target_fault kind_at
@@ -229,7 +229,7 @@ read_at object file number section at r e good =
     fine true b at none = not_none (at - 1) none
     fine false b at none = (refl, not_when b at none)
 
-    by : (reloc : RawReloc) (kind : RefKind) (field : Field) (target : Target) → last_at section.relocs at ≡ Some reloc → kind_at section.relocs at ≡ Some kind → field_at section.relocs at ≡ Some field → target_of object file section.bytes field reloc ≡ Some target
+    by : (reloc : RawReloc) (kind : RefKind) (field : FieldRange) (target : Target) → last_at section.relocs at ≡ Some reloc → kind_at section.relocs at ≡ Some kind → field_at section.relocs at ≡ Some field → target_of object file section.bytes field reloc ≡ Some target
         → ◌≡◌ {A = Ref} (record {
           atom = key_at file number (cut_of object number section field.offset);
           place = field.offset - cut_of object number section field.offset;

@@ -14,22 +14,22 @@ use Rattle.mo_types.specs.Keys.{compare_keys}
 use Rattle.mo_types.specs.Whole.{is_zerofill}
 use Rattle.mo_types.specs.declared.atom.Atom.{Atom}
 use Rattle.mo_types.specs.declared.key.AtomKey.{AtomKey}
-use Rattle.key_hints.proofs.Keys.{find_found}
+use Rattle.atom_index.proofs.Keys.{find_found}
 use Rattle.sect_place.specs.Layout.{image_places, image_sections, plan_of}
-use Rattle.sect_place.specs.OutSections.{out_sections}
+use Rattle.sect_list.specs.OutSections.{out_sections}
 use Rattle.sect_place.specs.Places.{area_unit, spaced, with_area}
 use Rattle.sect_place.specs.declared.layout.Layout.{Layout}
 use Rattle.sect_place.specs.declared.layout.Placed.{Placed}
 use Rattle.sect_place.specs.declared.layout.PlacedSection.{PlacedSection}
-use Rattle.sect_place.proofs.Once.{listed_once}
+use Rattle.sect_list.proofs.Once.{listed_once}
 use Rattle.sect_place.proofs.Positions.{finds}
 use Rattle.sect_place.proofs.Single.{layout_rises}
-use Rattle.image_make.specs.Addresses.{AreOnce, address_in}
+use Rattle.sect_place.specs.Addresses.{AreOnce, address_in}
 use Rattle.image_make.specs.Atoms.{atom_of, kept_at}
 use Rattle.image_make.specs.Rows.{has_bytes, row_at, row_of, rows, section_rows}
 use Rattle.patch.specs.declared.range.PlacedWork.{PlacedWork}
 use Rattle.image_make.specs.declared.kept.KeptAtom.{KeptAtom}
-use Rattle.image_make.proofs.AddressLemmas.{address_is}
+use Rattle.sect_place.proofs.AddressLemmas.{address_is}
 use Rattle.image_make.proofs.KeptListLemmas.{rising_atoms}
 use Rattle.image_make.specs.Made.{IsLaid, ImageInputs, kept_of, plan_for, plan_with, rows_of, sizes_of}
 use Rattle.loader_laws.specs.Means.{AreRising}

@@ -30,19 +30,19 @@ use Rattle.mo_types.specs.declared.reference.Target.TheVariants.{Name, Local}
 use Rattle.liveness.specs.Undefined.{is_nobody, kept_refs, least, lesser, name_if, lost, lost_at, lost_in, lost_name, lost_names, targets_of, undefined, wanted}
 use Rattle.lib_bind.specs.declared.library.LibraryGraph.{LibraryGraph}
 use Rattle.mark_core.specs.Kept.{has}
-use Rattle.key_hints.proofs.Keys.{same_key}
+use Rattle.atom_index.proofs.Keys.{same_key}
 use Rattle.image_read.specs.Reaches as reaches
 use Rattle.image_read.specs.Held.{goal_address}
 use Rattle.mo_types.specs.Loaded.{IsWholeFile}
-use Rattle.sect_place.proofs.Homes.{start, starts}
-use Rattle.mo_cmd.specs.declared.command.Command.{Command}
+use Rattle.sect_list.proofs.Homes.{start, starts}
+use Rattle.command_line.specs.declared.command.Command.{Command}
 use Rattle.liveness.specs.Edges.{goal_atom, edge_from, edge_to, edges, edges_at, edges_by, file_edges, ref_edges, target_atom, unwind_edges}
 use Rattle.resolve.specs.Goals.{goal_of_name, goal_of_symbol, goal_table, goals_of_symbols}
 use Rattle.literal_merge.specs.Standing.{stands_for}
 use Rattle.literal_merge.specs.Representatives.{representatives_of}
 use Rattle.literal_merge.proofs.RepresentativeLemmas.{atoms_of_file}
 use Rattle.sect_place.specs.Layout.{base_of}
-use Rattle.sect_place.specs.OutSections.{Home, common_home, home_in, home_of}
+use Rattle.sect_list.specs.OutSections.{Home, common_home, home_in, home_of}
 use Rattle.sect_place.specs.declared.layout.Layout.{Layout}
 use Rattle.image_make.specs.Addresses.{target_goal}
 use Rattle.image_make.specs.Atoms.{kept_as, kept_atoms, kept_in, raised}

@@ -9,7 +9,7 @@ use Rattle.mo_types.specs.declared.key.AtomKey.{AtomKey}
 use Rattle.sect_place.specs.Layout as layouts
 use Rattle.sect_place.specs.declared.layout.Layout.{Layout}
 use Rattle.sect_place.specs.declared.layout.PlacedSection.{PlacedSection}
-use Rattle.image_make.specs.Addresses.{address_in}
+use Rattle.sect_place.specs.Addresses.{address_in}
 use Rattle.patch.specs.declared.range.PlacedWork.{PlacedWork}
 use Rattle.image_make.specs.declared.kept.KeptAtom.{KeptAtom}
 use Rattle.image_make.specs.Made.{IsMade, ImageInputs, entry_offset, rows_of}

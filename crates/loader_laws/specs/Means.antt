@@ -15,7 +15,7 @@ use Rattle.patch.specs.declared.met.Met.{Met}
 use Rattle.sect_place.specs.declared.layout.Layout.{Layout}
 use Rattle.sect_place.specs.declared.layout.Placed.{Placed}
 use Rattle.sect_place.specs.declared.layout.PlacedSection.{PlacedSection}
-use Rattle.image_make.specs.Addresses.{address_in}
+use Rattle.sect_place.specs.Addresses.{address_in}
 use Rattle.patch.specs.declared.range.PlacedWork.{PlacedWork}
 use Rattle.image_make.specs.declared.kept.KeptAtom.{KeptAtom}
 use Rattle.image_make.specs.Made.{IsFilledImage, IsLaid, ImageInputs, blank, kept_of, mets_of, rows_of}

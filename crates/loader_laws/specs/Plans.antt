@@ -14,7 +14,7 @@ use Rattle.link_engine.specs.declared.plan.Plan.{Plan}
 use Rattle.link_files.specs.Linked.{AreCut, AreOrdered, IsLinked}
 use Rattle.link_files.specs.Names.{wanted}
 use Rattle.member_rounds.specs.Rounds.{loaded_of}
-use Rattle.mo_cmd.specs.declared.command.Command.{Command}
+use Rattle.command_line.specs.declared.command.Command.{Command}
 use Rattle.mo_obj.specs.Read.{AreBytes}
 use Rattle.mo_outside.specs.Answers.{Answer, There}
 use Rattle.mo_types.specs.declared.loaded.Loaded.{Loaded}

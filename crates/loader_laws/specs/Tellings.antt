@@ -6,7 +6,7 @@ use Rattle.loader_laws.specs.Means.{IsGoalAt}
 use Rattle.input_files.specs.Form.{is_later}
 use Rattle.lib_bind.specs.declared.library.LibraryGraph.{LibraryGraph}
 use Rattle.link_files.specs.Linked.{making}
-use Rattle.mo_cmd.specs.declared.command.Command.{Command}
+use Rattle.command_line.specs.declared.command.Command.{Command}
 use Rattle.mo_types.specs.Loaded.{IsWholeFile}
 use Rattle.mo_types.specs.declared.loaded.LoadedFile.{LoadedFile}
 use Rattle.sect_place.specs.declared.layout.Layout.{Layout}

@@ -3,7 +3,7 @@ ghost use Rattle.std.specs.Prelude.{◌≡◌, ℕ, ◌<◌, ◌^◌, ◌⊎◌,
 ghost use Rattle.mo_types.specs.declared.goal.Goal.TheVariants.{Header};
 ghost use Rattle.mo_types.specs.declared.reference.Ref.{Ref};
 ghost use Rattle.sect_place.specs.Layout.{base_of};
-ghost use Rattle.sect_place.specs.OutSections.{Home, home_of};
+ghost use Rattle.sect_list.specs.OutSections.{Home, home_of};
 ghost use Rattle.sect_place.specs.declared.layout.Layout.{Layout};
 ghost use Rattle.patch.specs.declared.range.PlacedWork.{PlacedWork};
 ghost use Rattle.image_make.specs.declared.kept.KeptAtom.{KeptAtom};

@@ -12,7 +12,7 @@ ghost use Rattle.link_files.specs.Linked.{AreCut, AreOrdered, IsLinked};
 ghost use Rattle.loader_laws.specs.Images.{IsImageOf};
 ghost use Rattle.loader_laws.specs.Plans.{HasBytes, IsPlanOfImage};
 ghost use Rattle.loader_laws.specs.Tellings.{AreInForm, AreWhole, HasEntry, made_of};
-ghost use Rattle.mo_cmd.specs.declared.command.Command.{Command as Commanded};
+ghost use Rattle.command_line.specs.declared.command.Command.{Command as Commanded};
 ghost use Rattle.mo_types.specs.declared.loaded.LoadedFile.{LoadedFile};
 ghost use Rattle.mo_types.specs.declared.reference.Ref.{Ref};
 

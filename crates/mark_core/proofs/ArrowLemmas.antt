@@ -15,7 +15,7 @@ use Rattle.mo_types.specs.declared.key.AtomKey.{AtomKey}
 use Rattle.mo_types.specs.Keys.{compare_keys}
 use Rattle.mo_types.proofs.KeyOrder.{compare_keys_total}
 use Rattle.mark_core.specs.inner.Arrows.{AreFrom, AreSorted, begins_in, end_of, ends_from, is_before, is_up_to}
-use Rattle.key_hints.proofs.Keys.{same_key}
+use Rattle.atom_index.proofs.Keys.{same_key}
 
 -- ---- order
 

@@ -2,7 +2,7 @@
 use Rattle.std.proofs.Common.{◌≡◌, Bool, true, false, ◌==◌, ◌&&◌, refl}
 use Rattle.std.proofs.lemmas.Bool.{eqb-true, eq-eqb}
 use Rattle.mo_types.specs.declared.key.AtomKey.{AtomKey}
-use Rattle.key_hints.proofs.Keys.{key_of, same_fields}
+use Rattle.atom_index.proofs.Keys.{key_of, same_fields}
 use Rattle.mark_core.specs.inner.Reached.{same_atom}
 
 -- any atom

@@ -14,8 +14,8 @@ use Rattle.list_lemmas.proofs.Rising.{sorted_from_rising}
 use Rattle.mo_types.specs.declared.key.AtomKey.{AtomKey}
 use Rattle.mo_types.specs.Keys.{compare_keys}
 use Rattle.mo_types.proofs.KeyOrder.{compare_keys_total}
-use Rattle.key_hints.specs.Stands.{StandsAt}
-use Rattle.key_hints.proofs.Keys.{is_equal, same_key}
+use Rattle.atom_index.specs.Stands.{StandsAt}
+use Rattle.atom_index.proofs.Keys.{is_equal, same_key}
 use Rattle.mark_core.specs.Kept.{has}
 use Rattle.mark_core.specs.inner.Reached.{same_atom}
 use Rattle.mark_core.proofs.KeyLemmas.{itself, same_atoms}

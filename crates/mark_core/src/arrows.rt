@@ -42,13 +42,13 @@ pub(crate) fn sorted_arrows(edges: Vec<Edge>, supports: &[Edge]) -> Result<Vec<E
 
 // The last source that was asked for, and whether it is a root: arrows from one atom stand together.
 #[derive(Clone, Copy)]
-struct Asked {
+struct LastSource {
     key: AtomKey,
     is_root: bool,
 }
 
 // Whether an atom is a root, where that of another one is known.
-fn ask(roots: &KeySet, last: &Option<Asked>, key: AtomKey) -> bool
+fn ask(roots: &KeySet, last: &Option<LastSource>, key: AtomKey) -> bool
     requires { IfSome last.now (λ asked. asked.is_root ≡ has roots.now asked.key) }
     ensures { result ≡ has roots.now key }
 {
@@ -82,7 +82,7 @@ pub(crate) fn ends_from(
     for arrow in arrows {
         let key = arrow.from;
         let is_root = ask(roots, &last, key);
-        last = Some(Asked { key, is_root });
+        last = Some(LastSource { key, is_root });
         ends = with_end(ends, arrow, is_root)?;
     }
     Ok(ends)

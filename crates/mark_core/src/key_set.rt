@@ -6,7 +6,7 @@ ghost use Rattle.mo_types.specs.declared.key.AtomKey.{AtomKey as Key};
 ghost use Rattle.mark_core.specs.Kept.{has};
 
 use crate::lookup::is_hinted;
-use key_hints::Hints;
+use atom_index::AtomIndex;
 use mo_types::{AtomKey, OutOfMemory};
 use std::alloc::Global;
 use std::marker::Model;
@@ -16,7 +16,7 @@ use std::marker::Model;
 #[derive(Debug, Drop)]
 pub struct KeySet {
     keys: Vec<AtomKey>,
-    hints: Hints,
+    hints: AtomIndex,
 }
 
 impl Model for KeySet {
@@ -38,7 +38,7 @@ impl KeySet {
         ensures { IfOk result (λ set. (atom : Key) → has set atom ≡ has atoms.items atom) }
     {
         let keys = in_order(atoms)?;
-        let hints = Hints::of(alloc, keys.as_slice())?;
+        let hints = AtomIndex::of(alloc, keys.as_slice())?;
         Ok(KeySet { keys, hints })
     }
 

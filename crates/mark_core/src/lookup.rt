@@ -4,7 +4,7 @@ ghost use Rattle.std.specs.List.Sorted.{IsStrictlySortedBy};
 ghost use Rattle.mo_types.specs.Keys.{compare_keys};
 ghost use Rattle.mark_core.specs.Kept.{has};
 
-use key_hints::{Hints, find, is_at};
+use atom_index::{AtomIndex, find, is_at};
 use mo_types::AtomKey;
 
 /// Whether an atom is among those of a list whose keys rise. Takes no memory.
@@ -24,7 +24,7 @@ pub fn is_kept_near(keys: &[AtomKey], near: usize, key: AtomKey) -> bool
 }
 
 // The same, by the hints of the list.
-pub(crate) fn is_hinted(keys: &[AtomKey], hints: &Hints, key: &AtomKey) -> bool
+pub(crate) fn is_hinted(keys: &[AtomKey], hints: &AtomIndex, key: &AtomKey) -> bool
     requires { IsStrictlySortedBy compare_keys keys.now }
     ensures { result ≡ has keys.now key.now }
 {

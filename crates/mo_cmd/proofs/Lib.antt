@@ -7,5 +7,4 @@ pub mod ItemLemmas
 pub mod ListLemmas
 pub mod ReadLemmas
 pub mod LineLemmas
-pub mod PathLemmas
 pub mod SpellingLemmas

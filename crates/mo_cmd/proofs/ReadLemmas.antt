@@ -1,7 +1,7 @@
 -- The command of words is that of their parts.
 use Rattle.std.proofs.Common.{◌≡◌, ℕ, List, Option, Some, None, Ok, Err, refl, sym, ap, ◌∙◌}
-use Rattle.mo_cmd.specs.declared.command.Command.{Command}
-use Rattle.mo_cmd.specs.declared.command.UsageFault.{UsageFault}
+use Rattle.command_line.specs.declared.command.Command.{Command}
+use Rattle.mo_cmd.specs.declared.usage_fault.UsageFault.{UsageFault}
 use Rattle.mo_cmd.specs.declared.build.Numbers.{Numbers}
 use Rattle.mo_cmd.specs.declared.build.Switches.{Switches}
 use Rattle.mo_cmd.specs.declared.parts.Rows.{Rows}

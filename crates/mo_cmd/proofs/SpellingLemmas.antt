@@ -7,8 +7,8 @@ use Rattle.std.proofs.Math.Seq.{drop-nil, drop-append_seam}
 use Rattle.std.proofs.lemmas.Grind.{common_steps}
 use Rattle.std.proofs.lemmas.List.{take-append-drop, take_at}
 use Rattle.std.proofs.lemmas.Slice.Eq.{bytes_eq-Decides}
-use Rattle.mo_cmd.specs.declared.command.Command.{Command}
-use Rattle.mo_cmd.specs.declared.command.UsageFault.{UsageFault}
+use Rattle.command_line.specs.declared.command.Command.{Command}
+use Rattle.mo_cmd.specs.declared.usage_fault.UsageFault.{UsageFault}
 use Rattle.mo_cmd.specs.declared.options.CommandOption.{CommandOption}
 use Rattle.mo_cmd.specs.declared.options.CommandOption.TheVariants as option
 use Rattle.mo_cmd.specs.declared.parts.Part.{Part}

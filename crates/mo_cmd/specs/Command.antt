@@ -2,12 +2,12 @@
 use Rattle.std.specs.Prelude.{ℕ, ◌-◌, ◌==◌, ◌&&◌, ◌||◌, nat_lt, Bool, true, false, not, List, [], codes, map, filter, length, bytes_eq, slice_index_or, slice_get, unwrap_or, Option, None, Some, Result, Ok, Err, if◌then◌else◌}
 use Rattle.std.specs.Option.{option_map, option_and_then}
 use Rattle.mo_types.specs.declared.cause.UsageRule.TheVariants.{NoInput}
-use Rattle.mo_cmd.specs.declared.command.Command.{Command}
-use Rattle.mo_cmd.specs.declared.command.CommandInput.{CommandInput}
-use Rattle.mo_cmd.specs.declared.command.InputForm.{InputForm}
-use Rattle.mo_cmd.specs.declared.command.InputForm.TheVariants.{Path, Library, Framework}
-use Rattle.mo_cmd.specs.declared.command.UsageFault.{UsageFault}
-use Rattle.mo_cmd.specs.declared.command.UsageFault.TheVariants.{At}
+use Rattle.command_line.specs.declared.command.Command.{Command}
+use Rattle.command_line.specs.declared.command.CommandInput.{CommandInput}
+use Rattle.command_line.specs.declared.command.InputForm.{InputForm}
+use Rattle.command_line.specs.declared.command.InputForm.TheVariants.{Path, Library, Framework}
+use Rattle.mo_cmd.specs.declared.usage_fault.UsageFault.{UsageFault}
+use Rattle.mo_cmd.specs.declared.usage_fault.UsageFault.TheVariants.{At}
 use Rattle.mo_cmd.specs.declared.faults.Whole.{Whole}
 use Rattle.mo_cmd.specs.declared.build.Switches.{Switches}
 use Rattle.mo_cmd.specs.declared.build.Numbers.{Numbers}
@@ -16,8 +16,8 @@ use Rattle.mo_cmd.specs.declared.lists.Names.{Names}
 use Rattle.mo_cmd.specs.declared.lists.Exports.{Exports}
 use Rattle.mo_cmd.specs.declared.options.CommandOption.{CommandOption}
 use Rattle.mo_cmd.specs.declared.options.CommandOption.TheVariants as option
-use Rattle.mo_cmd.specs.declared.options.Field.{Field}
-use Rattle.mo_cmd.specs.declared.options.Field.TheVariants as field
+use Rattle.mo_cmd.specs.declared.options.CommandField.{CommandField}
+use Rattle.mo_cmd.specs.declared.options.CommandField.TheVariants as field
 use Rattle.mo_cmd.specs.declared.parts.Part.{Part}
 use Rattle.mo_cmd.specs.declared.parts.Rows.{Rows}
 use Rattle.mo_cmd.specs.declared.parts.Rows.TheVariants.{All}
@@ -28,29 +28,29 @@ use Rattle.mo_cmd.specs.Numbers.{version_of, threads_of, functions_of, reach_of,
 use Rattle.mo_cmd.specs.Faults.{first_fault, is_reexport}
 
 -- the option gives the field
-abbrev pub gives : Field → CommandOption → Bool
+abbrev pub gives : CommandField → CommandOption → Bool
 gives wanted meant = number_of (field_of meant) == number_of wanted
 
 -- the items of a field, the last of them, and its value
-abbrev pub given : Field → List Item → List Item
+abbrev pub given : CommandField → List Item → List Item
 given wanted items = filter (λ item. gives wanted item.option) items
 
 abbrev pub last : {A : Type 0} → List A → Option A
 last xs = slice_get xs (length xs - 1)
 
-abbrev pub last_of : Field → List Item → Option Item
+abbrev pub last_of : CommandField → List Item → Option Item
 last_of wanted items = last (given wanted items)
 
-abbrev pub last_values : Field → List Item → Option (List (List ℕ))
+abbrev pub last_values : CommandField → List Item → Option (List (List ℕ))
 last_values wanted items = option_map (λ item. item.values) (last_of wanted items)
 
-abbrev pub last_value : Field → List Item → Option (List ℕ)
+abbrev pub last_value : CommandField → List Item → Option (List ℕ)
 last_value wanted items = option_map value_of (last_values wanted items)
 
-abbrev pub all_values : Field → List Item → List (List ℕ)
+abbrev pub all_values : CommandField → List Item → List (List ℕ)
 all_values wanted items = map (λ item. value_of item.values) (given wanted items)
 
-abbrev pub is_given : Field → List Item → Bool
+abbrev pub is_given : CommandField → List Item → Bool
 is_given wanted items = not (length (given wanted items) == 0)
 
 -- the number that a text writes, or the default
@@ -69,7 +69,7 @@ abbrev pub is_opcodes : Option CommandOption → Bool
 is_opcodes (Some option.NoFixupChains) = true
 is_opcodes _ = false
 
-abbrev pub last_option : Field → List Item → Option CommandOption
+abbrev pub last_option : CommandField → List Item → Option CommandOption
 last_option wanted items = option_map (λ item. item.option) (last_of wanted items)
 
 -- how an input is looked for, and what is wanted of it
@@ -203,7 +203,7 @@ command_from items =
     assembled (switches_of items) (numbers_of items) (texts_of items) (names_of items) (exports_of items) (inputs_of items)
 
 -- The parts of a field.
-abbrev pub parts_for : Field → List Part → List Part
+abbrev pub parts_for : CommandField → List Part → List Part
 parts_for wanted parts = filter (λ part. gives wanted part.option) parts
 
 abbrev pub index_of : Option Part → Option ℕ

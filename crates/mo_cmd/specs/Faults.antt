@@ -6,8 +6,8 @@ use Rattle.std.specs.Option.{option_map}
 use Rattle.mo_types.specs.Scan.{first_some}
 use Rattle.mo_types.specs.declared.cause.UsageRule.{UsageRule}
 use Rattle.mo_types.specs.declared.cause.UsageRule.TheVariants.{Unknown, NoValue, BadValue, DylibOnly}
-use Rattle.mo_cmd.specs.declared.command.UsageFault.{UsageFault}
-use Rattle.mo_cmd.specs.declared.command.UsageFault.TheVariants.{At}
+use Rattle.mo_cmd.specs.declared.usage_fault.UsageFault.{UsageFault}
+use Rattle.mo_cmd.specs.declared.usage_fault.UsageFault.TheVariants.{At}
 use Rattle.mo_cmd.specs.declared.faults.Whole.{Whole}
 use Rattle.mo_cmd.specs.declared.options.CommandOption.{CommandOption}
 use Rattle.mo_cmd.specs.declared.options.CommandOption.TheVariants as option

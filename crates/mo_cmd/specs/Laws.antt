@@ -1,9 +1,9 @@
 -- What holds of every command line, in words of its items.
 use Rattle.std.specs.Prelude.{◌≡◌, ℕ, ◌^◌, false, List, [], ◌∷◌, length, codes, None, Ok}
 use Rattle.mo_cmd.specs.declared.options.CommandOption.TheVariants as option
-use Rattle.mo_cmd.specs.declared.command.InputForm.TheVariants.{Path}
+use Rattle.command_line.specs.declared.command.InputForm.TheVariants.{Path}
 use Rattle.mo_cmd.specs.declared.parts.Rows.{Rows}
-use Rattle.mo_cmd.specs.declared.command.Command.{Command}
+use Rattle.command_line.specs.declared.command.Command.{Command}
 use Rattle.mo_cmd.specs.declared.values.Form.{Form}
 use Rattle.mo_cmd.specs.declared.values.Form.TheVariants.{Separate, Attached, Whole}
 use Rattle.mo_cmd.specs.Options.{values_of}

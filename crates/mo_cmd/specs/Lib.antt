@@ -5,6 +5,5 @@ pub mod Numbers
 pub mod Options
 pub mod Parts
 pub mod Sorted
-pub mod Paths
 pub mod Lists
 pub mod Laws

@@ -4,8 +4,8 @@ use Rattle.std.specs.Prelude.{ℕ, ◌+◌, ◌*◌, ◌-◌, ◌/◌, ◌%◌, 
 use Rattle.std.specs.List.{find}
 use Rattle.mo_cmd.specs.declared.options.CommandOption.{CommandOption}
 use Rattle.mo_cmd.specs.declared.options.CommandOption.TheVariants as option
-use Rattle.mo_cmd.specs.declared.options.Field.{Field}
-use Rattle.mo_cmd.specs.declared.options.Field.TheVariants as field
+use Rattle.mo_cmd.specs.declared.options.CommandField.{CommandField}
+use Rattle.mo_cmd.specs.declared.options.CommandField.TheVariants as field
 
 -- the option's word; of an option with an attached value, what stands before the value
 abbrev pub name_of : CommandOption → List ℕ
@@ -89,7 +89,7 @@ values_of option.Unknown = 0
 values_of _ = 1
 
 -- the field of the command
-abbrev pub field_of : CommandOption → Field
+abbrev pub field_of : CommandOption → CommandField
 field_of option.Execute = field.Kind
 field_of option.Dylib = field.Kind
 field_of option.Output = field.Output
@@ -149,7 +149,7 @@ key_of word =
     (16 * (length word % 7) + 6 * slice_index word 1 + 11 * slice_index word (length word / 2) + slice_index word (length word - 1)) % 112
 
 -- the field's place among the fields
-abbrev pub number_of : Field → ℕ
+abbrev pub number_of : CommandField → ℕ
 number_of field.Kind = 0
 number_of field.Output = 1
 number_of field.Platform = 2

@@ -6,7 +6,7 @@ ghost use Rattle.mo_cmd.specs.Sorted.{IsSorted, sorted_items};
 
 use crate::faults::Whole;
 use crate::numbers::{functions, pad, reach, threads, version};
-use crate::options::{CommandOption, Field};
+use crate::options::{CommandField, CommandOption};
 use crate::parts::Part;
 use crate::sorted::Sorted;
 use crate::values::nth_value;
@@ -42,7 +42,7 @@ pub struct Numbers {
 pub fn last_value<'w>(
     words: &'w [Arg],
     sorted: &Sorted,
-    field: Field,
+    field: CommandField,
     number: usize,
 ) -> Option<&'w [u8]>
     requires { IsSorted sorted.now }
@@ -55,7 +55,7 @@ pub fn last_value<'w>(
 }
 
 #[tactic(auto, using(crate::proofs::ItemLemmas::given_count))]
-fn is_given(sorted: &Sorted, field: Field) -> bool
+fn is_given(sorted: &Sorted, field: CommandField) -> bool
     requires { IsSorted sorted.now }
     ensures { (words : List (List ℕ)) → result ≡ command.is_given field (sorted_items words sorted.now) }
 {
@@ -72,7 +72,7 @@ fn option_of(part: Option<Part>) -> Option<CommandOption>
 }
 
 #[tactic(auto, using(crate::proofs::ItemLemmas::last_option_same))]
-fn last_option(sorted: &Sorted, field: Field) -> Option<CommandOption>
+fn last_option(sorted: &Sorted, field: CommandField) -> Option<CommandOption>
     requires { IsSorted sorted.now }
     ensures { (words : List (List ℕ)) → result ≡ command.last_option field (sorted_items words sorted.now) }
 {
@@ -105,16 +105,17 @@ pub fn switches_of(words: &[Arg], sorted: &Sorted) -> Switches
     requires { IsSorted sorted.now }
     ensures { result ≡ command.switches_of (sorted_items words.now sorted.now) }
 {
-    let undefined = last_value(words, sorted, Field::Undefined, 0);
-    let folding = last_value(words, sorted, Field::Folding, 0);
+    let undefined = last_value(words, sorted, CommandField::Undefined, 0);
+    let folding = last_value(words, sorted, CommandField::Folding, 0);
     Switches {
-        dylib: is_dylib(last_option(sorted, Field::Kind)),
-        all_load: is_given(sorted, Field::AllLoad),
-        dead_strip: is_given(sorted, Field::DeadStrip),
+        dylib: is_dylib(last_option(sorted, CommandField::Kind)),
+        all_load: is_given(sorted, CommandField::AllLoad),
+        dead_strip: is_given(sorted, CommandField::DeadStrip),
         dynamic: is_text(b"dynamic_lookup", undefined),
-        opcodes: is_opcodes(last_option(sorted, Field::Fixups)),
+        opcodes: is_opcodes(last_option(sorted, CommandField::Fixups)),
         fold: is_text(b"all", folding),
-        export_given: is_given(sorted, Field::ExportFiles) || is_given(sorted, Field::Exports),
+        export_given: is_given(sorted, CommandField::ExportFiles)
+            || is_given(sorted, CommandField::Exports),
     }
 }
 
@@ -169,14 +170,23 @@ pub fn numbers_of(words: &[Arg], sorted: &Sorted) -> Numbers
     ensures { result ≡ command.numbers_of (sorted_items words.now sorted.now) }
 {
     Numbers {
-        min: version_or(0x000b_0000, last_value(words, sorted, Field::Platform, 1)),
-        sdk: version_or(0x000b_0000, last_value(words, sorted, Field::Platform, 2)),
-        current: version_or(0, last_value(words, sorted, Field::Current, 0)),
-        compatible: version_or(0, last_value(words, sorted, Field::Compatible, 0)),
-        headerpad: pad_or(0x20, last_value(words, sorted, Field::Headerpad, 0)),
-        threads: threads_or(4, last_value(words, sorted, Field::Threads, 0)),
-        reach: reach_or(134_217_728, last_value(words, sorted, Field::Reach, 0)),
-        generate: functions_or(0, last_value(words, sorted, Field::Generate, 0)),
+        min: version_or(
+            0x000b_0000,
+            last_value(words, sorted, CommandField::Platform, 1),
+        ),
+        sdk: version_or(
+            0x000b_0000,
+            last_value(words, sorted, CommandField::Platform, 2),
+        ),
+        current: version_or(0, last_value(words, sorted, CommandField::Current, 0)),
+        compatible: version_or(0, last_value(words, sorted, CommandField::Compatible, 0)),
+        headerpad: pad_or(0x20, last_value(words, sorted, CommandField::Headerpad, 0)),
+        threads: threads_or(4, last_value(words, sorted, CommandField::Threads, 0)),
+        reach: reach_or(
+            134_217_728,
+            last_value(words, sorted, CommandField::Reach, 0),
+        ),
+        generate: functions_or(0, last_value(words, sorted, CommandField::Generate, 0)),
     }
 }
 
@@ -209,7 +219,7 @@ pub fn whole_of(sorted: &Sorted, switches: Switches, numbers: Numbers) -> Whole
         narrow: narrow_of(
             switches.opcodes,
             numbers.headerpad,
-            sorted.last(Field::Headerpad),
+            sorted.last(CommandField::Headerpad),
         ),
     }
 }
@@ -219,5 +229,5 @@ pub fn has_input(sorted: &Sorted) -> bool
     requires { IsSorted sorted.now }
     ensures { (words : List (List ℕ)) → result ≡ command.has_input (sorted_items words sorted.now) }
 {
-    is_given(sorted, Field::Inputs) || is_given(sorted, Field::Generate)
+    is_given(sorted, CommandField::Inputs) || is_given(sorted, CommandField::Generate)
 }

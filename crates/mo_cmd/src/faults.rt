@@ -3,10 +3,10 @@ ghost use Rattle.mo_cmd.specs.Faults as faults;
 ghost use Rattle.std.specs.List.{position};
 ghost use Rattle.mo_cmd.specs.Parts.{has_nul};
 
-use crate::command::UsageFault;
 use crate::numbers::{functions, pad, reach, threads, version};
 use crate::options::CommandOption;
 use crate::parts::{Part, has_nul};
+use crate::usage_fault::UsageFault;
 use crate::values::{following, nth};
 use mo_types::{Arg, UsageRule};
 

@@ -5,12 +5,12 @@ ghost use Rattle.mo_cmd.specs.Items.{value_of, values_at};
 ghost use Rattle.mo_cmd.specs.Sorted.{IsSorted, sorted_items};
 
 use crate::build::{Numbers, Switches, last_value};
-use crate::command::{Command, CommandInput, CommandInputList, InputForm};
 use crate::faults::is_reexport;
-use crate::options::{CommandOption, Field};
+use crate::options::{CommandField, CommandOption};
 use crate::parts::Part;
 use crate::sorted::Sorted;
 use crate::values::nth_value;
+use command_line::{Command, CommandInput, CommandInputList, InputForm};
 use mo_types::{Arg, Bytes, Items, NameList, OutOfMemory};
 use std::alloc::Global;
 
@@ -60,7 +60,7 @@ fn all_values(
     alloc: Global,
     words: &[Arg],
     sorted: &Sorted,
-    field: Field,
+    field: CommandField,
 ) -> Result<NameList, OutOfMemory>
     requires { IsSorted sorted.now }
     ensures { IfOk result (λ names. names ≡ command.all_values field (sorted_items words.now sorted.now)) }
@@ -74,11 +74,11 @@ pub fn names_of(alloc: Global, words: &[Arg], sorted: &Sorted) -> Result<Names, 
     ensures { IfOk result (λ names. names ≡ command.names_of (sorted_items words.now sorted.now)) }
 {
     Ok(Names {
-        roots: all_values(alloc, words, sorted, Field::Roots)?,
-        flats: all_values(alloc, words, sorted, Field::Flats)?,
-        rpaths: all_values(alloc, words, sorted, Field::Rpaths)?,
-        library_dirs: all_values(alloc, words, sorted, Field::LibraryDirs)?,
-        framework_dirs: all_values(alloc, words, sorted, Field::FrameworkDirs)?,
+        roots: all_values(alloc, words, sorted, CommandField::Roots)?,
+        flats: all_values(alloc, words, sorted, CommandField::Flats)?,
+        rpaths: all_values(alloc, words, sorted, CommandField::Rpaths)?,
+        library_dirs: all_values(alloc, words, sorted, CommandField::LibraryDirs)?,
+        framework_dirs: all_values(alloc, words, sorted, CommandField::FrameworkDirs)?,
     })
 }
 
@@ -88,10 +88,10 @@ pub fn exports_of(alloc: Global, words: &[Arg], sorted: &Sorted) -> Result<Expor
     ensures { IfOk result (λ exports. exports ≡ command.exports_of (sorted_items words.now sorted.now)) }
 {
     Ok(Exports {
-        export_files: all_values(alloc, words, sorted, Field::ExportFiles)?,
-        exports: all_values(alloc, words, sorted, Field::Exports)?,
-        unexport_files: all_values(alloc, words, sorted, Field::UnexportFiles)?,
-        unexports: all_values(alloc, words, sorted, Field::Unexports)?,
+        export_files: all_values(alloc, words, sorted, CommandField::ExportFiles)?,
+        exports: all_values(alloc, words, sorted, CommandField::Exports)?,
+        unexport_files: all_values(alloc, words, sorted, CommandField::UnexportFiles)?,
+        unexports: all_values(alloc, words, sorted, CommandField::Unexports)?,
     })
 }
 
@@ -118,18 +118,29 @@ pub fn texts_of(alloc: Global, words: &[Arg], sorted: &Sorted) -> Result<Texts, 
     requires { IsSorted sorted.now }
     ensures { IfOk result (λ texts. texts ≡ command.texts_of (sorted_items words.now sorted.now)) }
 {
-    let output = text_or(alloc, last_value(words, sorted, Field::Output, 0), b"a.out")?;
+    let output = text_or(
+        alloc,
+        last_value(words, sorted, CommandField::Output, 0),
+        b"a.out",
+    )?;
     let install = text_or(
         alloc,
-        last_value(words, sorted, Field::Install, 0),
+        last_value(words, sorted, CommandField::Install, 0),
         output.as_slice(),
     )?;
     Ok(Texts {
         output,
-        entry: text_or(alloc, last_value(words, sorted, Field::Entry, 0), b"_main")?,
+        entry: text_or(
+            alloc,
+            last_value(words, sorted, CommandField::Entry, 0),
+            b"_main",
+        )?,
         install,
-        syslibroot: text_of(alloc, last_value(words, sorted, Field::Syslibroot, 0))?,
-        map: text_of(alloc, last_value(words, sorted, Field::Map, 0))?,
+        syslibroot: text_of(
+            alloc,
+            last_value(words, sorted, CommandField::Syslibroot, 0),
+        )?,
+        map: text_of(alloc, last_value(words, sorted, CommandField::Map, 0))?,
     })
 }
 
@@ -195,7 +206,7 @@ pub fn inputs_of(
     requires { IsSorted sorted.now }
     ensures { IfOk result (λ inputs. inputs ≡ command.inputs_of (sorted_items words.now sorted.now)) }
 {
-    inputs_at(alloc, words, sorted.of(Field::Inputs))
+    inputs_at(alloc, words, sorted.of(CommandField::Inputs))
 }
 
 /// The command of its parts.

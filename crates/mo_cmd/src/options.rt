@@ -118,7 +118,7 @@ pub const FIELDS: usize = 29;
 
 /// A field of the command, which one or more options give.
 #[derive(Clone, Copy, Debug, PartialEq, Eq)]
-pub enum Field {
+pub enum CommandField {
     /// Whether the image is an executable or a dynamic library.
     Kind,
     /// The path of the image.
@@ -271,20 +271,20 @@ impl CommandOption {
     }
 
     /// The field that the option gives.
-    pub fn field(self) -> Field
+    pub fn field(self) -> CommandField
         ensures { result ≡ options.field_of self }
     {
         match self {
-            CommandOption::Execute | CommandOption::Dylib => Field::Kind,
-            CommandOption::Output => Field::Output,
-            CommandOption::PlatformVersion => Field::Platform,
-            CommandOption::Entry => Field::Entry,
-            CommandOption::Root => Field::Roots,
-            CommandOption::Flat => Field::Flats,
-            CommandOption::Undefined => Field::Undefined,
-            CommandOption::Syslibroot => Field::Syslibroot,
-            CommandOption::LibraryDir => Field::LibraryDirs,
-            CommandOption::FrameworkDir => Field::FrameworkDirs,
+            CommandOption::Execute | CommandOption::Dylib => CommandField::Kind,
+            CommandOption::Output => CommandField::Output,
+            CommandOption::PlatformVersion => CommandField::Platform,
+            CommandOption::Entry => CommandField::Entry,
+            CommandOption::Root => CommandField::Roots,
+            CommandOption::Flat => CommandField::Flats,
+            CommandOption::Undefined => CommandField::Undefined,
+            CommandOption::Syslibroot => CommandField::Syslibroot,
+            CommandOption::LibraryDir => CommandField::LibraryDirs,
+            CommandOption::FrameworkDir => CommandField::FrameworkDirs,
             CommandOption::Framework
             | CommandOption::WeakFramework
             | CommandOption::ReexportFramework
@@ -294,66 +294,67 @@ impl CommandOption {
             | CommandOption::Library
             | CommandOption::WeakLibraryNamed
             | CommandOption::ReexportLibraryNamed
-            | CommandOption::Path => Field::Inputs,
-            CommandOption::AllLoad => Field::AllLoad,
-            CommandOption::DeadStrip => Field::DeadStrip,
-            CommandOption::InstallName | CommandOption::DylibInstallName => Field::Install,
-            CommandOption::CurrentVersion | CommandOption::DylibCurrentVersion => Field::Current,
+            | CommandOption::Path => CommandField::Inputs,
+            CommandOption::AllLoad => CommandField::AllLoad,
+            CommandOption::DeadStrip => CommandField::DeadStrip,
+            CommandOption::InstallName | CommandOption::DylibInstallName => CommandField::Install,
+            CommandOption::CurrentVersion | CommandOption::DylibCurrentVersion =>
+                CommandField::Current,
             CommandOption::CompatibilityVersion | CommandOption::DylibCompatibilityVersion =>
-                Field::Compatible,
-            CommandOption::Rpath => Field::Rpaths,
-            CommandOption::ExportedSymbolsList => Field::ExportFiles,
-            CommandOption::ExportedSymbol => Field::Exports,
-            CommandOption::UnexportedSymbolsList => Field::UnexportFiles,
-            CommandOption::UnexportedSymbol => Field::Unexports,
-            CommandOption::Map => Field::Map,
-            CommandOption::Headerpad => Field::Headerpad,
-            CommandOption::Threads => Field::Threads,
-            CommandOption::BranchReach => Field::Reach,
-            CommandOption::Generate => Field::Generate,
-            CommandOption::Icf => Field::Folding,
-            CommandOption::FixupChains | CommandOption::NoFixupChains => Field::Fixups,
-            _ => Field::Nothing,
+                CommandField::Compatible,
+            CommandOption::Rpath => CommandField::Rpaths,
+            CommandOption::ExportedSymbolsList => CommandField::ExportFiles,
+            CommandOption::ExportedSymbol => CommandField::Exports,
+            CommandOption::UnexportedSymbolsList => CommandField::UnexportFiles,
+            CommandOption::UnexportedSymbol => CommandField::Unexports,
+            CommandOption::Map => CommandField::Map,
+            CommandOption::Headerpad => CommandField::Headerpad,
+            CommandOption::Threads => CommandField::Threads,
+            CommandOption::BranchReach => CommandField::Reach,
+            CommandOption::Generate => CommandField::Generate,
+            CommandOption::Icf => CommandField::Folding,
+            CommandOption::FixupChains | CommandOption::NoFixupChains => CommandField::Fixups,
+            _ => CommandField::Nothing,
         }
     }
 }
 
-impl Field {
+impl CommandField {
     /// The field's place among the fields.
     pub fn number(self) -> usize
         ensures value { result ≡ options.number_of self }
         ensures within { result < FIELDS }
     {
         match self {
-            Field::Kind => 0,
-            Field::Output => 1,
-            Field::Platform => 2,
-            Field::Entry => 3,
-            Field::Roots => 4,
-            Field::Flats => 5,
-            Field::Undefined => 6,
-            Field::Syslibroot => 7,
-            Field::LibraryDirs => 8,
-            Field::FrameworkDirs => 9,
-            Field::Inputs => 10,
-            Field::AllLoad => 11,
-            Field::DeadStrip => 12,
-            Field::Install => 13,
-            Field::Current => 14,
-            Field::Compatible => 15,
-            Field::Rpaths => 16,
-            Field::ExportFiles => 17,
-            Field::Exports => 18,
-            Field::UnexportFiles => 19,
-            Field::Unexports => 20,
-            Field::Map => 21,
-            Field::Headerpad => 22,
-            Field::Threads => 23,
-            Field::Reach => 24,
-            Field::Generate => 25,
-            Field::Folding => 26,
-            Field::Fixups => 27,
-            Field::Nothing => 28,
+            CommandField::Kind => 0,
+            CommandField::Output => 1,
+            CommandField::Platform => 2,
+            CommandField::Entry => 3,
+            CommandField::Roots => 4,
+            CommandField::Flats => 5,
+            CommandField::Undefined => 6,
+            CommandField::Syslibroot => 7,
+            CommandField::LibraryDirs => 8,
+            CommandField::FrameworkDirs => 9,
+            CommandField::Inputs => 10,
+            CommandField::AllLoad => 11,
+            CommandField::DeadStrip => 12,
+            CommandField::Install => 13,
+            CommandField::Current => 14,
+            CommandField::Compatible => 15,
+            CommandField::Rpaths => 16,
+            CommandField::ExportFiles => 17,
+            CommandField::Exports => 18,
+            CommandField::UnexportFiles => 19,
+            CommandField::Unexports => 20,
+            CommandField::Map => 21,
+            CommandField::Headerpad => 22,
+            CommandField::Threads => 23,
+            CommandField::Reach => 24,
+            CommandField::Generate => 25,
+            CommandField::Folding => 26,
+            CommandField::Fixups => 27,
+            CommandField::Nothing => 28,
         }
     }
 }

@@ -7,11 +7,12 @@ ghost use Rattle.mo_cmd.specs.Command.{IsUsage, command_by, whole_command_of};
 ghost use Rattle.mo_cmd.specs.Sorted.{IsSorted, sorted_items};
 
 use crate::build::{Numbers, Switches, has_input, numbers_of, switches_of, whole_of};
-use crate::command::{Command, UsageFault};
 use crate::faults::first_fault;
 use crate::lists::command_from;
 use crate::parts::{Rows, parts_of};
 use crate::sorted::Sorted;
+use crate::usage_fault::UsageFault;
+use command_line::Command;
 use mo_types::{Arg, ArgList, UsageRule};
 use std::alloc::Global;
 

@@ -1,8 +1,3 @@
 pub mod FieldLemmas
 pub mod RelocationLemmas
 pub mod StructureLemmas
-pub mod ChainedLemmas
-pub mod ImportLemmas
-pub mod PointerLemmas
-pub mod UnwindLemmas
-pub mod BigFieldLemmas

@@ -6,9 +6,3 @@ pub mod Linkedit
 pub mod Relocation
 pub mod Segment
 pub mod Symbol
-pub mod ChainedFixups
-pub mod ChainedImport
-pub mod ChainedPointer
-pub mod Unwind
-pub mod BigFields
-pub mod Signature

@@ -20,12 +20,12 @@ answer_of (Err Failed) bytes = Unread
 answer_of (Err Memory) bytes = Refused
 
 -- a path that was asked for, and what was answered
-abbrev pub Asked : Type 0
-Asked = List ℕ × Answer
+abbrev pub Exchange : Type 0
+Exchange = List ℕ × Answer
 
 -- Each path was asked for at the object that the fetch before it left, and was answered so; `answers` says of a fetch
 -- what it answered, and what it left.
-abbrev pub Chain : {S : Type 0} → (S → List ℕ → Answer → S → Type 0) → S → List Asked → S → Type 0
+abbrev pub Chain : {S : Type 0} → (S → List ℕ → Answer → S → Type 0) → S → List Exchange → S → Type 0
 Chain answers old [] new = new ≡ old
 Chain {S} answers old (asked ∷ more) new = (next : S) × answers old asked.0 asked.1 next × Chain answers next more new
 

@@ -1,7 +1,7 @@
 -- What the objects in memory keep their bytes in.
 use Rattle.std.specs.Prelude.{ℕ, ◌≡◌, ◌≤◌, List, [], ◌∷◌, take, drop, slice_range, Option, Some, None}
-use Rattle.mo_outside.specs.declared.asked.Asked.{Asked}
-use Rattle.mo_outside.specs.declared.asked.Asked.TheVariants as asked
+use Rattle.mo_outside.specs.declared.asked.PathLog.{PathLog}
+use Rattle.mo_outside.specs.declared.asked.PathLog.TheVariants as asked
 use Rattle.mo_outside.specs.Written.{Written}
 use Rattle.mo_outside.specs.declared.file_buffer.Begun.{Begun}
 use Rattle.mo_outside.specs.declared.file_buffer.Begun.TheVariants.{Nothing, First, Second}
@@ -23,7 +23,7 @@ IsWithin len (First file) = file.path_end ≤ len
 IsWithin len (Second first end second) = (first.path_end ≤ end) × (end ≤ second.path_end) × (second.path_end ≤ len)
 
 -- the paths that were asked for, unless memory for one was refused
-abbrev pub paths_in : Asked → Option (List (List ℕ))
+abbrev pub paths_in : PathLog → Option (List (List ℕ))
 paths_in asked.Nothing = Some []
 paths_in (asked.Paths paths) = Some paths
 paths_in asked.Forgotten = None

@@ -8,7 +8,7 @@ use std::marker::Model;
 
 /// What is kept of the paths that were asked for.
 #[derive(Drop)]
-pub enum Asked {
+pub enum PathLog {
     Nothing,
     Paths(Items<Bytes>),
     /// Memory for a path was refused.
@@ -18,7 +18,7 @@ pub enum Asked {
 /// The paths that were asked for, in order, as long as memory for them is given.
 #[derive(Drop)]
 pub struct AskedPaths {
-    asked: Asked,
+    asked: PathLog,
 }
 
 impl Model for AskedPaths {
@@ -43,7 +43,7 @@ impl AskedPaths {
         ensures { result ≡ Some [] }
     {
         AskedPaths {
-            asked: Asked::Nothing,
+            asked: PathLog::Nothing,
         }
     }
 
@@ -52,19 +52,19 @@ impl AskedPaths {
         ensures { Tells (Logs path.now) self.old self.new }
     {
         match &mut self.asked {
-            Asked::Nothing => {
+            PathLog::Nothing => {
                 let mut paths = Items::new(alloc);
                 self.asked = match remember(&mut paths, alloc, path) {
-                    Ok(()) => Asked::Paths(paths),
-                    Err(_) => Asked::Forgotten,
+                    Ok(()) => PathLog::Paths(paths),
+                    Err(_) => PathLog::Forgotten,
                 };
             }
-            Asked::Paths(paths) => {
+            PathLog::Paths(paths) => {
                 if remember(paths, alloc, path).is_err() {
-                    self.asked = Asked::Forgotten;
+                    self.asked = PathLog::Forgotten;
                 }
             }
-            Asked::Forgotten => {}
+            PathLog::Forgotten => {}
         }
     }
 }

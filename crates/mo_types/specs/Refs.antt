@@ -11,7 +11,7 @@ use Rattle.mo_types.specs.declared.object.RawReloc.{RawReloc}
 use Rattle.mo_types.specs.declared.object.Section.{Section}
 use Rattle.mo_types.specs.declared.object.Symbol.{Symbol}
 use Rattle.mo_types.specs.declared.object.Object.{Object}
-use Rattle.mo_types.specs.declared.reference.Field.{Field}
+use Rattle.mo_types.specs.declared.reference.FieldRange.{FieldRange}
 use Rattle.mo_types.specs.declared.reference.Ref.{Ref}
 use Rattle.mo_types.specs.declared.reference.RefKind.{RefKind}
 use Rattle.mo_types.specs.declared.reference.Target.{Target}
@@ -28,7 +28,7 @@ abbrev pub signed_24 : ℕ → ℤ
 signed_24 number = if nat_lt number (2 ^ 23) then pos number else negsuc (2 ^ 24 - 1 - number)
 
 -- the number in a field, in two's complement
-abbrev pub field_signed : List ℕ → Field → ℤ
+abbrev pub field_signed : List ℕ → FieldRange → ℤ
 field_signed bytes field = cast_signed (if field.size == 4 then w32 else w64) (field_number bytes field)
 
 -- the atom and offset of an address in the object, in the section of a number
@@ -38,7 +38,7 @@ place_of object file number address section =
     Local (record { file = file; section = number; offset = cut }) (address - section.address - cut)
 
 -- where a relocation leads: to the symbol of its number, or to the address that its field holds
-abbrev pub target_of : Object → FileId → List ℕ → Field → RawReloc → Option Target
+abbrev pub target_of : Object → FileId → List ℕ → FieldRange → RawReloc → Option Target
 target_of object file bytes field reloc =
     if reloc.external then Some (Name reloc.number)
     else option_map (place_of object file reloc.number (field_number bytes field)) (section_numbered object.sections reloc.number)
@@ -49,13 +49,13 @@ minus_of None = None
 minus_of (Some first) = if is_subtractor first then Some (Name first.number) else None
 
 -- what is added to the target: what the field of an UNSIGNED of a symbol holds, or the number of an ADDEND
-abbrev pub addend_of : List ℕ → Field → Option RawReloc → RawReloc → ℤ
+abbrev pub addend_of : List ℕ → FieldRange → Option RawReloc → RawReloc → ℤ
 addend_of bytes field first reloc =
     if reloc.kind == ARM64_RELOC_UNSIGNED then (if reloc.external then field_signed bytes field else pos 0)
     else option_map_or (λ addend. signed_24 addend.number) first (pos 0)
 
 -- the reference of a row of a section
-abbrev pub reference : Object → FileId → ℕ → Section → Option RawReloc → RawReloc → RefKind → Field → Option Ref
+abbrev pub reference : Object → FileId → ℕ → Section → Option RawReloc → RawReloc → RefKind → FieldRange → Option Ref
 reference object file number section first reloc kind field =
     let cut = cut_of object number section field.offset in
     option_map (λ target. record {

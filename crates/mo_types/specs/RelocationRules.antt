@@ -10,7 +10,7 @@ use Rattle.mo_types.specs.declared.object.Symbol.{Symbol}
 use Rattle.mo_types.specs.declared.object.SymbolKind.{SymbolKind}
 use Rattle.mo_types.specs.declared.object.SymbolKind.TheVariants.{Defined, Passed, Absolute}
 use Rattle.mo_types.specs.declared.object.Object.{Object}
-use Rattle.mo_types.specs.declared.reference.Field.{Field}
+use Rattle.mo_types.specs.declared.reference.FieldRange.{FieldRange}
 use Rattle.mo_types.specs.declared.reference.RefKind.{RefKind}
 use Rattle.mo_types.specs.Atoms.{cut_of}
 use Rattle.mo_types.specs.Rows.{when, is_first, is_second, is_subtractor, first_before, last_at, kind_at, field_size, is_instruction}
@@ -39,7 +39,7 @@ shape_fault object number section at =
     (last_at section.relocs at)
 
 -- the field of the row that ends at a place; r_address is signed, and there is no field below the section
-unfoldable pub field_at : List RawReloc → ℕ → Option Field
+unfoldable pub field_at : List RawReloc → ℕ → Option FieldRange
 field_at relocs at =
     option_and_then
     (λ kind. option_and_then (λ reloc. when (nat_lt reloc.address (2 ^ 31)) (record { offset = reloc.address; size = field_size kind }))
@@ -47,17 +47,17 @@ field_at relocs at =
     (kind_at relocs at)
 
 -- both have a byte
-abbrev pub overlap : Field → Field → Bool
+abbrev pub overlap : FieldRange → FieldRange → Bool
 overlap a b = nat_lt a.offset (b.offset + b.size) && nat_lt b.offset (a.offset + a.size)
 
 -- the field of another row of the section overlaps this one
-abbrev pub overlaps_another : List RawReloc → ℕ → Field → Bool
+abbrev pub overlaps_another : List RawReloc → ℕ → FieldRange → Bool
 overlaps_another relocs at field =
     list_any (λ other. not (other == at) && option_map_or (overlap field) (field_at relocs other) false)
     (range_with_len 0 (length relocs))
 
 -- the field's first byte and its last belong to one atom
-abbrev pub is_in_one_atom : Object → ℕ → Section → Field → Bool
+abbrev pub is_in_one_atom : Object → ℕ → Section → FieldRange → Bool
 is_in_one_atom object number section field =
     nat_le (field.offset + field.size) section.size
     && cut_of object number section (field.offset + field.size - 1) == cut_of object number section field.offset
@@ -66,7 +66,7 @@ is_in_one_atom object number section field =
 abbrev pub has_fields : Section → Bool
 has_fields section = not (is_zerofill section.kind) && not (is_strings section.kind) && is_none (literal_size section.kind)
 
-abbrev pub is_bad_field : Object → ℕ → Section → ℕ → RefKind → Field → Bool
+abbrev pub is_bad_field : Object → ℕ → Section → ℕ → RefKind → FieldRange → Bool
 is_bad_field object number section at kind field =
     not (is_in_one_atom object number section field) || (is_instruction kind && not (field.offset % 4 == 0))
     || overlaps_another section.relocs at field || not (has_fields section)
@@ -105,7 +105,7 @@ abbrev pub is_unnameable : List Section → Symbol → Bool
 is_unnameable sections symbol = is_passed symbol.kind || (not symbol.external && is_in_dropped sections symbol.kind)
 
 -- the number in a field, without sign
-unfoldable pub field_number : List ℕ → Field → ℕ
+unfoldable pub field_number : List ℕ → FieldRange → ℕ
 field_number bytes field = from_le_bytes (if field.size == 4 then w32 else w64) (drop field.offset bytes)
 
 -- an address from a section's start to its end
@@ -118,7 +118,7 @@ is_outside sections number address =
     option_map_or (λ section. is_dropped section || not (is_within section address)) (section_numbered sections number) true
 
 -- a relocation that names no symbol or section that it may name, or an address outside its section
-abbrev pub is_bad_target : Object → List ℕ → Field → RawReloc → Bool
+abbrev pub is_bad_target : Object → List ℕ → FieldRange → RawReloc → Bool
 is_bad_target object bytes field reloc =
     if reloc.external then option_map_or (is_unnameable object.sections) (slice_get object.symbols reloc.number) true
     else is_outside object.sections reloc.number (field_number bytes field)

@@ -3,6 +3,8 @@ ghost use Rattle.mo_types.specs.Keys.{compare_files, compare_keys};
 ghost use Rattle.mo_types.specs.declared.key.AtomKey.{AtomKey};
 ghost use Rattle.mo_types.specs.declared.key.FileId.{FileId};
 
+use std::cmp::Ordering;
+
 /// The section number of common symbols' atoms: one more than a section of a file can have (`nlist.h`: MAX_SECT).
 pub const COMMON_SECTION: u16 = 256;
 
@@ -24,6 +26,13 @@ pub struct AtomKey {
     pub section: u16,
     /// Its offset in the section in bytes; for a common symbol, the symbol's index from 0.
     pub offset: u64,
+}
+
+/// The order of two atoms: by file, then by section, then by offset.
+pub fn compare_atoms(a: &AtomKey, b: &AtomKey) -> Ordering
+    ensures { result ≡ compare_keys a.now b.now }
+{
+    a.cmp(b)
 }
 
 /// The derived order of files is that of the command line. A law, which does nothing.

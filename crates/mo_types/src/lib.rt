@@ -42,7 +42,9 @@ pub use cause::{Feature, RangeKind, Rule, UsageRule, Which};
 pub use edge::{Edge, EdgeList};
 pub use goal::{Goal, GoalList};
 pub use items::Items;
-pub use key::{AtomKey, COMMON_SECTION, FileId, files_are_in_order, keys_are_in_order};
+pub use key::{
+    AtomKey, COMMON_SECTION, FileId, compare_atoms, files_are_in_order, keys_are_in_order,
+};
 pub use kind::{Kind, kind_of};
 pub use loaded::{Loaded, LoadedFile, LoadedList};
 pub use memory::OutOfMemory;
@@ -52,7 +54,7 @@ pub use object::{
 pub use object_fault::ObjFault;
 pub use out_section::{KeyList, OutSection, OutSections};
 pub use ref_list::RefList;
-pub use reference::{Field, Ref, RefKind, Target};
+pub use reference::{FieldRange, Ref, RefKind, Target};
 pub use reference_fault::RefFault;
 pub use string::{Arg, ArgList, Bytes, NameList};
 pub use unwind::{Unwind, UnwindList};

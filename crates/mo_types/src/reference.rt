@@ -65,7 +65,7 @@ pub enum RefKind {
 
 /// The bytes of a section that the linker fills in.
 #[derive(Clone, Copy, Debug, PartialEq, Eq)]
-pub struct Field {
+pub struct FieldRange {
     /// The offset in the section, in bytes.
     pub offset: u64,
     /// In bytes.

@@ -2,7 +2,7 @@
 
 ghost use Rattle.std.specs.Prelude.{IsTrue};
 ghost use Rattle.fixup_chain.specs.Encoded.{AreApart};
-ghost use Rattle.fixup_chain.specs.Faults.{AreOnce};
+ghost use Rattle.sect_place.specs.Addresses.{AreOnce};
 
 use fixup_chain::{ChainFault, Chains, Fixup, encode};
 use mo_types::{AtomKey, Bytes, FileId, Goal, Items, OutOfMemory, RangeKind};

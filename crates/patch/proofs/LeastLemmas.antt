@@ -4,7 +4,7 @@ use Rattle.std.specs.Prelude.{All, Contains}
 use Rattle.std.proofs.lemmas.Bool.Decides.{nat_tests}
 use Rattle.std.proofs.lemmas.List.{get_or-take, length-take-le, take_all}
 use Rattle.std.proofs.lemmas.List.Elements.{All-more, All-nil, All-weaker, at_read}
-use Rattle.patch.specs.declared.fault.Found.{Found}
+use Rattle.patch.specs.declared.fault.PlacedFault.{PlacedFault}
 use Rattle.patch.specs.declared.met.Met.{Met}
 use Rattle.patch.specs.declared.met.RangeFault.{RangeFault}
 use Rattle.mo_bytes.specs.Number.{number}
@@ -22,7 +22,7 @@ element_at (x ∷ xs) zero d e within = refl
 element_at (x ∷ xs) (suc at) d e within = element_at xs at d e (omega arith)
 
 -- the fault at the least place of the references before a place
-pub record IsLeastBefore (address : ℕ) (bytes : List ℕ) (mets : List Met) (at : ℕ) (least : Option Found) : Type 0 where
+pub record IsLeastBefore (address : ℕ) (bytes : List ℕ) (mets : List Met) (at : ℕ) (least : Option PlacedFault) : Type 0 where
   pub is : IsLeast address bytes (take at mets) least
   pub within : at ≤ length mets
 
@@ -43,7 +43,7 @@ contains_last mets at met within is =
 all_more : (P : Met → Type 0) (mets : List Met) (at : ℕ) (met : Met) → at < length mets → met ≡ get_or mets at met → All P (take at mets) → P met → All P (take (at + 1) mets)
 all_more P mets at met within is all holds = All-more P mets at met within all (at_read mets P at met within is holds met)
 
-keeps : (address : ℕ) (bytes : List ℕ) (mets : List Met) (at : ℕ) (least : Option Found) (met : Met) → IsLeast address bytes (take at mets) least → at < length mets → met ≡ get_or mets at met → Fits address bytes met → IsLeast address bytes (take (at + 1) mets) least
+keeps : (address : ℕ) (bytes : List ℕ) (mets : List Met) (at : ℕ) (least : Option PlacedFault) (met : Met) → IsLeast address bytes (take at mets) least → at < length mets → met ≡ get_or mets at met → Fits address bytes met → IsLeast address bytes (take (at + 1) mets) least
 keeps address bytes mets at None met all within is fits = all_more (Fits address bytes) mets at met within is all fits
 keeps address bytes mets at (Some found) met (first, it) within is fits = (
   first,
@@ -65,7 +65,7 @@ fails_from : (r : Result ℕ RangeFault) (fault : RangeFault) → fault_in r ≡
 fails_from (Ok n) fault e = absurd cc
 fails_from (Err f) fault e = cc
 
-pub least_stays : (address : ℕ) (bytes : List ℕ) (mets : List Met) (at : ℕ) (least : Option Found) (met : Met) (asked : Option RangeFault) → IsLeastBefore address bytes mets at least → at < length mets → met ≡ get_or mets at met → asked ≡ fault_in (field_of address bytes met) → asked ≡ None → IsLeastBefore address bytes mets (at + 1) least
+pub least_stays : (address : ℕ) (bytes : List ℕ) (mets : List Met) (at : ℕ) (least : Option PlacedFault) (met : Met) (asked : Option RangeFault) → IsLeastBefore address bytes mets at least → at < length mets → met ≡ get_or mets at met → asked ≡ fault_in (field_of address bytes met) → asked ≡ None → IsLeastBefore address bytes mets (at + 1) least
 least_stays address bytes mets at least met asked before within is e none =
     record { is = keeps address bytes mets at least met before.is within is (fits_from (field_of address bytes met) (sym e ∙ none)); within = omega arith }
 
@@ -81,8 +81,8 @@ lower : (address : ℕ) (bytes : List ℕ) (low high : ℕ) (other : Met) → lo
 lower address bytes low high other h (inl fits) = inl fits
 lower address bytes low high other h (inr above) = inr (omega arith)
 
-takes : (address : ℕ) (bytes : List ℕ) (mets : List Met) (at : ℕ) (met : Met) (found : Found) → at < length mets → met ≡ get_or mets at met → field_of address bytes met ≡ Err found.fault → found.place ≡ met.place
-    → (least : Option Found) → IsLeast address bytes (take at mets) least → IsLeast address bytes (take (at + 1) mets) (earlier least found)
+takes : (address : ℕ) (bytes : List ℕ) (mets : List Met) (at : ℕ) (met : Met) (found : PlacedFault) → at < length mets → met ≡ get_or mets at met → field_of address bytes met ≡ Err found.fault → found.place ≡ met.place
+    → (least : Option PlacedFault) → IsLeast address bytes (take at mets) least → IsLeast address bytes (take (at + 1) mets) (earlier least found)
 takes address bytes mets at met found within is fails place None all =
     (met, record { first = newest address bytes mets at met found.fault within is fails (All-weaker (Fits address bytes) (λ other. Fits address bytes other ⊎ (met.place ≤ other.place)) (λ other fits. inl fits) (take at mets) all); place = place })
 takes address bytes mets at met found within is fails place (Some other) (first, it) = chosen (nat_le other.place found.place) refl
@@ -107,14 +107,14 @@ takes address bytes mets at met found within is fails place (Some other) (first,
       },
     )
 
-pub least_takes : (address : ℕ) (bytes : List ℕ) (mets : List Met) (at : ℕ) (least : Option Found) (met : Met) (asked : Option RangeFault) (fault : RangeFault) (found : Found) (new : Option Found) → IsLeastBefore address bytes mets at least → at < length mets → met ≡ get_or mets at met → asked ≡ fault_in (field_of address bytes met) → asked ≡ Some fault → found ≡ record { place = met.place; fault = fault } → new ≡ earlier least found → IsLeastBefore address bytes mets (at + 1) new
+pub least_takes : (address : ℕ) (bytes : List ℕ) (mets : List Met) (at : ℕ) (least : Option PlacedFault) (met : Met) (asked : Option RangeFault) (fault : RangeFault) (found : PlacedFault) (new : Option PlacedFault) → IsLeastBefore address bytes mets at least → at < length mets → met ≡ get_or mets at met → asked ≡ fault_in (field_of address bytes met) → asked ≡ Some fault → found ≡ record { place = met.place; fault = fault } → new ≡ earlier least found → IsLeastBefore address bytes mets (at + 1) new
 least_takes address bytes mets at least met asked fault found new before within is e some made chosen = record {
-  is = subst (λ (o : Option Found). IsLeast address bytes (take (at + 1) mets) o) (sym chosen)
-      (takes address bytes mets at met found within is (fails_from (field_of address bytes met) fault (sym e ∙ some) ∙ ap (λ (f : Found). Err f.fault) (sym made)) (ap (λ (f : Found). f.place) made) least before.is);
+  is = subst (λ (o : Option PlacedFault). IsLeast address bytes (take (at + 1) mets) o) (sym chosen)
+      (takes address bytes mets at met found within is (fails_from (field_of address bytes met) fault (sym e ∙ some) ∙ ap (λ (f : PlacedFault). Err f.fault) (sym made)) (ap (λ (f : PlacedFault). f.place) made) least before.is);
   within = omega arith;
 }
 
-pub least_ends : (address : ℕ) (bytes : List ℕ) (mets : List Met) (at : ℕ) (least : Option Found) → IsLeastBefore address bytes mets at least → length mets ≤ at → IsLeast address bytes mets least
+pub least_ends : (address : ℕ) (bytes : List ℕ) (mets : List Met) (at : ℕ) (least : Option PlacedFault) → IsLeastBefore address bytes mets at least → length mets ≤ at → IsLeast address bytes mets least
 least_ends address bytes mets at least before past = subst (λ (xs : List Met). IsLeast address bytes xs least) (take_all at mets past) before.is
 
 -- a field lies in the bytes
@@ -123,14 +123,14 @@ field_within address size mets at met fields within is = subst (λ (m : Met). m.
 
 pub ruleset least = (least_starts, least_stays, least_takes, least_ends, field_within)
 
-pub no_fault : (address : ℕ) (bytes : List ℕ) (mets : List Met) (least : Option Found) → IsLeast address bytes mets least → least ≡ None → All (Fits address bytes) mets
-no_fault address bytes mets least is none = subst (λ (o : Option Found). IsLeast address bytes mets o) none is
+pub no_fault : (address : ℕ) (bytes : List ℕ) (mets : List Met) (least : Option PlacedFault) → IsLeast address bytes mets least → least ≡ None → All (Fits address bytes) mets
+no_fault address bytes mets least is none = subst (λ (o : Option PlacedFault). IsLeast address bytes mets o) none is
 
-first_fault : (address : ℕ) (bytes : List ℕ) (mets : List Met) (found : Found) → IsLeast address bytes mets (Some found) → (met : Met) × IsFirstAtFault address bytes mets found.fault met
+first_fault : (address : ℕ) (bytes : List ℕ) (mets : List Met) (found : PlacedFault) → IsLeast address bytes mets (Some found) → (met : Met) × IsFirstAtFault address bytes mets found.fault met
 first_fault address bytes mets found (met, it) = (met, it.first)
 
-pub a_fault : (address : ℕ) (bytes : List ℕ) (mets : List Met) (least : Option Found) (found : Found) → IsLeast address bytes mets least → least ≡ Some found → (met : Met) × IsFirstAtFault address bytes mets found.fault met
-a_fault address bytes mets least found is some = first_fault address bytes mets found (subst (λ (o : Option Found). IsLeast address bytes mets o) some is)
+pub a_fault : (address : ℕ) (bytes : List ℕ) (mets : List Met) (least : Option PlacedFault) (found : PlacedFault) → IsLeast address bytes mets least → least ≡ Some found → (met : Met) × IsFirstAtFault address bytes mets found.fault met
+a_fault address bytes mets least found is some = first_fault address bytes mets found (subst (λ (o : Option PlacedFault). IsLeast address bytes mets o) some is)
 
 pub ruleset verdicts = (no_fault, a_fault)
 

@@ -12,13 +12,13 @@ use mo_types::RefKind;
 
 /// A fault with the place of its field.
 #[derive(Clone, Copy)]
-pub struct Found {
+pub struct PlacedFault {
     pub place: u64,
     pub fault: RangeFault,
 }
 
 // The fault at the lesser place, or the earlier one.
-fn earlier(least: Option<Found>, found: Found) -> Option<Found>
+fn earlier(least: Option<PlacedFault>, found: PlacedFault) -> Option<PlacedFault>
     ensures { result ≡ earlier least found }
 {
     match least {
@@ -55,14 +55,14 @@ fn fault_of(bytes: &[u8], address: u64, met: &Met) -> Option<RangeFault>
 
 /// The fault of the reference at the least place, of those whose values don't fit their fields.
 #[tactic(auto, using(crate::proofs::LeastLemmas::least))]
-pub fn least_fault(bytes: &[u8], address: u64, mets: &[Met]) -> Option<Found>
+pub fn least_fault(bytes: &[u8], address: u64, mets: &[Met]) -> Option<PlacedFault>
     requires fields { AreFields address (length bytes.now) mets.now }
     ensures { IsLeast address bytes.now mets.now result }
 {
     let mut least = None;
     for met in mets {
         if let Some(fault) = fault_of(bytes, address, met) {
-            let found = Found {
+            let found = PlacedFault {
                 place: met.place,
                 fault,
             };

@@ -8,7 +8,7 @@ use Rattle.std.proofs.lemmas.List.Elements.{filter_map-append}
 use Rattle.std.proofs.lemmas.List.Sorted.{IsPermutation-sym}
 use Rattle.std.proofs.lemmas.Map.Keys.{IsDistinct-from_apart, IsDistinct-IsPermutation, IsDistinct-head, IsDistinct-tail}
 use Rattle.mo_types.specs.declared.object.RawReloc.{RawReloc}
-use Rattle.mo_types.specs.declared.reference.Field.{Field}
+use Rattle.mo_types.specs.declared.reference.FieldRange.{FieldRange}
 use Rattle.mo_types.specs.RelocationRules.{field_at, overlap}
 use Rattle.reloc_read.specs.Fields.{AreApart, Follow, overlaps_at}
 use Rattle.reloc_read.proofs.ScanLemmas.{none_in_range}
@@ -32,26 +32,26 @@ mapped_more h at o e =
     ap (filter_map h) (range_more 0 at) ∙ filter_map-append h (range_with_len 0 at) ((0 + at) ∷ [])
     ∙ ap (λ xs. filter_map h (range_with_len 0 at) ++ xs) (ap (λ k. filter_map h (k ∷ [])) here ∙ one_mapped h at o e)
 
-pub field_added : (relocs : List RawReloc) (at : ℕ) (found more : List Field) (field : Option Field) → found ≡ filter_map (field_at relocs) (range_with_len 0 at) → field ≡ field_at relocs at → more ≡ found ++ option_to_list field → more ≡ filter_map (field_at relocs) (range_with_len 0 (at + 1))
+pub field_added : (relocs : List RawReloc) (at : ℕ) (found more : List FieldRange) (field : Option FieldRange) → found ≡ filter_map (field_at relocs) (range_with_len 0 at) → field ≡ field_at relocs at → more ≡ found ++ option_to_list field → more ≡ filter_map (field_at relocs) (range_with_len 0 (at + 1))
 field_added relocs at found more field e is pushed = pushed ∙ ap (λ xs. xs ++ option_to_list field) e ∙ sym (mapped_more (field_at relocs) at field (sym is))
 
 pub ruleset collects = (field_added)
 
 -- each field before a place ends before the next
-pub record FollowTo (fields : List Field) (at : ℕ) : Type 0 where
-  pub next : (k : ℕ) (d : Field) → k + 1 < at → k + 1 < length fields → (get_or fields k d).offset + (get_or fields k d).size ≤ (get_or fields (k + 1) d).offset
+pub record FollowTo (fields : List FieldRange) (at : ℕ) : Type 0 where
+  pub next : (k : ℕ) (d : FieldRange) → k + 1 < at → k + 1 < length fields → (get_or fields k d).offset + (get_or fields k d).size ≤ (get_or fields (k + 1) d).offset
 
-pub follow_from_1 : (fields : List Field) → FollowTo fields 1
+pub follow_from_1 : (fields : List FieldRange) → FollowTo fields 1
 follow_from_1 fields = record { next = λ k d below within. absurd (omega arith) }
 
-pub follow_all : (fields : List Field) (at : ℕ) → FollowTo fields at → length fields ≤ at → Follow fields
+pub follow_all : (fields : List FieldRange) (at : ℕ) → FollowTo fields at → length fields ≤ at → Follow fields
 follow_all fields at so past = record { next = λ k d within. so.next k d (omega arith) within }
 
 pub ruleset follows = (follow_from_1, follow_all)
 
 -- fields that follow each other don't overlap
 
-ends_before : (fields : List Field) (i n : ℕ) (d : Field) → Follow fields → i + 1 + n < length fields → (get_or fields i d).offset + (get_or fields i d).size ≤ (get_or fields (i + 1 + n) d).offset
+ends_before : (fields : List FieldRange) (i n : ℕ) (d : FieldRange) → Follow fields → i + 1 + n < length fields → (get_or fields i d).offset + (get_or fields i d).size ≤ (get_or fields (i + 1 + n) d).offset
 ends_before fields i zero d follow within =
     let e : i + 1 + zero ≡ i + 1 = omega arith in
     rw e (follow.next i d (omega arith))
@@ -71,13 +71,13 @@ and_comm true false = refl
 and_comm false true = refl
 and_comm false false = refl
 
-pub no_overlap : (a b : Field) → a.offset + a.size ≤ b.offset → overlap a b ≡ false
+pub no_overlap : (a b : FieldRange) → a.offset + a.size ≤ b.offset → overlap a b ≡ false
 no_overlap a b low = and_false (ltb a.offset (b.offset + b.size)) (ltb b.offset (a.offset + a.size)) (le-ltb b.offset (a.offset + a.size) low)
 
-pub overlap_flips : (a b : Field) → overlap a b ≡ overlap b a
+pub overlap_flips : (a b : FieldRange) → overlap a b ≡ overlap b a
 overlap_flips a b = and_comm (ltb a.offset (b.offset + b.size)) (ltb b.offset (a.offset + a.size))
 
-distinct_sorted : (fields : List Field) → Follow fields → IsDistinct overlap fields
+distinct_sorted : (fields : List FieldRange) → Follow fields → IsDistinct overlap fields
 distinct_sorted fields follow = IsDistinct-from_apart overlap fields (λ i j d less within.
     let n : ℕ = j - (i + 1) in
     let e : i + 1 + n ≡ j = omega arith in
@@ -87,7 +87,7 @@ distinct_sorted fields follow = IsDistinct-from_apart overlap fields (λ i j d l
 
 -- from the list of all fields to the rows
 
-member_apart : (h : ℕ → Option Field) (field : Field) (a n j : ℕ) (other : Field) → AllByRecursion (λ y. overlap field y ≡ false) (filter_map h (range_with_len a n)) → a ≤ j → j < a + n → h j ≡ Some other → overlap field other ≡ false
+member_apart : (h : ℕ → Option FieldRange) (field : FieldRange) (a n j : ℕ) (other : FieldRange) → AllByRecursion (λ y. overlap field y ≡ false) (filter_map h (range_with_len a n)) → a ≤ j → j < a + n → h j ≡ Some other → overlap field other ≡ false
 member_apart h field a zero j other all low high is = absurd (omega arith)
 member_apart h field a (suc n) j other all low high is =
     elim (cases_lt a j) [
@@ -95,23 +95,23 @@ member_apart h field a (suc n) j other all low high is =
       | inr less ↦ let same : j ≡ a = omega arith in first (h a) (filter_map h (range_with_len (a + 1) n)) (sym (ap h same) ∙ is) all
     ]
   where
-    rest : (o : Option Field) (xs : List Field) → AllByRecursion (λ y. overlap field y ≡ false) (cons_option o xs) → AllByRecursion (λ y. overlap field y ≡ false) xs
+    rest : (o : Option FieldRange) (xs : List FieldRange) → AllByRecursion (λ y. overlap field y ≡ false) (cons_option o xs) → AllByRecursion (λ y. overlap field y ≡ false) xs
     rest None xs all = all
     rest (Some x) xs all = all.1
 
-    first : (o : Option Field) (xs : List Field) → o ≡ Some other → AllByRecursion (λ y. overlap field y ≡ false) (cons_option o xs) → overlap field other ≡ false
+    first : (o : Option FieldRange) (xs : List FieldRange) → o ≡ Some other → AllByRecursion (λ y. overlap field y ≡ false) (cons_option o xs) → overlap field other ≡ false
     first None xs e all = cc
-    first (Some x) xs e all = let same : x ≡ other = cc in subst (λ (y : Field). overlap field y ≡ false) same all.0
+    first (Some x) xs e all = let same : x ≡ other = cc in subst (λ (y : FieldRange). overlap field y ≡ false) same all.0
 
-tail_distinct : (o : Option Field) (xs : List Field) → IsDistinct overlap (cons_option o xs) → IsDistinct overlap xs
+tail_distinct : (o : Option FieldRange) (xs : List FieldRange) → IsDistinct overlap (cons_option o xs) → IsDistinct overlap xs
 tail_distinct None xs distinct = distinct
 tail_distinct (Some x) xs distinct = IsDistinct-tail overlap x xs distinct
 
-head_distinct : (o : Option Field) (field : Field) (xs : List Field) → o ≡ Some field → IsDistinct overlap (cons_option o xs) → AllByRecursion (λ y. overlap field y ≡ false) xs
+head_distinct : (o : Option FieldRange) (field : FieldRange) (xs : List FieldRange) → o ≡ Some field → IsDistinct overlap (cons_option o xs) → AllByRecursion (λ y. overlap field y ≡ false) xs
 head_distinct None field xs e distinct = cc
-head_distinct (Some x) field xs e distinct = let same : x ≡ field = cc in subst (λ (y : Field). AllByRecursion (λ z. overlap y z ≡ false) xs) same (IsDistinct-head overlap x xs distinct)
+head_distinct (Some x) field xs e distinct = let same : x ≡ field = cc in subst (λ (y : FieldRange). AllByRecursion (λ z. overlap y z ≡ false) xs) same (IsDistinct-head overlap x xs distinct)
 
-rows_apart : (h : ℕ → Option Field) (a n i j : ℕ) (field other : Field) → IsDistinct overlap (filter_map h (range_with_len a n)) → a ≤ i → i < j → j < a + n → h i ≡ Some field → h j ≡ Some other → overlap field other ≡ false
+rows_apart : (h : ℕ → Option FieldRange) (a n i j : ℕ) (field other : FieldRange) → IsDistinct overlap (filter_map h (range_with_len a n)) → a ≤ i → i < j → j < a + n → h i ≡ Some field → h j ≡ Some other → overlap field other ≡ false
 rows_apart h a zero i j field other distinct low less high is its = absurd (omega arith)
 rows_apart h a (suc n) i j field other distinct low less high is its =
     elim (cases_lt a i) [
@@ -120,7 +120,7 @@ rows_apart h a (suc n) i j field other distinct low less high is its =
           member_apart h field (a + 1) n j other (head_distinct (h a) field (filter_map h (range_with_len (a + 1) n)) (sym (ap h same) ∙ is) distinct) (omega arith) (omega arith) its
     ]
 
-tested : (field : Field) (o : Option Field) → ((other : Field) → o ≡ Some other → overlap field other ≡ false) → option_map_or (overlap field) o false ≡ false
+tested : (field : FieldRange) (o : Option FieldRange) → ((other : FieldRange) → o ≡ Some other → overlap field other ≡ false) → option_map_or (overlap field) o false ≡ false
 tested field None none = refl
 tested field (Some other) none = none other refl
 
@@ -129,7 +129,7 @@ not_itself true other none = refl
 not_itself false other none = none refl
 
 -- fields stand apart where no two of them overlap
-pub apart_of_pairs : (relocs : List RawReloc) → ((i j : ℕ) (a b : Field) → i < j → j < length relocs → field_at relocs i ≡ Some a → field_at relocs j ≡ Some b → overlap a b ≡ false) → AreApart relocs
+pub apart_of_pairs : (relocs : List RawReloc) → ((i j : ℕ) (a b : FieldRange) → i < j → j < length relocs → field_at relocs i ≡ Some a → field_at relocs j ≡ Some b → overlap a b ≡ false) → AreApart relocs
 apart_of_pairs relocs pairs = record {
   apart = λ at field within here. none_in_range (overlaps_at relocs at field) 0 (length relocs) (λ k low high.
       not_itself (eqb k at) (option_map_or (overlap field) (field_at relocs k) false) (λ differ. tested field (field_at relocs k) (λ other there.
@@ -140,10 +140,10 @@ apart_of_pairs relocs pairs = record {
       ])));
 }
 
-pub apart_from_follow : (relocs : List RawReloc) (found sorted : List Field) → found ≡ filter_map (field_at relocs) (range_with_len 0 (length relocs)) → IsPermutation found sorted → Follow sorted → AreApart relocs
+pub apart_from_follow : (relocs : List RawReloc) (found sorted : List FieldRange) → found ≡ filter_map (field_at relocs) (range_with_len 0 (length relocs)) → IsPermutation found sorted → Follow sorted → AreApart relocs
 apart_from_follow relocs found sorted is moved follow =
     let distinct : IsDistinct overlap (filter_map (field_at relocs) (range_with_len 0 (length relocs))) =
-    subst (λ (xs : List Field). IsDistinct overlap xs) is (IsDistinct-IsPermutation overlap overlap_flips sorted found (IsPermutation-sym found sorted moved) (distinct_sorted sorted follow)) in
+    subst (λ (xs : List FieldRange). IsDistinct overlap xs) is (IsDistinct-IsPermutation overlap overlap_flips sorted found (IsPermutation-sym found sorted moved) (distinct_sorted sorted follow)) in
     apart_of_pairs relocs (λ i j a b less within is its. rows_apart (field_at relocs) 0 (length relocs) i j a b distinct (omega arith) less (omega arith) is its)
 
 pub ruleset aparts = (apart_from_follow)

@@ -6,7 +6,7 @@ use Rattle.std.proofs.lemmas.Bool.{cases_lt, false≢true, leb-true}
 use Rattle.mo_types.specs.declared.object.Object.{Object}
 use Rattle.mo_types.specs.declared.object.RawReloc.{RawReloc}
 use Rattle.mo_types.specs.declared.object.Section.{Section}
-use Rattle.mo_types.specs.declared.reference.Field.{Field}
+use Rattle.mo_types.specs.declared.reference.FieldRange.{FieldRange}
 use Rattle.mo_types.specs.declared.reference.RefKind.{RefKind}
 use Rattle.mo_types.specs.RelocationRules.{RelocationRule, faults_in, faults_from, first_fault, least, place_fault, target_fault, is_bad_field, is_bad_target, is_outside, is_within, section_numbered, field_at, field_number, row_start}
 use Rattle.mo_types.specs.Rows.{when, kind_at, last_at, first_before, is_subtractor}
@@ -77,7 +77,7 @@ both : (a b : Bool) → (a && b) ≡ true → (a ≡ true) × (b ≡ true)
 both true b e = (refl, e)
 both false b e = absurd (false≢true e)
 
-pub field_fits : (object : Object) (number : ℕ) (section : Section) (at : ℕ) (kind : RefKind) (field : Field) → place_fault object number section at ≡ None → kind_at section.relocs at ≡ Some kind → field_at section.relocs at ≡ Some field → field.offset + field.size ≤ section.size
+pub field_fits : (object : Object) (number : ℕ) (section : Section) (at : ℕ) (kind : RefKind) (field : FieldRange) → place_fault object number section at ≡ None → kind_at section.relocs at ≡ Some kind → field_at section.relocs at ≡ Some field → field.offset + field.size ≤ section.size
 unfolding place_fault
 field_fits object number section at kind field none is its =
     let bad : is_bad_field object number section at kind field ≡ false = unless _ (row_start section.relocs at) (rw (is, its) at none) in
@@ -87,7 +87,7 @@ field_fits object number section at kind field none is its =
     let d = (neither _ _ b).0 in
     leb-true (field.offset + field.size) section.size ((both _ _ (not_false _ d)).0)
 
-pub target_is_good : (object : Object) (number : ℕ) (section : Section) (at : ℕ) (reloc : RawReloc) (field : Field) → target_fault object number section at ≡ None → last_at section.relocs at ≡ Some reloc → field_at section.relocs at ≡ Some field → is_bad_target object section.bytes field reloc ≡ false
+pub target_is_good : (object : Object) (number : ℕ) (section : Section) (at : ℕ) (reloc : RawReloc) (field : FieldRange) → target_fault object number section at ≡ None → last_at section.relocs at ≡ Some reloc → field_at section.relocs at ≡ Some field → is_bad_target object section.bytes field reloc ≡ false
 unfolding target_fault
 target_is_good object number section at reloc field none is its =
     second (option_map_or (λ first. is_subtractor first && is_bad_target object section.bytes field first) (first_before section.relocs at) false) (is_bad_target object section.bytes field reloc) at (at - 1) (rw (its, is) at none)
@@ -102,7 +102,7 @@ held section address false true e w none = (e, leb-true section.address address 
 held section address false false e w none = absurd (false≢true (sym none))
 
 -- the section of a target that isn't outside is linked
-pub target_section : (object : Object) (bytes : List ℕ) (field : Field) (reloc : RawReloc) (section : Section) → is_bad_target object bytes field reloc ≡ false → reloc.external ≡ false → section_numbered object.sections reloc.number ≡ Some section → (is_dropped section ≡ false) × (section.address ≤ field_number bytes field)
+pub target_section : (object : Object) (bytes : List ℕ) (field : FieldRange) (reloc : RawReloc) (section : Section) → is_bad_target object bytes field reloc ≡ false → reloc.external ≡ false → section_numbered object.sections reloc.number ≡ Some section → (is_dropped section ≡ false) × (section.address ≤ field_number bytes field)
 target_section object bytes field reloc section good local is =
     let outside : is_outside object.sections reloc.number (field_number bytes field) ≡ false = rw local at good in
     held section (field_number bytes field) (is_dropped section) (is_within section (field_number bytes field)) refl refl (rw is at outside)

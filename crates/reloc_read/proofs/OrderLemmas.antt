@@ -2,18 +2,18 @@
 use Rattle.std.proofs.Common.{◌≡◌, ℕ, ◌+◌, ◌≤◌, inl, inr, List, length, Option, Some, None, ap, ◌∙◌, subst, arith}
 use Rattle.std.proofs.lemmas.Bool.{cases_lt}
 use Rattle.mo_types.specs.declared.object.RawReloc.{RawReloc}
-use Rattle.mo_types.specs.declared.reference.Field.{Field}
+use Rattle.mo_types.specs.declared.reference.FieldRange.{FieldRange}
 use Rattle.mo_types.specs.RelocationRules.{field_at}
 use Rattle.reloc_read.specs.Fields.{AreAbove, AreApart, AreBelow}
 use Rattle.reloc_read.proofs.ApartLemmas.{apart_of_pairs, no_overlap, overlap_flips}
 
-same_field : (x y : Field) → Some x ≡ Some y → x ≡ y
+same_field : (x y : FieldRange) → Some x ≡ Some y → x ≡ y
 same_field x y e = cc
 
-no_field : (o : Option Field) (x : Field) → o ≡ None → o ≡ Some x → ⊥
+no_field : (o : Option FieldRange) (x : FieldRange) → o ≡ None → o ≡ Some x → ⊥
 no_field o x none some = cc
 
-one_field : (relocs : List RawReloc) (at k : ℕ) (x y : Field) → Some x ≡ field_at relocs at → at ≡ k → field_at relocs k ≡ Some y → x ≡ y
+one_field : (relocs : List RawReloc) (at k : ℕ) (x y : FieldRange) → Some x ≡ field_at relocs at → at ≡ k → field_at relocs k ≡ Some y → x ≡ y
 one_field relocs at k x y is same there = same_field x y (is ∙ ap (field_at relocs) same ∙ there)
 
 pub below_at_first : (relocs : List RawReloc) (bound : ℕ) → AreBelow relocs 0 bound
@@ -34,17 +34,17 @@ below_none relocs count bound are none = record {
   ];
 }
 
-pub below_more : (relocs : List RawReloc) (count bound : ℕ) (field : Field) → AreBelow relocs count bound → Some field ≡ field_at relocs count → bound ≤ field.offset → AreBelow relocs (count + 1) (field.offset + field.size)
+pub below_more : (relocs : List RawReloc) (count bound : ℕ) (field : FieldRange) → AreBelow relocs count bound → Some field ≡ field_at relocs count → bound ≤ field.offset → AreBelow relocs (count + 1) (field.offset + field.size)
 below_more relocs count bound field are is low = record {
   each = λ k f within there. elim (cases_lt k count) [
     | inl less ↦ let fits : f.offset + f.size ≤ bound = are.each k f less there in omega arith
-    | inr more ↦ let same : count ≡ k = omega arith in subst (λ (g : Field). g.offset + g.size ≤ field.offset + field.size) (one_field relocs count k field f is same there) (omega arith)
+    | inr more ↦ let same : count ≡ k = omega arith in subst (λ (g : FieldRange). g.offset + g.size ≤ field.offset + field.size) (one_field relocs count k field f is same there) (omega arith)
   ];
   apart = λ i j a b less within there here. elim (cases_lt j count) [
     | inl below ↦ are.apart i j a b less below there here
     | inr more ↦ let same : count ≡ j = omega arith in
         let fits : a.offset + a.size ≤ bound = are.each i a (omega arith) there in
-        no_overlap a b (subst (λ (g : Field). a.offset + a.size ≤ g.offset) (one_field relocs count j field b is same here) (omega arith))
+        no_overlap a b (subst (λ (g : FieldRange). a.offset + a.size ≤ g.offset) (one_field relocs count j field b is same here) (omega arith))
   ];
 }
 
@@ -71,17 +71,17 @@ above_none relocs count bound are none = record {
   ];
 }
 
-pub above_more : (relocs : List RawReloc) (count bound : ℕ) (field : Field) → AreAbove relocs count bound → Some field ≡ field_at relocs count → field.offset + field.size ≤ bound → AreAbove relocs (count + 1) field.offset
+pub above_more : (relocs : List RawReloc) (count bound : ℕ) (field : FieldRange) → AreAbove relocs count bound → Some field ≡ field_at relocs count → field.offset + field.size ≤ bound → AreAbove relocs (count + 1) field.offset
 above_more relocs count bound field are is high = record {
   each = λ k f within there. elim (cases_lt k count) [
     | inl less ↦ let past : bound ≤ f.offset = are.each k f less there in omega arith
-    | inr more ↦ let same : count ≡ k = omega arith in subst (λ (g : Field). field.offset ≤ g.offset) (one_field relocs count k field f is same there) (omega arith)
+    | inr more ↦ let same : count ≡ k = omega arith in subst (λ (g : FieldRange). field.offset ≤ g.offset) (one_field relocs count k field f is same there) (omega arith)
   ];
   apart = λ i j a b less within there here. elim (cases_lt j count) [
     | inl below ↦ are.apart i j a b less below there here
     | inr more ↦ let same : count ≡ j = omega arith in
         let past : bound ≤ a.offset = are.each i a (omega arith) there in
-        overlap_flips a b ∙ no_overlap b a (subst (λ (g : Field). g.offset + g.size ≤ a.offset) (one_field relocs count j field b is same here) (omega arith))
+        overlap_flips a b ∙ no_overlap b a (subst (λ (g : FieldRange). g.offset + g.size ≤ a.offset) (one_field relocs count j field b is same here) (omega arith))
   ];
 }
 

@@ -5,18 +5,18 @@ use Rattle.std.specs.Option.{option_map_or}
 use Rattle.std.proofs.lemmas.Bool.{cases_lt, eq-eqb, ne_eqb, lt-ltb, le-ltb, lt-leb, le-leb}
 use Rattle.std.proofs.lemmas.List.Sums.{sum_by-cons}
 use Rattle.mo_types.specs.declared.object.RawReloc.{RawReloc}
-use Rattle.mo_types.specs.declared.reference.Field.{Field}
+use Rattle.mo_types.specs.declared.reference.FieldRange.{FieldRange}
 use Rattle.mo_types.specs.RelocationRules.{field_at, overlap, overlaps_another}
 use Rattle.reloc_read.specs.Fields.{AreApart, overlaps_at}
 use Rattle.reloc_read.specs.Overlaps.{AreBounds, end_of, fields_of}
 use Rattle.reloc_read.proofs.CountLemmas.{any_counts, count_mapped, count_moved}
 
-pub apart_overlap_none : (relocs : List RawReloc) (at : ℕ) (field : Field) → AreApart relocs → at < length relocs → field_at relocs at ≡ Some field → false ≡ overlaps_another relocs at field
+pub apart_overlap_none : (relocs : List RawReloc) (at : ℕ) (field : FieldRange) → AreApart relocs → at < length relocs → field_at relocs at ≡ Some field → false ≡ overlaps_another relocs at field
 apart_overlap_none relocs at field are within is = sym (are.apart at field within is)
 
 -- of the fields that begin below the end of one, all overlap it but those that end at its start or below
 
-one_splits : (field other : Field) → 0 < field.size → cond (overlap field other) 1 0 + cond (leb (end_of other) field.offset) 1 0 ≡ cond (ltb other.offset (end_of field)) 1 0
+one_splits : (field other : FieldRange) → 0 < field.size → cond (overlap field other) 1 0 + cond (leb (end_of other) field.offset) 1 0 ≡ cond (ltb other.offset (end_of field)) 1 0
 one_splits field other some =
     elim (cases_lt field.offset (end_of other)) [
       | inl over ↦
@@ -30,7 +30,7 @@ one_splits field other some =
           rw (begins, ends, below) refl
     ]
 
-splits : (field : Field) (fields : List Field) → 0 < field.size → count_by (overlap field) fields + count_by (λ other. leb (end_of other) field.offset) fields ≡ count_by (λ other. ltb other.offset (end_of field)) fields
+splits : (field : FieldRange) (fields : List FieldRange) → 0 < field.size → count_by (overlap field) fields + count_by (λ other. leb (end_of other) field.offset) fields ≡ count_by (λ other. ltb other.offset (end_of field)) fields
 splits field [] some = refl
 splits field (other ∷ fields) some =
     let over : count_by (overlap field) (other ∷ fields) ≡ cond (overlap field other) 1 0 + count_by (overlap field) fields = sum_by-cons (λ x. cond (overlap field x) 1 0) other fields in
@@ -45,14 +45,14 @@ splits field (other ∷ fields) some =
 
 -- the rows whose fields pass, one of them aside
 
-abbrev another : (ℕ → Option Field) → (Field → Bool) → ℕ → ℕ → Bool
+abbrev another : (ℕ → Option FieldRange) → (FieldRange → Bool) → ℕ → ℕ → Bool
 another h test at other = not (eqb other at) && option_map_or test (h other) false
 
-one_more : (test : Field → Bool) (o : Option Field) (fields : List Field) → count_by test (cons_option o fields) ≡ cond (option_map_or test o false) 1 0 + count_by test fields
+one_more : (test : FieldRange → Bool) (o : Option FieldRange) (fields : List FieldRange) → count_by test (cons_option o fields) ≡ cond (option_map_or test o false) 1 0 + count_by test fields
 one_more test None fields = omega arith
 one_more test (Some field) fields = sum_by-cons (λ x. cond (test x) 1 0) field fields
 
-rows_after : (h : ℕ → Option Field) (test : Field → Bool) (at a n : ℕ) → at < a → count_by test (filter_map h (range_with_len a n)) ≡ count_by (another h test at) (range_with_len a n)
+rows_after : (h : ℕ → Option FieldRange) (test : FieldRange → Bool) (at a n : ℕ) → at < a → count_by test (filter_map h (range_with_len a n)) ≡ count_by (another h test at) (range_with_len a n)
 rows_after h test at a zero after = refl
 rows_after h test at a (suc n) after =
     let differs : eqb a at ≡ false = ne_eqb a at (λ e. absurd (omega arith)) in
@@ -61,7 +61,7 @@ rows_after h test at a (suc n) after =
     ∙ ap (λ k. cond (option_map_or test (h a) false) 1 0 + k) (rows_after h test at (a + 1) n (omega arith))
     ∙ sym (sum_by-cons (λ x. cond (another h test at x) 1 0) a (range_with_len (a + 1) n) ∙ ap (λ b. cond b 1 0 + count_by (another h test at) (range_with_len (a + 1) n)) here)
 
-rows_around : (h : ℕ → Option Field) (test : Field → Bool) (at a n : ℕ) → a ≤ at → at < a + n → option_map_or test (h at) false ≡ true → count_by test (filter_map h (range_with_len a n)) ≡ count_by (another h test at) (range_with_len a n) + 1
+rows_around : (h : ℕ → Option FieldRange) (test : FieldRange → Bool) (at a n : ℕ) → a ≤ at → at < a + n → option_map_or test (h at) false ≡ true → count_by test (filter_map h (range_with_len a n)) ≡ count_by (another h test at) (range_with_len a n) + 1
 rows_around h test at a zero low high pass = absurd (omega arith)
 rows_around h test at a (suc n) low high pass =
     let all : count_by test (filter_map h (range_with_len a (suc n))) ≡ cond (option_map_or test (h a) false) 1 0 + count_by test (filter_map h (range_with_len (a + 1) n)) = one_more test (h a) (filter_map h (range_with_len (a + 1) n)) in
@@ -87,10 +87,10 @@ rows_around h test at a (suc n) low high pass =
     reached : (all others p q x y : ℕ) → all ≡ p + x → others ≡ q + y → q ≡ 0 → p ≡ 1 → x ≡ y → all ≡ others + 1
     reached all others p q x y = omega arith
 
-overlaps_itself : (field : Field) → 0 < field.size → overlap field field ≡ true
+overlaps_itself : (field : FieldRange) → 0 < field.size → overlap field field ≡ true
 overlaps_itself field some = let below : ltb field.offset (end_of field) ≡ true = lt-ltb field.offset (end_of field) (omega arith) in rw below refl
 
-pub more_than_itself : (relocs : List RawReloc) (at : ℕ) (field : Field) (fields : List Field) (ends : List ℕ) (begun ended spare : ℕ) → AreBounds relocs fields ends → at < length relocs → field_at relocs at ≡ Some field → 0 < field.size → begun ≡ count_by (λ other. ltb other.offset (end_of field)) fields → ended ≡ count_by (λ end. leb end field.offset) ends → spare ≡ begun - ended → ltb 1 spare ≡ overlaps_another relocs at field
+pub more_than_itself : (relocs : List RawReloc) (at : ℕ) (field : FieldRange) (fields : List FieldRange) (ends : List ℕ) (begun ended spare : ℕ) → AreBounds relocs fields ends → at < length relocs → field_at relocs at ≡ Some field → 0 < field.size → begun ≡ count_by (λ other. ltb other.offset (end_of field)) fields → ended ≡ count_by (λ end. leb end field.offset) ends → spare ≡ begun - ended → ltb 1 spare ≡ overlaps_another relocs at field
 more_than_itself relocs at field fields ends begun ended spare bounds within is some begins stops rest =
     let others : ℕ = count_by (overlaps_at relocs at field) (range_with_len 0 (length relocs)) in
     let sorted : count_by (overlap field) fields ≡ count_by (overlap field) (fields_of relocs) = count_moved (overlap field) (fields_of relocs) fields bounds.sorted.moved in

@@ -3,7 +3,7 @@ use Rattle.std.proofs.Common.{◌≡◌, ℕ, ◌+◌, ◌-◌, ◌^◌, ◌<◌
 use Rattle.std.specs.Option.{option_and_then, option_map_or}
 use Rattle.std.proofs.lemmas.Bool.{le-ltb, lt-ltb}
 use Rattle.mo_types.specs.declared.object.RawReloc.{RawReloc}
-use Rattle.mo_types.specs.declared.reference.Field.{Field}
+use Rattle.mo_types.specs.declared.reference.FieldRange.{FieldRange}
 use Rattle.mo_types.specs.declared.reference.RefKind.{RefKind}
 use Rattle.mo_types.specs.RelocationRules.{field_at, is_bad_field, is_bad_target, pair_fault, place_fault, row_start, shape_fault, target_fault}
 use Rattle.mo_types.specs.Rows.{field_size, first_before, is_authenticated, is_first, is_subtractor, kind_at, kind_of, last_at, when}
@@ -58,7 +58,7 @@ below_start relocs at first last kind is before e high =
     let far : ltb last.address (2 ^ 31) ≡ false = le-ltb last.address (2 ^ 31) high in
     field_is relocs at last kind is (kind_is relocs at first last (Some kind) is before (sym e)) ∙ rw far refl
 
-pub whole_row : (relocs : List RawReloc) (at : ℕ) (field : Field) (first : Option RawReloc) (last : RawReloc) (kind : RefKind) → last_at relocs at ≡ Some last → first ≡ first_before relocs at → kind_of first last ≡ Some kind → last.address < 2 ^ 31 → field.offset ≡ last.address → field.size ≡ field_size kind → IsSmall field → IsRow relocs at (record { field = field; first = first; last = last; kind = kind })
+pub whole_row : (relocs : List RawReloc) (at : ℕ) (field : FieldRange) (first : Option RawReloc) (last : RawReloc) (kind : RefKind) → last_at relocs at ≡ Some last → first ≡ first_before relocs at → kind_of first last ≡ Some kind → last.address < 2 ^ 31 → field.offset ≡ last.address → field.size ≡ field_size kind → IsSmall field → IsRow relocs at (record { field = field; first = first; last = last; kind = kind })
 whole_row relocs at field first last kind is before e low offset size small =
     let its : kind_at relocs at ≡ Some kind = kind_is relocs at first last (Some kind) is before (sym e) in
     let near : ltb last.address (2 ^ 31) ≡ true = lt-ltb last.address (2 ^ 31) low in

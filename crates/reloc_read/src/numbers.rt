@@ -16,7 +16,7 @@ fn byte_at(bytes: &[u8], at: u64) -> u8
 
 /// The number in a field, without sign.
 #[tactic(auto, using(crate::proofs::NumberLemmas::numbers), unfolding(mo_types::specs::RelocationRules::field_number))]
-pub fn field_number(bytes: &[u8], field: Field) -> u64
+pub fn field_number(bytes: &[u8], field: FieldRange) -> u64
     requires { IsSmall field }
     ensures value { result ≡ rules.field_number bytes.now field }
     ensures small { field.size ≡ 4 → result < 2 ^ 32 }
@@ -43,7 +43,7 @@ pub fn field_number(bytes: &[u8], field: Field) -> u64
 }
 
 /// The number in a field, in two's complement.
-pub fn field_signed(bytes: &[u8], field: Field) -> i64
+pub fn field_signed(bytes: &[u8], field: FieldRange) -> i64
     requires { IsSmall field }
     ensures { result ≡ refs.field_signed bytes.now field }
 {

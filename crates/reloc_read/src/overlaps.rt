@@ -11,7 +11,7 @@ ghost use Rattle.reloc_read.specs.Overlaps as bounds;
 ghost use Rattle.reloc_read.specs.Overlaps.{AreSorted, Tells};
 
 use crate::rows::field_at;
-use mo_types::{Field, OutOfMemory, RawReloc};
+use mo_types::{FieldRange, OutOfMemory, RawReloc};
 use std::alloc::Global;
 
 /// What tells of each field of a section whether it overlaps another one.
@@ -20,10 +20,13 @@ pub enum Overlaps {
     /// No two fields overlap.
     Nowhere,
     /// Some may: the fields by rising offset, and the offsets at which they end, in rising order.
-    Somewhere { fields: Vec<Field>, ends: Vec<u64> },
+    Somewhere {
+        fields: Vec<FieldRange>,
+        ends: Vec<u64>,
+    },
 }
 
-fn add(found: &mut Vec<Field>, field: Option<Field>) -> Result<(), OutOfMemory>
+fn add(found: &mut Vec<FieldRange>, field: Option<FieldRange>) -> Result<(), OutOfMemory>
     requires small { IfSome field IsSmall }
     ensures items { OnOk result (found.new.items ≡ found.old.items ++ option_to_list field) }
     ensures small { All IsSmall found.old.items → OnOk result (All IsSmall found.new.items) }
@@ -36,7 +39,7 @@ fn add(found: &mut Vec<Field>, field: Option<Field>) -> Result<(), OutOfMemory>
 
 // The fields of all rows.
 #[tactic(auto, using(crate::proofs::ApartLemmas::collects))]
-fn fields_of(alloc: Global, relocs: &[RawReloc]) -> Result<Vec<Field>, OutOfMemory>
+fn fields_of(alloc: Global, relocs: &[RawReloc]) -> Result<Vec<FieldRange>, OutOfMemory>
     ensures fields { IfOk result (λ found. found.items ≡ bounds.fields_of relocs.now) }
     ensures small { IfOk result (λ found. All IsSmall found.items) }
 {
@@ -49,7 +52,7 @@ fn fields_of(alloc: Global, relocs: &[RawReloc]) -> Result<Vec<Field>, OutOfMemo
 
 // Whether each field but the last one ends before the next.
 #[tactic(auto, using(crate::proofs::ApartLemmas::follows))]
-fn follow(found: &[Field]) -> bool
+fn follow(found: &[FieldRange]) -> bool
     requires { All IsSmall found.now }
     ensures { IsTrue result ↔ Follow found.now }
 {
@@ -63,7 +66,7 @@ fn follow(found: &[Field]) -> bool
 }
 
 // Where the fields end.
-fn ends_of(alloc: Global, fields: &[Field]) -> Result<Vec<u64>, OutOfMemory>
+fn ends_of(alloc: Global, fields: &[FieldRange]) -> Result<Vec<u64>, OutOfMemory>
     requires { All IsSmall fields.now }
     ensures { IfOk result (λ ends. ends.items ≡ map bounds.end_of fields.now) }
 {
@@ -74,7 +77,7 @@ fn ends_of(alloc: Global, fields: &[Field]) -> Result<Vec<u64>, OutOfMemory>
     Ok(ends)
 }
 
-fn sort_by_offset(fields: &mut Vec<Field>)
+fn sort_by_offset(fields: &mut Vec<FieldRange>)
     requires { All IsSmall fields.old.items }
     ensures sorted { AreSorted fields.old.items fields.new.items }
     ensures small { All IsSmall fields.new.items }
@@ -163,7 +166,7 @@ pub fn overlaps_of(alloc: Global, relocs: &[RawReloc]) -> Result<Overlaps, OutOf
 }
 
 // How many fields begin below an offset, where they rise.
-fn begun_below(fields: &[Field], offset: u64) -> usize
+fn begun_below(fields: &[FieldRange], offset: u64) -> usize
     ensures { IsNonDecreasingBy (λ field. field.offset) fields.now → result ≡ count_by (λ field. nat_lt field.offset offset) fields.now }
 {
     fields.partition_point(|field| field.offset < offset)
@@ -179,7 +182,7 @@ fn ended_by(ends: &[u64], offset: u64) -> usize
 /// Whether the field of the row at a place overlaps that of another row: of the fields that begin below its end,
 /// itself among them, all overlap it but those that end at its start or below.
 #[tactic(auto, using(crate::proofs::OverlapLemmas::overlaps))]
-pub fn overlaps_another(overlaps: &Overlaps, field: &Field) -> bool
+pub fn overlaps_another(overlaps: &Overlaps, field: &FieldRange) -> bool
     requires small { IsSmall field.now }
     ensures { (relocs : List RawReloc) (at : ℕ) → Tells relocs overlaps.now → at < length relocs → rules.field_at relocs at ≡ Some field.now → result ≡ rules.overlaps_another relocs at field.now }
 {

@@ -10,7 +10,7 @@ ghost use Rattle.reloc_read.specs.LinkedSection.{IsLinked};
 use crate::linked_section::{LinkedSection, cut_at};
 use crate::numbers::{field_number, field_signed, signed_24};
 use crate::rows::{RelocRow, is_subtractor};
-use mo_types::{AtomKey, Field, RawReloc, Ref, Target};
+use mo_types::{AtomKey, FieldRange, RawReloc, Ref, Target};
 
 // The atom and offset of an address in a linked section.
 #[tactic(auto, using(crate::proofs::LinkedLemmas::linked))]
@@ -31,7 +31,7 @@ fn place_of(linked: &LinkedSection, address: u64) -> Target
 
 // Where a relocation that keeps the rule of targets leads.
 #[tactic(auto, using(crate::proofs::NoFaultLemmas::target_section, crate::proofs::LinkedLemmas::stands_at))]
-fn target_of(linked: &LinkedSection, field: Field, reloc: &RawReloc) -> Option<Target>
+fn target_of(linked: &LinkedSection, field: FieldRange, reloc: &RawReloc) -> Option<Target>
     requires linked { IsLinked linked.now }
     requires small { IsSmall field }
     requires good { rules.is_bad_target linked.now.cut.object.now linked.now.section.now.bytes field reloc.now ≡ false }
@@ -63,7 +63,7 @@ fn minus_of(first: Option<RawReloc>) -> Option<Target>
     }
 }
 
-fn addend_of(bytes: &[u8], field: Field, first: Option<RawReloc>, reloc: &RawReloc) -> i64
+fn addend_of(bytes: &[u8], field: FieldRange, first: Option<RawReloc>, reloc: &RawReloc) -> i64
     requires { IsSmall field }
     ensures { result ≡ refs.addend_of bytes.now field first reloc.now }
 {

@@ -12,12 +12,12 @@ use mo_format::reloc::{
     ARM64_RELOC_PAGEOFF12, ARM64_RELOC_POINTER_TO_GOT, ARM64_RELOC_SUBTRACTOR,
     ARM64_RELOC_TLVP_LOAD_PAGE21, ARM64_RELOC_TLVP_LOAD_PAGEOFF12, ARM64_RELOC_UNSIGNED,
 };
-use mo_types::{Field, RawReloc, RefKind};
+use mo_types::{FieldRange, RawReloc, RefKind};
 
 /// What a row of the table says: its field and kind, by its relocations.
 #[derive(Clone, Copy)]
 pub struct RelocRow {
-    pub field: Field,
+    pub field: FieldRange,
     pub first: Option<RawReloc>,
     pub last: RawReloc,
     pub kind: RefKind,
@@ -186,12 +186,12 @@ pub fn is_instruction(kind: RefKind) -> bool
 }
 
 // The field of a row of this kind.
-fn field_of(address: u32, kind: RefKind) -> Field
+fn field_of(address: u32, kind: RefKind) -> FieldRange
     ensures offset { result.offset ≡ address }
     ensures size { result.size ≡ rows.field_size kind }
     ensures small { IsSmall result }
 {
-    Field {
+    FieldRange {
         offset: u64::from(address),
         size: field_size(kind),
     }
@@ -219,7 +219,7 @@ pub fn row_at(relocs: &[RawReloc], at: usize) -> Option<RelocRow>
 
 /// The field of the row that ends at a place.
 #[tactic(auto, using(crate::proofs::RowLemmas::fields))]
-pub fn field_at(relocs: &[RawReloc], at: usize) -> Option<Field>
+pub fn field_at(relocs: &[RawReloc], at: usize) -> Option<FieldRange>
     ensures value { result ≡ rules.field_at relocs.now at }
     ensures small { IfSome result IsSmall }
 {

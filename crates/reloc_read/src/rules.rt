@@ -17,7 +17,7 @@ use crate::overlaps::{Overlaps, overlaps_another};
 use crate::rows::{
     RelocRow, first_before, is_first, is_instruction, is_second, is_subtractor, kind_at, last_at,
 };
-use mo_types::{Field, RawReloc, Section};
+use mo_types::{FieldRange, RawReloc, Section};
 
 /// The first of two relocations that isn't followed by the second.
 #[tactic(auto, unfolding(mo_types::specs::RelocationRules::pair_fault))]
@@ -67,7 +67,7 @@ fn row_start(relocs: &[RawReloc], at: usize) -> usize
 }
 
 // The cut of the atom that holds the whole field, where one does.
-fn cut_around(linked: &LinkedSection, field: &Field) -> Option<u64>
+fn cut_around(linked: &LinkedSection, field: &FieldRange) -> Option<u64>
     requires linked { IsLinked linked.now }
     requires small { IsSmall field.now }
     ensures value { result ≡ when (rules.is_in_one_atom linked.now.cut.object.now (linked.now.index + 1) linked.now.section.now field.now) (cut_of linked.now.cut.object.now (linked.now.index + 1) linked.now.section.now field.now.offset) }

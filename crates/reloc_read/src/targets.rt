@@ -9,7 +9,7 @@ ghost use Rattle.reloc_read.specs.RelocRow.{IsRow};
 
 use crate::numbers::field_number;
 use crate::rows::{RelocRow, is_subtractor};
-use mo_types::{Field, Object, RawReloc, Section, Symbol, SymbolKind};
+use mo_types::{FieldRange, Object, RawReloc, Section, Symbol, SymbolKind};
 
 /// The section of a number from 1.
 pub fn section_numbered(sections: &[Section], number: u32) -> Option<&Section>
@@ -56,7 +56,7 @@ fn is_outside(sections: &[Section], number: u32, address: u64) -> bool
     }
 }
 
-fn is_bad_target(object: &Object, section: &Section, field: Field, reloc: &RawReloc) -> bool
+fn is_bad_target(object: &Object, section: &Section, field: FieldRange, reloc: &RawReloc) -> bool
     requires { IsSmall field }
     ensures { result ≡ rules.is_bad_target object.now section.now.bytes field reloc.now }
 {

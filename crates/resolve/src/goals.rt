@@ -12,8 +12,8 @@ ghost use Rattle.symbol_winners.specs.Winners.{lists, winner_named};
 ghost use Rattle.resolve.specs.inner.Pools.{ArePlaces, AreTables, Extends, IsAt};
 
 use crate::table::{GoalTable, PlaceList};
+use command_line::Command;
 use lib_bind::{Libraries, provider_of};
-use mo_cmd::Command;
 use mo_types::{Bytes, Goal, Items, Loaded, LoadedFile, OutOfMemory};
 use name_ids::{NameTable, NumberList};
 use std::alloc::Global;

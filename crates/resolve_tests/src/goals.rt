@@ -9,8 +9,9 @@ ghost use Rattle.symbol_winners.specs.Known.{AreKnown};
 use crate::clang_names::{NAMES, OBJECT, Told};
 use crate::given::{Is, Row, Section1, add, id_of, literal_section, loaded, object, risen};
 use crate::libraries::libraries;
+use command_line::Command;
 use lib_bind::Libraries;
-use mo_cmd::{Command, read_all_words};
+use mo_cmd::read_all_words;
 use mo_obj::read_object;
 use mo_types::{
     Arg, ArgList, AtomKey, Bytes, Goal, Items, Kind, Loaded, NameList, Object, OutOfMemory, Target,

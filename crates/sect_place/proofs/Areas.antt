@@ -11,11 +11,11 @@ use Rattle.mo_types.proofs.KeyOrder.{compare_keys_total}
 use Rattle.mo_types.specs.Keys.{compare_keys}
 use Rattle.mo_types.specs.declared.atom.Atom.{Atom}
 use Rattle.mo_types.specs.declared.key.AtomKey.{AtomKey}
-use Rattle.key_hints.proofs.Keys.{same_key}
+use Rattle.atom_index.proofs.Keys.{same_key}
 use Rattle.sect_place.specs.Places.{bytes_behind, islands_bytes}
 use Rattle.sect_place.specs.declared.island.IslandArea.{IslandArea}
 use Rattle.sect_place.specs.Moved.{counts, areas_bytes}
-use Rattle.sect_place.proofs.Once.{Apart}
+use Rattle.sect_list.proofs.Once.{Apart}
 use Rattle.sect_place.proofs.Pushed.{total}
 
 is_equal : (o : Ordering) → is_eq o ≡ true → o ≡ Equal

@@ -13,7 +13,8 @@ use Rattle.mo_types.specs.declared.key.AtomKey.{AtomKey}
 use Rattle.mo_types.specs.declared.out_section.OutSection.{OutSection}
 use Rattle.tlv_plan.specs.Template.{atoms_of, keys_of}
 use Rattle.tlv_plan.proofs.Walk.{aligned_least}
-use Rattle.sect_place.specs.Arrangement.{is_in, is_code, is_chosen, with_atoms, chosen, section_of, own, group_named, runs_from, runs, MadeBytes, text_parts, constant_parts, writable_parts}
+use Rattle.sect_place.specs.Arrangement.{is_code, is_chosen, with_atoms, chosen, section_of, own, group_named, runs_from, runs, MadeBytes, text_parts, constant_parts, writable_parts}
+use Rattle.sect_list.specs.OutSections.{is_in}
 use Rattle.sect_place.specs.Moved.{AreInOrder, AreBehindCode, code_keys}
 use Rattle.sect_place.specs.Places.{area_unit, bytes_behind, islands_bytes}
 use Rattle.sect_place.specs.declared.island.IslandArea.{IslandArea}
@@ -24,7 +25,7 @@ use Rattle.sect_place.specs.declared.part.Made.{Made}
 use Rattle.sect_place.specs.declared.part.Made.TheVariants.{Stubs, UnwindInfo, Got, ThreadPtrs}
 use Rattle.sect_place.specs.declared.part.Part.{Part}
 use Rattle.sect_place.proofs.Areas.{nothing_behind}
-use Rattle.sect_place.proofs.Low.{appended}
+use Rattle.sect_list.proofs.Low.{appended}
 use Rattle.sect_place.proofs.Positions.{chosen_there, from_pairs, kept_listed, keys_listed, one_choice, chosen_in_text}
 use Rattle.sect_place.proofs.Pushed.{AllFit, Fits, FitsGroup, FitsPart, IsWhole, PartsFit, extra, part_atoms, total, total_join}
 use Rattle.sect_place.proofs.Sound.{later_groups}

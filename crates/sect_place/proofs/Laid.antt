@@ -7,7 +7,7 @@ use Rattle.mo_types.specs.Keys.{compare_keys}
 use Rattle.mo_types.specs.declared.atom.Atom.{Atom}
 use Rattle.mo_types.specs.declared.key.AtomKey.{AtomKey}
 use Rattle.tlv_plan.specs.Template.{aligned, atoms_of, stand, end_of}
-use Rattle.key_hints.proofs.Keys.{find_has}
+use Rattle.atom_index.proofs.Keys.{find_has}
 use Rattle.tlv_plan.proofs.Walk.{aligned_least, after_end}
 use Rattle.sect_place.specs.Places.{islands_bytes, bytes_behind, with_area, spaced, places}
 use Rattle.sect_place.specs.inner.Room.{IsRoom, capped, capped_place}

@@ -6,13 +6,6 @@ pub mod Narrow
 pub mod Finish
 pub mod Sound
 pub mod Meaning
-pub mod Buckets
-pub mod Homes
-pub mod Gathering
-pub mod Ordering
-pub mod Low
-pub mod Listed
-pub mod Once
 pub mod Positions
 pub mod Pushed
 pub mod Areas
@@ -23,3 +16,4 @@ pub mod Single
 pub mod Planned
 pub mod Shifting
 pub mod Shifted
+pub mod AddressLemmas

@@ -8,7 +8,7 @@ use Rattle.std.proofs.lemmas.Bool.{cases_Bool, cases_lt}
 use Rattle.std.proofs.lemmas.List.{map-append}
 use Rattle.std.proofs.lemmas.List.Elements.{recursion_from_All}
 use Rattle.list_lemmas.proofs.Members.{In, in_from_Contains, Contains_from_in, all_in, all_from_in, in_map, from_filter, from_flat, in_either, in_left, in_right}
-use Rattle.mo_cmd.specs.declared.command.Command.{Command}
+use Rattle.command_line.specs.declared.command.Command.{Command}
 use Rattle.mo_types.specs.Keys.{compare_keys}
 use Rattle.mo_types.specs.declared.atom.Atom.{Atom}
 use Rattle.mo_types.specs.declared.key.AtomKey.{AtomKey}
@@ -16,7 +16,8 @@ use Rattle.mo_types.specs.declared.out_section.OutSection.{OutSection}
 use Rattle.slot_plan.specs.declared.list.Slots.{Slots}
 use Rattle.tlv_plan.specs.Template.{atoms_of, keys_of}
 use Rattle.tlv_plan.proofs.Walk.{aligned_least}
-use Rattle.sect_place.specs.Arrangement.{is_in, is_code, is_chosen, MadeBytes, groups_of, text_parts}
+use Rattle.sect_place.specs.Arrangement.{is_code, is_chosen, MadeBytes, groups_of, text_parts}
+use Rattle.sect_list.specs.OutSections.{is_in}
 use Rattle.sect_place.specs.Layout.{made_bytes, base_of, lead_of, plan_of, image_places}
 use Rattle.sect_place.specs.Moved.{AreBehindCode, AreInOrder, IsMoved, areas_bytes, code_keys, counts, no_islands, pages_moved, text_end}
 use Rattle.sect_place.specs.Places.{area_unit, groups_places, page_up, parts_end, parts_places, spaced}
@@ -30,7 +31,7 @@ use Rattle.sect_place.specs.declared.part.Part.{Part}
 use Rattle.sect_place.specs.declared.size.PlaceSizes.{PlaceSizes}
 use Rattle.sect_place.proofs.Areas.{CountsIn, areas_sum, before_code, before_other}
 use Rattle.sect_place.proofs.Fitting.{islands_whole, later_all, later_fits, text_fits}
-use Rattle.sect_place.proofs.Once.{Apart, apart_append}
+use Rattle.sect_list.proofs.Once.{Apart, apart_append}
 use Rattle.sect_place.proofs.Positions.{apart_split, atoms_join, chosen_in_text, chosen_there, filter_keys_apart, finds, found_atom, from_pairs, group_keys, groups_keys, kept_apart, kept_keys, kept_listed, one_choice, part_keys, text_keys}
 use Rattle.sect_place.proofs.Pushed.{IsPushed, IsWhole, groups_moved, part_atoms, parts_end_moved, parts_pushed, total, whole_sum}
 use Rattle.sect_place.proofs.Sound.{groups_split, later_groups}

@@ -3,14 +3,15 @@ use Rattle.std.proofs.Common.{codes, ◌≡◌, ℕ, zero, suc, ◌+◌, ◌-◌
 use Rattle.std.specs.Str.{bytes_eq}
 use Rattle.std.proofs.lemmas.Bool.{cases_Bool}
 use Rattle.std.proofs.lemmas.List.{map-append, drop_all}
-use Rattle.mo_cmd.specs.declared.command.Command.{Command}
+use Rattle.command_line.specs.declared.command.Command.{Command}
 use Rattle.mo_types.specs.Whole.{is_zerofill}
 use Rattle.mo_types.specs.declared.atom.Atom.{Atom}
 use Rattle.mo_types.specs.declared.key.AtomKey.{AtomKey}
 use Rattle.mo_types.specs.declared.out_section.OutSection.{OutSection}
 use Rattle.tlv_plan.specs.Template.{aligned, stand, end_of}
 use Rattle.tlv_plan.proofs.Walk.{after_end}
-use Rattle.sect_place.specs.Arrangement.{is_in, is_chosen, chosen, section_of, own, group_named, runs_from, runs, MadeBytes, text_parts, constant_parts, writable_parts, groups_of, parts_count}
+use Rattle.sect_place.specs.Arrangement.{is_chosen, chosen, section_of, own, group_named, runs_from, runs, MadeBytes, text_parts, constant_parts, writable_parts, groups_of, parts_count}
+use Rattle.sect_list.specs.OutSections.{is_in}
 use Rattle.sect_place.specs.Layout.{lead_of}
 use Rattle.sect_place.specs.Places.{area_unit, places, part_from, part_end, parts_end, placed_section, parts_sections, parts_places, page_up, group_end, file_bytes, protection_of, flags_of, segment_of, groups_segments, groups_sections, groups_places, groups_end, groups_file}
 use Rattle.sect_place.specs.inner.Room.{capped, capped_place, capped_section, capped_segment}

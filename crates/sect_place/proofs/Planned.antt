@@ -8,7 +8,8 @@ use Rattle.mo_types.specs.declared.atom.Atom.{Atom}
 use Rattle.mo_types.specs.declared.key.AtomKey.{AtomKey}
 use Rattle.mo_types.specs.declared.out_section.OutSection.{OutSection}
 use Rattle.tlv_plan.specs.Template.{keys_of}
-use Rattle.sect_place.specs.Arrangement.{MadeBytes, chosen, groups_of, is_chosen, is_in, own, text_parts, with_atoms}
+use Rattle.sect_place.specs.Arrangement.{MadeBytes, chosen, groups_of, is_chosen, own, text_parts, with_atoms}
+use Rattle.sect_list.specs.OutSections.{is_in}
 use Rattle.sect_place.specs.Places.{area_unit, file_bytes, group_end, groups_sections, page_up, part_end, part_from, parts_end, parts_sections, placed_section}
 use Rattle.sect_place.specs.Shifts.{sections_in, text_end_from}
 use Rattle.sect_place.specs.declared.layout.PlacedSection.{PlacedSection}
@@ -18,7 +19,7 @@ use Rattle.sect_place.specs.declared.part.Group.{Group}
 use Rattle.sect_place.specs.declared.part.Made.TheVariants.{Stubs, UnwindInfo}
 use Rattle.sect_place.specs.declared.part.Part.{Part}
 use Rattle.sect_place.proofs.Fitting.{later_all, text_all, unit_above, unit_below, unit_least}
-use Rattle.sect_place.proofs.Low.{appended}
+use Rattle.sect_list.proofs.Low.{appended}
 use Rattle.sect_place.proofs.Moving.{text_choice}
 use Rattle.sect_place.proofs.Positions.{chosen_is, chosen_there}
 use Rattle.sect_place.proofs.Shifting.{end_past, end_there}

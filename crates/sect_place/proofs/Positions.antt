@@ -9,7 +9,7 @@ use Rattle.std.proofs.lemmas.Bool.{cases_Bool, false≢true}
 use Rattle.std.proofs.lemmas.Cmp.{tied_itself}
 use Rattle.std.proofs.lemmas.List.{map-append}
 use Rattle.list_lemmas.proofs.Members.{In, in_from_Contains, Contains_from_in, from_map, in_filter, find_some, find_none, from_flat, in_either, in_flat, in_left, in_right}
-use Rattle.mo_cmd.specs.declared.command.Command.{Command}
+use Rattle.command_line.specs.declared.command.Command.{Command}
 use Rattle.mo_types.proofs.KeyOrder.{compare_keys_total}
 use Rattle.mo_types.specs.Keys.{compare_keys}
 use Rattle.mo_types.specs.declared.atom.Atom.{Atom}
@@ -17,8 +17,9 @@ use Rattle.mo_types.specs.declared.key.AtomKey.{AtomKey}
 use Rattle.mo_types.specs.declared.out_section.OutSection.{OutSection}
 use Rattle.slot_plan.specs.declared.list.Slots.{Slots}
 use Rattle.tlv_plan.specs.Template.{aligned, atoms_of, keys_of, stand}
-use Rattle.key_hints.proofs.Keys.{same_key}
-use Rattle.sect_place.specs.Arrangement.{is_in, is_code, is_chosen, with_atoms, chosen, section_of, own, group_named, runs_from, runs, MadeBytes, text_parts, constant_parts, writable_parts, groups_of}
+use Rattle.atom_index.proofs.Keys.{same_key}
+use Rattle.sect_place.specs.Arrangement.{is_code, is_chosen, with_atoms, chosen, section_of, own, group_named, runs_from, runs, MadeBytes, text_parts, constant_parts, writable_parts, groups_of}
+use Rattle.sect_list.specs.OutSections.{is_in}
 use Rattle.sect_place.specs.Layout.{plan_of, made_bytes, image_places}
 use Rattle.sect_place.specs.Places.{with_area, spaced, places, part_from, part_end, parts_places, page_up, group_end, groups_places, area_unit}
 use Rattle.sect_place.specs.declared.island.IslandArea.{IslandArea}
@@ -31,8 +32,8 @@ use Rattle.sect_place.specs.declared.part.Made.{Made}
 use Rattle.sect_place.specs.declared.part.Made.TheVariants.{Stubs, UnwindInfo, Got, ThreadPtrs}
 use Rattle.sect_place.specs.declared.part.Part.{Part}
 use Rattle.sect_place.specs.declared.size.PlaceSizes.{PlaceSizes}
-use Rattle.sect_place.proofs.Listed.{names_equal}
-use Rattle.sect_place.proofs.Once.{Apart, apart_append, apart_flat, pairs}
+use Rattle.sect_list.proofs.Listed.{names_equal}
+use Rattle.sect_list.proofs.Once.{Apart, apart_append, apart_flat, pairs}
 
 -- ---- kept keys of a list
 

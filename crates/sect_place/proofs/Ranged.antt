@@ -16,12 +16,12 @@ use Rattle.mo_types.specs.declared.key.AtomKey.{AtomKey}
 use Rattle.mo_types.specs.declared.loaded.LoadedFile.{LoadedFile}
 use Rattle.mo_types.specs.declared.out_section.OutSection.{OutSection}
 use Rattle.tlv_plan.specs.Template.{atoms_of, greatest_align, is_thread_local, keys_of, thread_local}
-use Rattle.sect_place.specs.Arrangement.{is_code, is_in}
+use Rattle.sect_place.specs.Arrangement.{is_code}
+use Rattle.sect_list.specs.OutSections.{is_in, Home, Row, going_to, home_of, in_order, led, led_by, out_sections, row_of, rows, same_destination, section_with, sections_of}
 use Rattle.sect_place.specs.Moved.{AreInOrder, code_keys}
-use Rattle.sect_place.specs.OutSections.{Home, Row, going_to, home_of, in_order, led, led_by, out_sections, row_of, rows, same_destination, section_with, sections_of}
-use Rattle.sect_place.proofs.Listed.{names_equal}
-use Rattle.sect_place.proofs.Low.{all_low}
-use Rattle.sect_place.proofs.Once.{Apart, key_of, keys_apart, listed_once, one_by_map, order_apart, order_members, row_keys, section_behind, sections_apart}
+use Rattle.sect_list.proofs.Listed.{names_equal}
+use Rattle.sect_list.proofs.Low.{all_low}
+use Rattle.sect_list.proofs.Once.{Apart, key_of, keys_apart, listed_once, one_by_map, order_apart, order_members, row_keys, section_behind, sections_apart}
 use Rattle.sect_place.proofs.Positions.{finds, found_atom, keys_listed}
 
 -- ---- the one section of code

@@ -6,14 +6,15 @@ use Rattle.std.specs.Ordering.{on}
 use Rattle.std.proofs.lemmas.List.Elements.{All-from_recursion, recursion_from_All}
 use Rattle.std.proofs.lemmas.List.Sorted.{Contains-permutation, IsPermutation-sym}
 use Rattle.list_lemmas.proofs.Members.{In, Contains_from_in, all_in, from_filter, from_map, in_from_Contains, in_map, from_flat, in_left}
-use Rattle.mo_cmd.specs.declared.command.Command.{Command}
+use Rattle.command_line.specs.declared.command.Command.{Command}
 use Rattle.mo_types.specs.Keys.{compare_keys}
 use Rattle.mo_types.specs.declared.atom.Atom.{Atom}
 use Rattle.mo_types.specs.declared.key.AtomKey.{AtomKey}
 use Rattle.mo_types.specs.declared.out_section.OutSection.{OutSection}
 use Rattle.slot_plan.specs.declared.list.Slots.{Slots}
 use Rattle.tlv_plan.specs.Template.{atoms_of, keys_of}
-use Rattle.sect_place.specs.Arrangement.{MadeBytes, groups_of, is_chosen, is_code, is_in, text_parts}
+use Rattle.sect_place.specs.Arrangement.{MadeBytes, groups_of, is_chosen, is_code, text_parts}
+use Rattle.sect_list.specs.OutSections.{is_in}
 use Rattle.sect_place.specs.Layout.{IsLayoutOf, base_of, image_places, image_sections, lead_of, made_bytes, plan_of}
 use Rattle.sect_place.specs.Moved.{AreBehindCode, AreInOrder, IsMoved, areas_bytes, code_keys, no_islands, pages_moved, text_end}
 use Rattle.sect_place.specs.Places.{area_unit, spaced}
@@ -29,7 +30,7 @@ use Rattle.sect_place.specs.declared.size.PlaceSizes.{PlaceSizes}
 use Rattle.sect_place.specs.inner.Room.{capped}
 use Rattle.sect_place.proofs.Fitting.{low_section, unit_below}
 use Rattle.sect_place.proofs.Moving.{moved_law}
-use Rattle.sect_place.proofs.Once.{one_by_map}
+use Rattle.sect_list.proofs.Once.{one_by_map}
 use Rattle.sect_place.proofs.Planned.{AreThose, all_there, listed_back, listed_there, same_unit, text_ends, those}
 use Rattle.sect_place.proofs.Positions.{agree, chosen_there, image_apart, image_keys, kept_listed, part_keys, text_keys}
 use Rattle.sect_place.proofs.Shifting.{steps_come_to, steps_rise}

@@ -14,7 +14,7 @@ use Rattle.mo_types.specs.Keys.{compare_keys}
 use Rattle.mo_types.specs.declared.key.AtomKey.{AtomKey}
 use Rattle.mo_types.specs.declared.out_section.OutSection.{OutSection}
 use Rattle.tlv_plan.specs.Template.{keys_of}
-use Rattle.sect_place.specs.Arrangement.{is_in}
+use Rattle.sect_list.specs.OutSections.{is_in}
 use Rattle.sect_place.specs.Moved.{areas_bytes}
 use Rattle.sect_place.specs.Places.{area_unit, islands_bytes}
 use Rattle.sect_place.specs.Shifts.{ShiftTable, in_region, sections_in, steps_from, step_before, text_end_from}

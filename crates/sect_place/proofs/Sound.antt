@@ -6,12 +6,13 @@ use Rattle.std.proofs.lemmas.Bool.{cases_Bool, false≢true}
 use Rattle.std.proofs.lemmas.List.{take_at, drop_at}
 use Rattle.std.proofs.lemmas.Slice.Eq.{bytes_eq-Decides}
 use Rattle.list_lemmas.proofs.Members.{all_at}
-use Rattle.mo_cmd.specs.declared.command.Command.{Command}
+use Rattle.command_line.specs.declared.command.Command.{Command}
 use Rattle.mo_types.specs.declared.atom.Atom.{Atom}
 use Rattle.mo_types.specs.declared.key.AtomKey.{AtomKey}
 use Rattle.mo_types.specs.declared.out_section.OutSection.{OutSection}
 use Rattle.tlv_plan.proofs.Walk.{aligned_least}
-use Rattle.sect_place.specs.Arrangement.{is_in, is_chosen, chosen, group_named, runs_from, runs, MadeBytes, text_parts, constant_parts, writable_parts, groups_of}
+use Rattle.sect_place.specs.Arrangement.{is_chosen, chosen, group_named, runs_from, runs, MadeBytes, text_parts, constant_parts, writable_parts, groups_of}
+use Rattle.sect_list.specs.OutSections.{is_in}
 use Rattle.sect_place.specs.Layout.{Plan, base_of, image_size, pagezero, linkedit, first_segments, image_segments, image_sections, IsTooLarge}
 use Rattle.sect_place.specs.Places.{part_end, parts_end, placed_section, parts_sections, page_up, group_end, file_bytes, segment_of, groups_segments, groups_sections, groups_end, groups_file}
 use Rattle.sect_place.specs.Whole.{IsWholeSegment, AreLedByText, AreInTurn, IsIn, AreInSegments, IsWholeLayout}

@@ -3,8 +3,9 @@
 use Rattle.std.specs.Prelude.{ℕ, ◌+◌, ◌==◌, ◌&&◌, Bool, bit_or, not, List, [], ◌∷◌, ◌++◌, map, length, codes, if◌then◌else◌}
 use Rattle.std.specs.List.{filter}
 use Rattle.std.specs.Str.{bytes_eq}
-use Rattle.mo_format.specs.declared.loader.TheConstants.{S_ATTR_PURE_INSTRUCTIONS, S_ATTR_SOME_INSTRUCTIONS, S_NON_LAZY_SYMBOL_POINTERS, S_REGULAR, S_SYMBOL_STUBS, S_THREAD_LOCAL_VARIABLE_POINTERS}
+use Rattle.mo_format.specs.declared.loader.TheConstants.{S_NON_LAZY_SYMBOL_POINTERS, S_REGULAR, S_SYMBOL_STUBS, S_THREAD_LOCAL_VARIABLE_POINTERS}
 use Rattle.mo_types.specs.declared.out_section.OutSection.{OutSection}
+use Rattle.sect_list.specs.OutSections.{instructions, is_in}
 use Rattle.sect_place.specs.declared.part.Choice.{Choice}
 use Rattle.sect_place.specs.declared.part.Choice.TheVariants.{Code, BesideCode, Constant, Writable, Elsewhere}
 use Rattle.sect_place.specs.declared.part.Group.{Group}
@@ -13,9 +14,6 @@ use Rattle.sect_place.specs.declared.part.Made.TheVariants.{Stubs, UnwindInfo, G
 use Rattle.sect_place.specs.declared.part.Part.{Part}
 
 -- ---- the sections with atoms
-
-abbrev pub is_in : List ℕ → OutSection → Bool
-is_in segment section = bytes_eq section.segment segment
 
 -- the section `__text` of instructions
 abbrev pub is_code : OutSection → Bool
@@ -47,10 +45,6 @@ own_section segment name kind attributes align = record {
   align = align;
   atoms = [];
 }
-
--- the attributes of a section of instructions
-abbrev pub instructions : ℕ
-instructions = bit_or S_ATTR_PURE_INSTRUCTIONS S_ATTR_SOME_INSTRUCTIONS
 
 abbrev pub section_of : Made → OutSection
 section_of Stubs = own_section (codes "__TEXT") (codes "__stubs") S_SYMBOL_STUBS instructions 2

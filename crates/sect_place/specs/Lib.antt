@@ -2,7 +2,7 @@ pub mod Whole
 pub mod Arrangement
 pub mod Places
 pub mod Layout
-pub mod OutSections
 pub mod inner
 pub mod Moved
 pub mod Shifts
+pub mod Addresses

@@ -3,14 +3,15 @@ use Rattle.std.specs.Prelude.{ℕ, ◌≡◌, ◌≢◌, ◌+◌, ◌-◌, ◌�
 use Rattle.std.specs.List.{AllPairs, filter}
 use Rattle.std.specs.List.Sorted.{IsStrictlySortedBy}
 use Rattle.std.specs.Ordering.{is_lt}
-use Rattle.mo_cmd.specs.declared.command.Command.{Command}
+use Rattle.command_line.specs.declared.command.Command.{Command}
 use Rattle.mo_types.specs.Keys.{compare_keys}
 use Rattle.mo_types.specs.declared.atom.Atom.{Atom}
 use Rattle.mo_types.specs.declared.key.AtomKey.{AtomKey}
 use Rattle.mo_types.specs.declared.out_section.OutSection.{OutSection}
 use Rattle.slot_plan.specs.declared.list.Slots.{Slots}
 use Rattle.tlv_plan.specs.Template.{atoms_of, keys_of}
-use Rattle.sect_place.specs.Arrangement.{groups_of, is_code, is_in, text_parts}
+use Rattle.sect_place.specs.Arrangement.{groups_of, is_code, text_parts}
+use Rattle.sect_list.specs.OutSections.{is_in}
 use Rattle.sect_place.specs.Layout.{base_of, lead_of, made_bytes}
 use Rattle.sect_place.specs.Places.{area_unit, islands_bytes, page_up, parts_end, spaced}
 use Rattle.sect_place.specs.declared.island.IslandArea.{IslandArea}

@@ -7,7 +7,8 @@ use Rattle.mo_types.specs.Keys.{compare_keys}
 use Rattle.mo_types.specs.declared.key.AtomKey.{AtomKey}
 use Rattle.mo_types.specs.declared.out_section.OutSection.{OutSection}
 use Rattle.tlv_plan.specs.Template.{keys_of}
-use Rattle.sect_place.specs.Arrangement.{is_code, is_in}
+use Rattle.sect_place.specs.Arrangement.{is_code}
+use Rattle.sect_list.specs.OutSections.{is_in}
 use Rattle.sect_place.specs.Layout.{Plan, image_places}
 use Rattle.sect_place.specs.Moved.{areas_bytes, pages_moved}
 use Rattle.sect_place.specs.Places.{area_unit, islands_bytes}

@@ -1,3 +1,1 @@
 pub mod Room
-pub mod Gathered
-pub mod Destinations

@@ -7,8 +7,7 @@ ghost use Rattle.std.specs.declared.cmp.Ordering.TheVariants.{Less};
 ghost use Rattle.mo_types.specs.Keys.{compare_keys};
 ghost use Rattle.sect_place.specs.declared.island.IslandArea.{IslandArea};
 
-use crate::layout::compare;
-use mo_types::{AtomKey, Goal, Items, OutOfMemory};
+use mo_types::{AtomKey, Goal, Items, OutOfMemory, compare_atoms};
 use std::alloc::Global;
 use std::marker::Model;
 

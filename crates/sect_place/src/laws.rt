@@ -7,13 +7,13 @@ ghost use Rattle.mo_bytes.specs.Rounding.{IsLeastMultiple};
 ghost use Rattle.mo_types.specs.declared.atom.Atom.{Atom};
 ghost use Rattle.mo_types.specs.Keys.{compare_keys};
 ghost use Rattle.mo_types.specs.declared.key.AtomKey.{AtomKey};
-ghost use Rattle.mo_cmd.specs.declared.command.Command.{Command};
+ghost use Rattle.command_line.specs.declared.command.Command.{Command};
 ghost use Rattle.mo_types.specs.declared.loaded.LoadedFile.{LoadedFile};
 ghost use Rattle.mo_types.specs.declared.out_section.OutSection.{OutSection};
 ghost use Rattle.slot_plan.specs.declared.list.Slots.{Slots};
 ghost use Rattle.tlv_plan.specs.Template.{keys_of, stand};
 ghost use Rattle.sect_place.specs.Layout.{IsLayoutOf, Plan, image_stand, image_places, image_sections, plan_of};
-ghost use Rattle.sect_place.specs.OutSections.{Home, home_of, out_sections};
+ghost use Rattle.sect_list.specs.OutSections.{out_sections};
 ghost use Rattle.sect_place.specs.Places.{AreLeast, places, part_from, page_up};
 ghost use Rattle.sect_place.specs.Moved.{AreBehindCode, AreInOrder, IsMoved, areas_bytes, no_islands, pages_moved, text_end};
 ghost use Rattle.sect_place.specs.declared.island.IslandArea.{IslandArea};
@@ -48,16 +48,6 @@ pub fn places_are_least()
     ensures only { (at : ℕ) (atoms : List Atom) (places : List ℕ) → AreLeast at atoms places → places ≡ map (λ (p : Atom × ℕ). p.1) (stand at atoms) }
     ensures sections { (at : ℕ) (part : Part) → IsLeastMultiple (2 ^ part.section.align) at (part_from at part) }
     ensures segments { (at : ℕ) → IsLeastMultiple (2 ^ 14) at (page_up at) }
-{}
-
-/// Each atom of which the files have the section, or of a common symbol, is in a section of the image.
-pub fn each_kept_atom_is_listed()
-    ensures { (files : List LoadedFile) (kept : List Atom) (atom : Atom) (home : Home) → Contains kept atom → Some home ≡ home_of files atom.key.file atom.key.section → Contains (keys_of (out_sections files kept)) atom.key }
-{}
-
-/// No atom is in two sections of the image, nor twice in one, where the kept atoms rise.
-pub fn no_atom_is_listed_twice()
-    ensures { (files : List LoadedFile) (kept : List Atom) → IsStrictlySortedBy (on (λ (atom : Atom). atom.key) compare_keys) kept → AllPairs (λ (a : AtomKey) (b : AtomKey). a ≢ b) (keys_of (out_sections files kept)) }
 {}
 
 /// Each kept atom that a section lists has a place in the image.

@@ -5,10 +5,9 @@ ghost use Rattle.mo_types.specs.Keys.{compare_keys};
 ghost use Rattle.sect_place.specs.declared.layout.Placed.{Placed};
 
 use crate::lookup::{address_at, find};
-use key_hints::{Hints, Keyed};
-use mo_types::{AtomKey, Bytes, Items, OutOfMemory, OutSection};
+use atom_index::{AtomIndex, Keyed};
+use mo_types::{AtomKey, Bytes, Items, OutOfMemory, OutSection, compare_atoms};
 use std::alloc::Global;
-use std::cmp::Ordering;
 use std::marker::Model;
 
 /// A segment of an image (`loader.h`: segment_command_64). Its `maxprot` is its `initprot`.
@@ -69,7 +68,7 @@ impl Keyed for Placed {
 #[derive(Debug, Drop)]
 pub struct PlacedList {
     placed: Vec<Placed>,
-    hints: Hints,
+    hints: AtomIndex,
 }
 
 impl Model for PlacedList {
@@ -93,7 +92,7 @@ impl PlacedList {
         ensures order { IfOk result (IsSorted (on (λ (p : Placed). p.atom) compare_keys)) }
     {
         let placed = in_order(placed)?;
-        let hints = Hints::of(alloc, placed.as_slice())?;
+        let hints = AtomIndex::of(alloc, placed.as_slice())?;
         Ok(PlacedList { placed, hints })
     }
 
@@ -131,15 +130,8 @@ fn in_order(placed: Vec<Placed>) -> Result<Vec<Placed>, OutOfMemory>
     ensures rising { IfOk result (λ sorted. IsSorted (on (λ (p : Placed). p.atom) compare_keys) sorted.items) }
 {
     let mut placed = placed;
-    placed.sort_by(|a, b| compare(&a.atom, &b.atom))?;
+    placed.sort_by(|a, b| compare_atoms(&a.atom, &b.atom))?;
     Ok(placed)
-}
-
-// The order of two atoms.
-pub(crate) fn compare(a: &AtomKey, b: &AtomKey) -> Ordering
-    ensures { result ≡ compare_keys a.now b.now }
-{
-    a.cmp(b)
 }
 
 /// Where everything of an image stands.

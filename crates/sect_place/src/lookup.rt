@@ -5,7 +5,7 @@ ghost use Rattle.mo_types.specs.Keys.{compare_keys};
 ghost use Rattle.sect_place.specs.declared.layout.Placed.{Placed};
 
 use crate::layout::{Layout, Placed};
-use key_hints::{Hints, is_at};
+use atom_index::{AtomIndex, is_at};
 use mo_types::AtomKey;
 
 /// The address of an atom, or `None` exactly where the layout doesn't have it. Takes no memory.
@@ -26,7 +26,7 @@ pub fn address_near(layout: &Layout, near: usize, atom: AtomKey) -> Option<u64>
 
 // The address of an atom, among addresses in the order of their atoms, by the hints of the list.
 #[inline(always)]
-pub(crate) fn find(placed: &[Placed], hints: &Hints, atom: &AtomKey) -> Option<u64>
+pub(crate) fn find(placed: &[Placed], hints: &AtomIndex, atom: &AtomKey) -> Option<u64>
     requires { IsSorted (on (λ (p : Placed). p.atom) compare_keys) placed.now }
     ensures { MatchOption result ((address : ℕ) → ¬ Contains placed.now (record { atom = atom.now; address = address })) (λ address. Contains placed.now (record { atom = atom.now; address = address })) }
 {

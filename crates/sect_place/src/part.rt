@@ -1,5 +1,6 @@
 ghost use Rattle.std.specs.Prelude.{◌≡◌, bit_or, []};
 ghost use Rattle.sect_place.specs.Arrangement as arrangement;
+ghost use Rattle.sect_list.specs.OutSections as sections;
 
 use mo_format::loader::{
     S_ATTR_PURE_INSTRUCTIONS, S_ATTR_SOME_INSTRUCTIONS, S_NON_LAZY_SYMBOL_POINTERS, S_REGULAR,
@@ -123,7 +124,7 @@ impl Choice {
 
 // Whether a section is of a segment.
 pub(crate) fn is_in(section: &OutSection, segment: &[u8]) -> bool
-    ensures { result ≡ arrangement.is_in segment.now section.now }
+    ensures { result ≡ sections.is_in segment.now section.now }
 {
     section.segment.as_slice() == segment
 }

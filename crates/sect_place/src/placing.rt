@@ -18,7 +18,7 @@ use crate::part::{Group, is_in};
 use crate::size::{PlaceFault, PlaceSizes};
 use crate::walk::{Laid, Room, place_groups};
 use crate::wide::{cap, sum_of};
-use mo_cmd::Command;
+use command_line::Command;
 use mo_format::loader::{VM_PROT_NONE, VM_PROT_READ};
 use mo_types::{AtomList, Bytes, OutOfMemory, OutSection, OutSections};
 use slot_plan::Slots;

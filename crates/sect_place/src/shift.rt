@@ -2,7 +2,7 @@
 ghost use Rattle.std.specs.Prelude.{◌≡◌, ◌+◌, ◌<◌, ◌≤◌, ◌++◌, All, Contains, IfOk, IsTrue, List, None, false, length, map, true};
 ghost use Rattle.std.specs.List.Sorted.{IsPartitionPoint, IsStrictlySortedBy};
 ghost use Rattle.std.specs.Ordering.{on, is_lt};
-ghost use Rattle.mo_cmd.specs.declared.command.Command.{Command};
+ghost use Rattle.command_line.specs.declared.command.Command.{Command};
 ghost use Rattle.mo_types.specs.Keys.{compare_keys};
 ghost use Rattle.mo_types.specs.declared.atom.Atom.{Atom};
 ghost use Rattle.mo_types.specs.declared.out_section.OutSection.{OutSection};
@@ -19,13 +19,13 @@ ghost use Rattle.sect_place.specs.declared.size.PlaceSizes.{PlaceSizes};
 ghost use Rattle.sect_place.specs.inner.Room.{capped};
 
 use crate::island::{IslandArea, IslandPlan};
-use crate::layout::{Layout, PlacedSection, compare};
+use crate::layout::{Layout, PlacedSection};
 use crate::lookup::address;
 use crate::part::{is_code, is_in};
 use crate::placing::larger;
 use crate::walk::area_bytes;
 use crate::wide::{cap, sum_of, up};
-use mo_types::{AtomKey, OutOfMemory, OutSection};
+use mo_types::{AtomKey, OutOfMemory, OutSection, compare_atoms};
 use std::alloc::Global;
 use std::marker::Model;
 
@@ -203,7 +203,7 @@ fn has_key(keys: &[AtomKey], key: &AtomKey) -> bool
     ensures found { IsTrue result → Contains keys.now key.now }
     ensures missed { IsStrictlySortedBy compare_keys keys.now → Contains keys.now key.now → IsTrue result }
 {
-    match keys.binary_search_by(|k| compare(k, key)) {
+    match keys.binary_search_by(|k| compare_atoms(k, key)) {
         Ok(_) => true,
         Err(_) => false,
     }
@@ -232,5 +232,5 @@ fn count_before(steps: &[Step], atom: &AtomKey) -> usize
 fn is_before(a: &AtomKey, b: &AtomKey) -> bool
     ensures { result ≡ is_lt (compare_keys a.now b.now) }
 {
-    compare(a, b).is_lt()
+    compare_atoms(a, b).is_lt()
 }

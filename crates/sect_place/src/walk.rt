@@ -15,14 +15,14 @@ ghost use Rattle.sect_place.specs.Places as spec;
 ghost use Rattle.sect_place.specs.inner.Room.{IsRoom, capped_place, capped_section, capped_segment};
 
 use crate::island::IslandArea;
-use crate::layout::{Placed, PlacedSection, Segment, compare};
+use crate::layout::{Placed, PlacedSection, Segment};
 use crate::part::{Group, Part};
 use crate::wide::{cap, cap_count, sum_of, up};
-use key_hints::is_same;
+use atom_index::is_same;
 use mo_format::loader::{
     S_THREAD_LOCAL_ZEROFILL, S_ZEROFILL, SG_READ_ONLY, VM_PROT_EXECUTE, VM_PROT_READ, VM_PROT_WRITE,
 };
-use mo_types::{Atom, AtomKey, Bytes, OutOfMemory, OutSection};
+use mo_types::{Atom, AtomKey, Bytes, OutOfMemory, OutSection, compare_atoms};
 use std::alloc::Global;
 
 /// Which atoms there are, and what stands behind them.
@@ -78,7 +78,7 @@ fn find_near(kept: &[Atom], near: usize, key: &AtomKey) -> (Option<Atom>, usize)
             return (Some(atom), near + 1);
         }
     }
-    match kept.binary_search_by(|atom| compare(&atom.key, key)) {
+    match kept.binary_search_by(|atom| compare_atoms(&atom.key, key)) {
         Ok(at) => (Some(kept[at]), at + 1),
         Err(at) => (None, at),
     }
@@ -112,7 +112,7 @@ fn find_area<'a>(areas: &'a [IslandArea], key: &AtomKey) -> Option<&'a IslandAre
     requires { IsStrictlySortedBy (on (λ (area : IslandArea). area.last) compare_keys) areas.now }
     ensures { option_copied result ≡ find (λ area. is_eq (compare_keys area.last key.now)) areas.now }
 {
-    match areas.binary_search_by(|area| compare(&area.last, key)) {
+    match areas.binary_search_by(|area| compare_atoms(&area.last, key)) {
         Ok(at) => Some(&areas[at]),
         Err(_) => None,
     }

@@ -5,8 +5,8 @@ use Rattle.std.proofs.Math.Seq.{drop-append-add, drop-append_seam}
 use Rattle.std.proofs.lemmas.List.{drop-drop, get_or-append_right, get_or-replicate, get_or-take, length-replicate, length-take, length-take-le, take-append-drop, take-append-le, take_all}
 use Rattle.std.specs.List.{flat_map, range_with_len}
 use Rattle.mo_bytes.specs.Rounding.{least_multiple}
-use Rattle.mo_format.specs.Signature.{super_blob_at, super_blob_bytes, blob_index_at, blob_index_bytes, code_directory_at, code_directory_bytes, super_blob_fields, blob_index_fields, code_directory_fields}
-use Rattle.mo_format.proofs.BigFieldLemmas.{AreBigFit, super_blob_read, blob_index_read, code_directory_read}
+use Rattle.image_format.specs.Signature.{super_blob_at, super_blob_bytes, blob_index_at, blob_index_bytes, code_directory_at, code_directory_bytes, super_blob_fields, blob_index_fields, code_directory_fields}
+use Rattle.image_format.proofs.BigFieldLemmas.{AreBigFit, super_blob_read, blob_index_read, code_directory_read}
 use Rattle.sign_adhoc.specs.Pages.{joined, page_count, page_hash, page_hashes}
 use Rattle.sign_adhoc.specs.Signature.{blob_size, directory, directory_entry, hashes_begin, head, padded, signature, signature_size, super_blob, with_hashes}
 use Rattle.sign_adhoc.specs.Standing.{AreZeros, IsNamed, IsSigned, IsStanding}

@@ -2,8 +2,8 @@
 use Rattle.std.proofs.Common.{◌≡◌, ℕ, zero, suc, ◌+◌, ◌*◌, List, [], ◌∷◌, length, Bool, refl, ◌∙◌, arith, map, length-append}
 use Rattle.std.specs.List.{flat_map, range_with_len}
 use Rattle.byteorder.specs.Numbers.{length-bytes_high_first}
-use Rattle.mo_format.specs.BigFields.{BigField, BigNumber, big_number_bytes, big_spelled}
-use Rattle.mo_format.specs.Signature.{super_blob_fields, blob_index_fields, code_directory_fields}
+use Rattle.image_format.specs.BigFields.{BigField, BigNumber, big_number_bytes, big_spelled}
+use Rattle.image_format.specs.Signature.{super_blob_fields, blob_index_fields, code_directory_fields}
 use Rattle.sha2.proofs.Facts256.{length-sha256}
 use Rattle.sign_adhoc.specs.Pages.{page_count, page_hash, page_hashes, joined}
 use Rattle.sign_adhoc.specs.Signature.{blob_size, directory, directory_entry, head, signature, super_blob, with_hashes}

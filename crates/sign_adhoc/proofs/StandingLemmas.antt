@@ -3,7 +3,7 @@ use Rattle.std.proofs.Common.{◌≡◌, ℕ, ◌+◌, ◌-◌, ◌*◌, ◌^◌
 use Rattle.std.specs.Prelude.{unwrap_or}
 use Rattle.std.proofs.lemmas.Bool.{le-leb, lt-ltb}
 use Rattle.mo_format.specs.Linkedit.{linkedit_data_command_at}
-use Rattle.mo_format.specs.declared.signature.CodeDirectory.{CodeDirectory}
+use Rattle.image_format.specs.declared.signature.CodeDirectory.{CodeDirectory}
 use Rattle.sign_adhoc.specs.Pages.{page_count}
 use Rattle.sign_adhoc.specs.Signature.{directory, hashes_begin}
 use Rattle.sign_adhoc.specs.Standing.{IsStanding, IsSignature, signature_command}

@@ -2,11 +2,11 @@
 -- its NUL, and the hashes of the pages before the signature.
 use Rattle.std.specs.Prelude.{ℕ, ◌+◌, ◌-◌, ◌*◌, Bool, List, [], ◌∷◌, ◌++◌, length, replicate, if◌then◌else◌}
 use Rattle.mo_bytes.specs.Rounding.{least_multiple}
-use Rattle.mo_format.specs.Signature.{super_blob_bytes, blob_index_bytes, code_directory_bytes}
-use Rattle.mo_format.specs.declared.cs_blobs.TheConstants.{CSMAGIC_EMBEDDED_SIGNATURE, CSMAGIC_CODEDIRECTORY, CSSLOT_CODEDIRECTORY, CS_SUPPORTSEXECSEG, CS_ADHOC, CS_LINKER_SIGNED, CS_HASHTYPE_SHA256, CS_SHA256_LEN, CS_EXECSEG_MAIN_BINARY}
-use Rattle.mo_format.specs.declared.signature.SuperBlob.{SuperBlob}
-use Rattle.mo_format.specs.declared.signature.BlobIndex.{BlobIndex}
-use Rattle.mo_format.specs.declared.signature.CodeDirectory.{CodeDirectory}
+use Rattle.image_format.specs.Signature.{super_blob_bytes, blob_index_bytes, code_directory_bytes}
+use Rattle.image_format.specs.declared.cs_blobs.TheConstants.{CSMAGIC_EMBEDDED_SIGNATURE, CSMAGIC_CODEDIRECTORY, CSSLOT_CODEDIRECTORY, CS_SUPPORTSEXECSEG, CS_ADHOC, CS_LINKER_SIGNED, CS_HASHTYPE_SHA256, CS_SHA256_LEN, CS_EXECSEG_MAIN_BINARY}
+use Rattle.image_format.specs.declared.signature.SuperBlob.{SuperBlob}
+use Rattle.image_format.specs.declared.signature.BlobIndex.{BlobIndex}
+use Rattle.image_format.specs.declared.signature.CodeDirectory.{CodeDirectory}
 use Rattle.sign_adhoc.specs.Pages.{page_count, page_hashes, joined}
 
 -- where the hashes stand in the code directory: behind its fields, an identifier of so many bytes and the NUL

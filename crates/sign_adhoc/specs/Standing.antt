@@ -5,10 +5,10 @@ use Rattle.image_read.specs.Commands.{cmd, cmdsize, commands_of, fits}
 use Rattle.mo_types.specs.Rows.{when}
 use Rattle.mo_types.specs.Scan.{first_some}
 use Rattle.mo_format.specs.Linkedit.{linkedit_data_command_at}
-use Rattle.mo_format.specs.Signature.{super_blob_at, blob_index_at, code_directory_at}
-use Rattle.mo_format.specs.declared.signature.SuperBlob.{SuperBlob}
-use Rattle.mo_format.specs.declared.signature.BlobIndex.{BlobIndex}
-use Rattle.mo_format.specs.declared.signature.CodeDirectory.{CodeDirectory}
+use Rattle.image_format.specs.Signature.{super_blob_at, blob_index_at, code_directory_at}
+use Rattle.image_format.specs.declared.signature.SuperBlob.{SuperBlob}
+use Rattle.image_format.specs.declared.signature.BlobIndex.{BlobIndex}
+use Rattle.image_format.specs.declared.signature.CodeDirectory.{CodeDirectory}
 use Rattle.mo_format.specs.declared.loader.TheConstants.{LC_CODE_SIGNATURE}
 use Rattle.sign_adhoc.specs.Pages.{page_count, page_hash}
 use Rattle.sign_adhoc.specs.Signature.{blob_size, directory, directory_entry, hashes_begin, signature_size, super_blob}

@@ -4,11 +4,11 @@ ghost use Rattle.std.specs.Prelude.{◌≡◌, ◌+◌, ◌<◌, ◌≤◌, ◌^
 ghost use Rattle.sign_adhoc.specs.Signature as signature;
 
 use crate::pages::{HASH_SIZE, page_count};
-use mo_format::cs_blobs::{
+use image_format::cs_blobs::{
     CS_ADHOC, CS_EXECSEG_MAIN_BINARY, CS_HASHTYPE_SHA256, CS_LINKER_SIGNED, CS_SHA256_LEN,
     CS_SUPPORTSEXECSEG, CSMAGIC_CODEDIRECTORY, CSMAGIC_EMBEDDED_SIGNATURE, CSSLOT_CODEDIRECTORY,
 };
-use mo_format::{BlobIndex, CodeDirectory, SuperBlob};
+use image_format::{BlobIndex, CodeDirectory, SuperBlob};
 use mo_types::OutOfMemory;
 use std::alloc::Global;
 

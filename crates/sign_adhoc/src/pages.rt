@@ -3,7 +3,7 @@
 ghost use Rattle.std.specs.Prelude.{◌≡◌, ◌≤◌, ◌<◌, ◌*◌, ◌+◌, length, IfOk};
 ghost use Rattle.sign_adhoc.specs.Pages as pages;
 
-use mo_format::cs_blobs::CS_SHA256_LEN;
+use image_format::cs_blobs::CS_SHA256_LEN;
 use mo_types::OutOfMemory;
 use rayon::prelude::*;
 use sha2::{Digest, Sha256};

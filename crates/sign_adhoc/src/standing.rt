@@ -9,9 +9,10 @@ ghost use Rattle.sign_adhoc.specs.Standing.{AreZeros, HasEnds, IsSignature, IsSt
 ghost use Rattle.sign_adhoc.specs.inner.Told as told;
 
 use crate::blob::{DIRECTORY_AT, blob_size, directory, directory_entry, padded_size, super_blob};
+use image_format::{BlobIndex, CodeDirectory, SuperBlob};
 use image_read::{cmd, cmdsize, fits, ncmds};
+use mo_format::LinkeditDataCommand;
 use mo_format::loader::LC_CODE_SIGNATURE;
-use mo_format::{BlobIndex, CodeDirectory, LinkeditDataCommand, SuperBlob};
 
 /// A signature in an image, whatever its hashes are.
 #[derive(Clone, Copy, Debug, PartialEq, Eq)]

@@ -5,8 +5,9 @@ mod rows;
 ghost use Rattle.std.specs.Prelude.{◌≡◌, ◌≢◌, IsTrue, All, AllPairs, IfOk, IfSome, length, true};
 ghost use Rattle.lib_bind.specs.Named.{are_named as are_named_by};
 
+use command_line::Command;
 use lib_bind::{BindFault, Libraries, NamedStub, StubFileList, closure, read_stub_text};
-use mo_cmd::{Command, read_all_words};
+use mo_cmd::read_all_words;
 use mo_outside::{FileList, MemFiles};
 use mo_types::{Arg, ArgList, Bytes, Items, OutOfMemory};
 use std::alloc::Global;

@@ -12,7 +12,7 @@ use Rattle.mo_types.specs.declared.object.SymbolKind.TheVariants.{Undefined, Com
 use Rattle.mo_types.specs.Loaded.{IsWholeFile}
 use Rattle.mo_types.specs.declared.loaded.LoadedFile.{LoadedFile}
 use Rattle.mo_types.specs.declared.object.Symbol.{Symbol}
-use Rattle.symbol_winners.specs.Found.{Found, found, found_at, found_in}
+use Rattle.symbol_winners.specs.Found.{FileCandidate, found, found_at, found_in}
 use Rattle.symbol_winners.specs.Places.{place_at, place_in, place_of}
 use Rattle.symbol_winners.specs.declared.found.FoundIn.{FoundIn}
 use Rattle.symbol_winners.specs.inner.Best.{AreCandidates, IsCandidateOf}
@@ -55,7 +55,7 @@ all_held [] all = tt
 all_held (f ∷ fs) all = (all.0, all_held fs all.1)
 
 pub candidates_are : (files : List LoadedFile) (fs : List FoundIn) → All IsWholeFile files → held fs ≡ found files → AreCandidates fs
-candidates_are files fs all is = all_held fs (subst (λ (xs : List Found). AllByRecursion IsCandidateOf xs) (sym is) (each_found files all))
+candidates_are files fs all is = all_held fs (subst (λ (xs : List FileCandidate). AllByRecursion IsCandidateOf xs) (sym is) (each_found files all))
 
 -- ---- a candidate stands in an atom
 
@@ -80,7 +80,7 @@ kind_place file index (Defined section value) has none = linked_place file secti
 kind_place file index Absolute has none = cc
 kind_place file index Passed has none = cc
 
-pub stands_somewhere : (f : Found) → IsCandidateOf f → ((d : Symbol) → None ≡ place_of f.file f.index (get_or f.file.object.symbols f.index d).kind) → ⊥
+pub stands_somewhere : (f : FileCandidate) → IsCandidateOf f → ((d : Symbol) → None ≡ place_of f.file f.index (get_or f.file.object.symbols f.index d).kind) → ⊥
 unfolding is_candidate
 stands_somewhere f one none =
     kind_place f.file f.index f.symbol.kind (both_true f.symbol.external (has_place f.file.object.sections f.symbol.kind) one.candidate)

@@ -2,7 +2,7 @@
 use Rattle.std.proofs.Common.{◌≡◌, ℕ, zero, suc, ◌+◌, ◌<◌, ◌≤◌, List, [], ◌∷◌, ◌++◌, length, map, take, get_or, sym, ap, ◌∙◌, arith, Some}
 use Rattle.std.specs.Prelude.{Option}
 use Rattle.std.proofs.lemmas.List.{map-append, take_all, take_more}
-use Rattle.mo_cmd.specs.declared.command.Command.{Command}
+use Rattle.command_line.specs.declared.command.Command.{Command}
 use Rattle.symbol_winners.specs.declared.chosen.Chosen.{Chosen}
 use Rattle.symbol_winners.specs.declared.winner.Winner.{Winner}
 use Rattle.symbol_winners.specs.inner.Best.{AreChosen, IsCandidateOf, winner_chosen}

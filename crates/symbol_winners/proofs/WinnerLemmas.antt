@@ -20,12 +20,12 @@ use Rattle.std.proofs.lemmas.Option.{slice_get-get_or}
 use Rattle.std.proofs.lemmas.Simd.{map-map}
 use Rattle.std.proofs.lemmas.Slice.Eq.{bytes_eq-Decides}
 use Rattle.list_lemmas.proofs.Members.{In, Contains_from_in, all_in, find_none, find_some, from_filter, in_from_Contains, in_map}
-use Rattle.mo_cmd.specs.declared.command.Command.{Command}
+use Rattle.command_line.specs.declared.command.Command.{Command}
 use Rattle.mo_types.specs.Candidates.{Candidate, candidates, least}
 use Rattle.mo_types.specs.declared.loaded.LoadedFile.{LoadedFile}
 use Rattle.mo_types.specs.declared.object.SymbolKind.{SymbolKind}
 use Rattle.name_ids.specs.Names.{number_of}
-use Rattle.symbol_winners.specs.Found.{AreNamed, Found, candidate_of, found, found_for}
+use Rattle.symbol_winners.specs.Found.{AreNamed, FileCandidate, candidate_of, found, found_for}
 use Rattle.symbol_winners.specs.Places.{place_of}
 use Rattle.symbol_winners.specs.Winners.{align_in, found_word, greatest_align, greatest_size, is_exported, size_in, winner_at, winner_from, winner_named, winner_of, winning}
 use Rattle.symbol_winners.specs.declared.best.Best.{Best}
@@ -55,34 +55,34 @@ same_name a b e = (bytes_eq-Decides a b).0 e
 unfoldable pub chosen_for : List LoadedFile → List FoundIn → List ℕ → Option Chosen
 chosen_for files fs name = chosen_of (best_of files (named held_name name fs))
 
-named_held : (name : List ℕ) (fs : List FoundIn) → held (named held_name name fs) ≡ filter (λ (f : Found). bytes_eq name f.symbol.name) (held fs)
+named_held : (name : List ℕ) (fs : List FoundIn) → held (named held_name name fs) ≡ filter (λ (f : FileCandidate). bytes_eq name f.symbol.name) (held fs)
 named_held name [] = refl
 named_held name (f ∷ fs) = by (named_held name fs) (bytes_eq name (held_name f)) refl
   where
-    by : held (named held_name name fs) ≡ filter (λ (g : Found). bytes_eq name g.symbol.name) (held fs) → (b : Bool) → bytes_eq name (held_name f) ≡ b → held (named held_name name (f ∷ fs)) ≡ filter (λ (g : Found). bytes_eq name g.symbol.name) (held (f ∷ fs))
-    by rest true e = rw e (ap (λ (gs : List Found). found_of f ∷ gs) rest)
+    by : held (named held_name name fs) ≡ filter (λ (g : FileCandidate). bytes_eq name g.symbol.name) (held fs) → (b : Bool) → bytes_eq name (held_name f) ≡ b → held (named held_name name (f ∷ fs)) ≡ filter (λ (g : FileCandidate). bytes_eq name g.symbol.name) (held (f ∷ fs))
+    by rest true e = rw e (ap (λ (gs : List FileCandidate). found_of f ∷ gs) rest)
     by rest false e = rw e rest
 
-winner_same : (files : List LoadedFile) (name : List ℕ) (fs : List FoundIn) → option_map found_of (find (candidate_wins files) (named held_name name fs)) ≡ find (λ (g : Found). found_word g == least files name) (held (named held_name name fs))
+winner_same : (files : List LoadedFile) (name : List ℕ) (fs : List FoundIn) → option_map found_of (find (candidate_wins files) (named held_name name fs)) ≡ find (λ (g : FileCandidate). found_word g == least files name) (held (named held_name name fs))
 winner_same files name [] = refl
 winner_same files name (f ∷ fs) = by (winner_same files name fs) (bytes_eq name (held_name f)) refl
   where
-    one : name ≡ held_name f → option_map found_of (find (candidate_wins files) (named held_name name fs)) ≡ find (λ (g : Found). found_word g == least files name) (held (named held_name name fs)) → (b : Bool) → candidate_wins files f ≡ b → option_map found_of (find (candidate_wins files) (f ∷ named held_name name fs)) ≡ find (λ (g : Found). found_word g == least files name) (found_of f ∷ held (named held_name name fs))
+    one : name ≡ held_name f → option_map found_of (find (candidate_wins files) (named held_name name fs)) ≡ find (λ (g : FileCandidate). found_word g == least files name) (held (named held_name name fs)) → (b : Bool) → candidate_wins files f ≡ b → option_map found_of (find (candidate_wins files) (f ∷ named held_name name fs)) ≡ find (λ (g : FileCandidate). found_word g == least files name) (found_of f ∷ held (named held_name name fs))
     one same rest true e = let e2 : (found_word (found_of f) == least files name) ≡ true = ap (λ (n : List ℕ). found_word (found_of f) == least files n) same ∙ e in rw (e, e2) refl
     one same rest false e = let e2 : (found_word (found_of f) == least files name) ≡ false = ap (λ (n : List ℕ). found_word (found_of f) == least files n) same ∙ e in rw (e, e2) rest
 
-    by : option_map found_of (find (candidate_wins files) (named held_name name fs)) ≡ find (λ (g : Found). found_word g == least files name) (held (named held_name name fs)) → (b : Bool) → bytes_eq name (held_name f) ≡ b → option_map found_of (find (candidate_wins files) (named held_name name (f ∷ fs))) ≡ find (λ (g : Found). found_word g == least files name) (held (named held_name name (f ∷ fs)))
+    by : option_map found_of (find (candidate_wins files) (named held_name name fs)) ≡ find (λ (g : FileCandidate). found_word g == least files name) (held (named held_name name fs)) → (b : Bool) → bytes_eq name (held_name f) ≡ b → option_map found_of (find (candidate_wins files) (named held_name name (f ∷ fs))) ≡ find (λ (g : FileCandidate). found_word g == least files name) (held (named held_name name (f ∷ fs)))
     by rest true e = rw e (one (same_name name (held_name f) e) rest (candidate_wins files f) refl)
     by rest false e = rw e rest
 
-greatest_same : (part : SymbolKind → ℕ) (fs : List FoundIn) → greatest_of part fs ≡ fold max 0 (map (λ (f : Found). part f.symbol.kind) (held fs))
-greatest_same part fs = ap (fold max 0) (sym (map-map (λ (f : Found). part f.symbol.kind) found_of fs))
+greatest_same : (part : SymbolKind → ℕ) (fs : List FoundIn) → greatest_of part fs ≡ fold max 0 (map (λ (f : FileCandidate). part f.symbol.kind) (held fs))
+greatest_same part fs = ap (fold max 0) (sym (map-map (λ (f : FileCandidate). part f.symbol.kind) found_of fs))
 
 found_named : (files : List LoadedFile) (fs : List FoundIn) (name : List ℕ) → held fs ≡ found files → held (named held_name name fs) ≡ found_for files name
 unfolding found_for
-found_named files fs name is = named_held name fs ∙ ap (filter (λ (f : Found). bytes_eq name f.symbol.name)) is
+found_named files fs name is = named_held name fs ∙ ap (filter (λ (f : FileCandidate). bytes_eq name f.symbol.name)) is
 
-from_chosen : (command : Command) (all : List Found) (winner : Option FoundIn) (size align : ℕ) → size ≡ greatest_size all → align ≡ greatest_align all → option_and_then (winner_chosen command) (option_map (λ (f : FoundIn). record { found = f; size = size; align = align }) winner) ≡ option_and_then (winner_from command all) (option_map found_of winner)
+from_chosen : (command : Command) (all : List FileCandidate) (winner : Option FoundIn) (size align : ℕ) → size ≡ greatest_size all → align ≡ greatest_align all → option_and_then (winner_chosen command) (option_map (λ (f : FoundIn). record { found = f; size = size; align = align }) winner) ≡ option_and_then (winner_from command all) (option_map found_of winner)
 from_chosen command all None size align s a = refl
 from_chosen command all (Some f) size align s a = rw (s, a) refl
 
@@ -92,7 +92,7 @@ chosen_winner command files fs name is =
     let named_is : held (named held_name name fs) ≡ found_for files name = found_named files fs name is in
     from_chosen command (held (named held_name name fs)) (find (candidate_wins files) (named held_name name fs)) (greatest_of size_in (named held_name name fs)) (greatest_of align_in (named held_name name fs)) (greatest_same size_in (named held_name name fs)) (greatest_same align_in (named held_name name fs))
     ∙ ap (option_and_then (winner_from command (held (named held_name name fs)))) (winner_same files name fs)
-    ∙ ap (λ (gs : List Found). option_and_then (winner_from command gs) (find (λ (g : Found). found_word g == least files name) gs)) named_is
+    ∙ ap (λ (gs : List FileCandidate). option_and_then (winner_from command gs) (find (λ (g : FileCandidate). found_word g == least files name) gs)) named_is
 
 -- ---- the chosen ones of some names
 
@@ -145,7 +145,7 @@ pub record AreThose (files : List LoadedFile) (names : List (List ℕ)) (fs : Li
 -- a candidate's name is among the names
 name_there : (files : List LoadedFile) (names : List (List ℕ)) (fs : List FoundIn) (f : FoundIn) → AreNamed names files → held fs ≡ found files → In f fs → In (held_name f) names
 name_there files names fs f named_all is there =
-    let one : In (found_of f) (found files) = subst (λ (xs : List Found). In (found_of f) xs) is (in_map found_of fs f there) in
+    let one : In (found_of f) (found files) = subst (λ (xs : List FileCandidate). In (found_of f) xs) is (in_map found_of fs f there) in
     let two : In (candidate_of (found_of f)) (candidates files) = subst (λ (xs : List Candidate). In (candidate_of (found_of f)) xs) (sym (same_all files)) (in_map candidate_of (found files) (found_of f) one) in
     in_from_Contains names (held_name f) (All-contains (λ (c : Candidate). Contains names c.symbol.name) (candidates files) (candidate_of (found_of f)) named_all (Contains_from_in (candidates files) (candidate_of (found_of f)) two))
 

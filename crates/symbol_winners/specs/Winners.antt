@@ -6,22 +6,22 @@ use Rattle.std.specs.Ordering.{nat_cmp}
 use Rattle.std.specs.declared.cmp.Ordering.TheVariants.{Less}
 use Rattle.std.specs.Cmp.Lexicographic.{slice_cmp}
 use Rattle.std.specs.Str.{bytes_eq}
-use Rattle.mo_cmd.specs.declared.command.Command.{Command}
+use Rattle.command_line.specs.declared.command.Command.{Command}
 use Rattle.mo_types.specs.Candidates.{least, strength, word_of}
 use Rattle.mo_types.specs.declared.loaded.LoadedFile.{LoadedFile}
 use Rattle.mo_types.specs.declared.object.Symbol.{Symbol}
 use Rattle.mo_types.specs.declared.object.SymbolKind.{SymbolKind}
 use Rattle.mo_types.specs.declared.object.SymbolKind.TheVariants.{Common}
-use Rattle.symbol_winners.specs.Found.{Found, found_for}
+use Rattle.symbol_winners.specs.Found.{FileCandidate, found_for}
 use Rattle.symbol_winners.specs.Places.{place_of}
 use Rattle.symbol_winners.specs.declared.places.Place.{Place}
 use Rattle.symbol_winners.specs.declared.winner.Winner.{Winner}
 
-abbrev pub found_word : Found → ℕ
+abbrev pub found_word : FileCandidate → ℕ
 found_word f = word_of f.file.id f.index f.symbol
 
 -- the candidate of a name that has the least word of them
-unfoldable pub winning : List LoadedFile → List ℕ → Option Found
+unfoldable pub winning : List LoadedFile → List ℕ → Option FileCandidate
 winning files name = find (λ f. found_word f == least files name) (found_for files name)
 
 -- a name is in a list
@@ -53,14 +53,14 @@ is_common (Common align size) = 1 == 1
 is_common _ = false
 
 -- the greatest size, and the greatest alignment, of the common symbols among some candidates
-unfoldable pub greatest_size : List Found → ℕ
+unfoldable pub greatest_size : List FileCandidate → ℕ
 greatest_size fs = fold max 0 (map (λ f. size_in f.symbol.kind) fs)
 
-unfoldable pub greatest_align : List Found → ℕ
+unfoldable pub greatest_align : List FileCandidate → ℕ
 greatest_align fs = fold max 0 (map (λ f. align_in f.symbol.kind) fs)
 
 -- a candidate as the winner, of the greatest size and alignment of the common symbols of its name where it is one
-abbrev pub winner_at : Bool → ℕ → ℕ → Found → Place → Winner
+abbrev pub winner_at : Bool → ℕ → ℕ → FileCandidate → Place → Winner
 winner_at exported size align f place = record {
   name = f.symbol.name;
   word = found_word f;
@@ -73,10 +73,10 @@ winner_at exported size align f place = record {
   exported = exported;
 }
 
-abbrev pub winner_by : Bool → ℕ → ℕ → Found → Option Winner
+abbrev pub winner_by : Bool → ℕ → ℕ → FileCandidate → Option Winner
 winner_by exported size align f = option_map (winner_at exported size align f) (place_of f.file f.index f.symbol.kind)
 
-abbrev pub winner_from : Command → List Found → Found → Option Winner
+abbrev pub winner_from : Command → List FileCandidate → FileCandidate → Option Winner
 winner_from command all f = winner_by (is_exported command f.symbol) (greatest_size all) (greatest_align all) f
 
 -- the winner of a name, or none where no file has a candidate

@@ -2,11 +2,11 @@
 ghost use Rattle.std.specs.Prelude.{◌≡◌, ◌≤◌, ◌<◌, ◌++◌, ◌∷◌, ℕ, [], List, Some, All, IfOk, length, map, position};
 ghost use Rattle.std.specs.List.{AllByRecursion};
 ghost use Rattle.std.specs.Str.{bytes_eq};
-ghost use Rattle.mo_cmd.specs.declared.command.Command.{Command as Commanded};
+ghost use Rattle.command_line.specs.declared.command.Command.{Command as Commanded};
 ghost use Rattle.mo_types.specs.Loaded.{IsWholeFile};
 ghost use Rattle.mo_types.specs.declared.loaded.LoadedFile.{LoadedFile as Loads};
 ghost use Rattle.name_ids.specs.Names.{IsNumbering, numbers_in, numbers_of};
-ghost use Rattle.symbol_winners.specs.Found.{Found, found, found_in};
+ghost use Rattle.symbol_winners.specs.Found.{FileCandidate, found, found_in};
 ghost use Rattle.symbol_winners.specs.Places as places;
 ghost use Rattle.symbol_winners.specs.Winners as winners;
 ghost use Rattle.symbol_winners.specs.Winners.{AreLeast};
@@ -69,7 +69,7 @@ fn note_file<'a>(
     requires words { length words.now ≡ length names.now }
     requires numbers { numbers.now ≡ numbers_in names.now file.now }
     ensures size { length table.new.items ≡ length table.old.items }
-    ensures bests { (files : List Loads) (all : List Found) → AreLeast files names.now words.now → HasBests files names.now all table.old.items → HasBests files names.now (all ++ found_in file.now) table.new.items }
+    ensures bests { (files : List Loads) (all : List FileCandidate) → AreLeast files names.now words.now → HasBests files names.now all table.old.items → HasBests files names.now (all ++ found_in file.now) table.new.items }
 {
     for (i, symbol) in file.object.symbols.as_slice().iter().enumerate() {
         if file.object.is_candidate(symbol) {

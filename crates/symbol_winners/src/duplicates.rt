@@ -3,7 +3,7 @@ ghost use Rattle.std.specs.Prelude.{◌≡◌, ◌<◌, ◌==◌, ◌&&◌, ◌�
 ghost use Rattle.mo_types.specs.Candidates.{Candidate, is_candidate, strength};
 ghost use Rattle.mo_types.specs.Loaded.{IsWholeLoaded};
 ghost use Rattle.name_ids.specs.Names.{IsNumbering, number_of, numbers_in, numbers_of};
-ghost use Rattle.symbol_winners.specs.Found.{AreNamed, Found, found, found_in};
+ghost use Rattle.symbol_winners.specs.Found.{AreNamed, FileCandidate, found, found_in};
 ghost use Rattle.symbol_winners.specs.Duplicates.{IsDuplicate};
 ghost use Rattle.symbol_winners.specs.inner.Tables.{AreFirsts, IsLeastOf, better_of, name_at, strong_among};
 ghost use Rattle.symbol_winners.specs.inner.Tables as tables;
@@ -43,7 +43,7 @@ fn note_file(table: &mut Vec<Firsts>, names: &NameTable, file: &LoadedFile, numb
     requires table { length table.old.items ≡ length names.now }
     requires numbers { numbers.now ≡ numbers_in names.now file.now }
     ensures size { length table.new.items ≡ length table.old.items }
-    ensures firsts { (all : List Found) → AreFirsts names.now (strong_among all) table.old.items → AreFirsts names.now (strong_among (all ++ found_in file.now)) table.new.items }
+    ensures firsts { (all : List FileCandidate) → AreFirsts names.now (strong_among all) table.old.items → AreFirsts names.now (strong_among (all ++ found_in file.now)) table.new.items }
 {
     for (i, symbol) in file.object.symbols.as_slice().iter().enumerate() {
         if is_strong(file, symbol) {

@@ -1,11 +1,11 @@
 //! Which definitions other images see.
 ghost use Rattle.std.specs.Prelude.{◌≡◌, IfOk};
-ghost use Rattle.mo_cmd.specs.declared.command.Command.{Command};
+ghost use Rattle.command_line.specs.declared.command.Command.{Command};
 ghost use Rattle.symbol_winners.specs.Winners as winners;
 ghost use Rattle.symbol_winners.specs.inner.Index.{AreRules};
 
 use crate::name_set::{NameSet, set_of};
-use mo_cmd::Command;
+use command_line::Command;
 use mo_types::{OutOfMemory, Symbol};
 use std::alloc::Global;
 

@@ -1,7 +1,7 @@
 //! What the words of candidates, winners and duplicates mean, each on a call that does nothing.
 ghost use Rattle.std.specs.Prelude.{◌≡◌, ◌<◌, ℕ, List, Option, Contains, Ok};
 ghost use Rattle.std.specs.declared.cmp.Ordering.TheVariants.{Less};
-ghost use Rattle.mo_cmd.specs.declared.command.Command.{Command};
+ghost use Rattle.command_line.specs.declared.command.Command.{Command};
 ghost use Rattle.mo_types.specs.Candidates.{Candidate, candidate_word, strength};
 ghost use Rattle.mo_types.specs.Keys.{compare_files};
 ghost use Rattle.mo_types.specs.Loaded.{IsWholeLoaded};

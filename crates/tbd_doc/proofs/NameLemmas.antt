@@ -7,7 +7,7 @@ use Rattle.std.proofs.lemmas.List.Elements.{filter-append}
 use Rattle.std.proofs.lemmas.List.{take_all, take_more, flat_map_more, map-append}
 use Rattle.tbd_yaml.specs.Tree.{Tree}
 use Rattle.tbd_doc.specs.declared.names.NameKind.{NameKind}
-use Rattle.tbd_doc.specs.Nodes.{Field, text_of, items_of, fields_of, texts_under, value_of}
+use Rattle.tbd_doc.specs.Nodes.{KeyedNode, text_of, items_of, fields_of, texts_under, value_of}
 use Rattle.tbd_doc.specs.Exports.{counts, counted, items_under, is_symbol, symbols_under, prefixed_under, library_names}
 use Rattle.tbd_doc.specs.inner.Texts.{text_list, names_of, counted_names}
 
@@ -62,24 +62,24 @@ texts_gathered node g both none at found places seen start more there items same
     ∙ ap (λ xs. start ++ xs) (texts_there node g both none seen ∙ ap (λ ps. g (filter_map text_of (map node ps))) same
     ∙ ap (λ ts. g (filter_map text_of ts)) items ∙ ap (λ value. g (texts_under value)) there)
 
-pub libraries_gathered : (node : ℕ → Tree) (at : ℕ) (fields : List Field) (places seen : List ℕ) (start more : List (List ℕ)) → Some (node at) ≡ value_of (codes "libraries") fields → map node places ≡ items_of (node at) → seen ≡ places
+pub libraries_gathered : (node : ℕ → Tree) (at : ℕ) (fields : List KeyedNode) (places seen : List ℕ) (start more : List (List ℕ)) → Some (node at) ≡ value_of (codes "libraries") fields → map node places ≡ items_of (node at) → seen ≡ places
     → more ≡ start ++ flat_map (λ place. text_list (node place)) seen → more ≡ start ++ library_names fields
 unfolding library_names
 libraries_gathered node at fields = texts_gathered node (λ names. names) (λ a b. refl) refl at (value_of (codes "libraries") fields)
 
-pub symbols_gathered : (node : ℕ → Tree) (at : ℕ) (key : List ℕ) (fields : List Field) (places seen : List ℕ) (start more : List (List ℕ)) → Some (node at) ≡ value_of key fields → map node places ≡ items_of (node at) → seen ≡ places
+pub symbols_gathered : (node : ℕ → Tree) (at : ℕ) (key : List ℕ) (fields : List KeyedNode) (places seen : List ℕ) (start more : List (List ℕ)) → Some (node at) ≡ value_of key fields → map node places ≡ items_of (node at) → seen ≡ places
     → more ≡ start ++ flat_map (λ place. filter is_symbol (text_list (node place))) seen → more ≡ start ++ symbols_under key fields
 unfolding symbols_under
 symbols_gathered node at key fields = texts_gathered node (filter is_symbol) (filter-append is_symbol) refl at (value_of key fields)
 
-pub prefixed_gathered : (node : ℕ → Tree) (at : ℕ) (prefix key : List ℕ) (fields : List Field) (places seen : List ℕ) (start more : List (List ℕ)) → Some (node at) ≡ value_of key fields → map node places ≡ items_of (node at) → seen ≡ places
+pub prefixed_gathered : (node : ℕ → Tree) (at : ℕ) (prefix key : List ℕ) (fields : List KeyedNode) (places seen : List ℕ) (start more : List (List ℕ)) → Some (node at) ≡ value_of key fields → map node places ≡ items_of (node at) → seen ≡ places
     → more ≡ start ++ flat_map (λ place. map (λ name. prefix ++ name) (text_list (node place))) seen → more ≡ start ++ prefixed_under prefix key fields
 unfolding prefixed_under
 prefixed_gathered node at prefix key fields = texts_gathered node (map (λ name. prefix ++ name)) (map-append (λ name. prefix ++ name)) refl at (value_of key fields)
 
 -- The names of the items that count.
 
-counted_step : (test : Bool) (names : List (List ℕ)) (f : List Field → List (List ℕ)) (item : List Field) (others : List (List Field)) → names ≡ f item
+counted_step : (test : Bool) (names : List (List ℕ)) (f : List KeyedNode → List (List ℕ)) (item : List KeyedNode) (others : List (List KeyedNode)) → names ≡ f item
     → cond test names [] ++ flat_map f others ≡ flat_map f (cond test (item ∷ others) others)
 counted_step true names f item others is = ap (λ xs. xs ++ flat_map f others) is
 counted_step false names f item others is = refl
@@ -91,7 +91,7 @@ counted_there node kind target (place ∷ places) =
     ap (λ xs. counted_names kind target (fields_of (node place)) ++ xs) (counted_there node kind target places)
     ∙ counted_step (counts target (fields_of (node place))) (names_of kind (fields_of (node place))) (names_of kind) (fields_of (node place)) (filter (counts target) (map fields_of (map node places))) refl
 
-pub counted_gathered : (node : ℕ → Tree) (kind : NameKind) (at : ℕ) (target key : List ℕ) (fields : List Field) (places seen : List ℕ) (start more : List (List ℕ)) → Some (node at) ≡ value_of key fields → map node places ≡ items_of (node at) → seen ≡ places
+pub counted_gathered : (node : ℕ → Tree) (kind : NameKind) (at : ℕ) (target key : List ℕ) (fields : List KeyedNode) (places seen : List ℕ) (start more : List (List ℕ)) → Some (node at) ≡ value_of key fields → map node places ≡ items_of (node at) → seen ≡ places
     → more ≡ start ++ flat_map (λ place. counted_names kind target (fields_of (node place))) seen → more ≡ start ++ flat_map (names_of kind) (counted target key fields)
 unfolding counted
 counted_gathered node kind at target key fields places seen start more there items same gathered =

@@ -5,10 +5,10 @@ use Rattle.std.specs.Str.{bytes_eq}
 use Rattle.std.proofs.lemmas.Bool.{false≢true}
 use Rattle.std.proofs.lemmas.List.{drop_all, drop_more}
 use Rattle.std.proofs.lemmas.Option.{get_or_from_slice_get}
-use Rattle.tbd_yaml.specs.declared.file.YamlEvent.{YamlEvent}
-use Rattle.tbd_yaml.specs.declared.file.YamlEvent.TheVariants as event
+use Rattle.yaml_text.specs.declared.file.YamlEvent.{YamlEvent}
+use Rattle.yaml_text.specs.declared.file.YamlEvent.TheVariants as event
 use Rattle.tbd_yaml.specs.Tree.{Tree, scalar, list, map as map_of, events_of}
-use Rattle.tbd_doc.specs.Nodes.{Field, items_of, fields_of, value_of}
+use Rattle.tbd_doc.specs.Nodes.{KeyedNode, items_of, fields_of, value_of}
 use Rattle.tbd_doc.specs.Forms.{is_list, is_map}
 use Rattle.tbd_doc.specs.inner.Places.{tree_at, IsNode, field_at, key_of, key_in, nodes_from, depth_after, is_end, is_node, first_event}
 use Rattle.tbd_doc.proofs.WalkLemmas.{items_found, fields_found, nodes_found}
@@ -143,11 +143,11 @@ look_starts events key fields = record { same = refl }
 field_here : (events : List YamlEvent) (fields : List ℕ) (at place : ℕ) → at < length fields → place ≡ get_or fields at 0 → map (field_at events) (drop at fields) ≡ field_at events place ∷ map (field_at events) (drop (at + 1) fields)
 field_here events fields at place within is = ap (map (field_at events)) (drop_more fields at 0 within ∙ ap (λ (p : ℕ). p ∷ drop (at + 1) fields) (sym is))
 
-value_here : (key : List ℕ) (field : Field) (others : List Field) → bytes_eq field.key key ≡ true → value_of key (field ∷ others) ≡ Some field.value
+value_here : (key : List ℕ) (field : KeyedNode) (others : List KeyedNode) → bytes_eq field.key key ≡ true → value_of key (field ∷ others) ≡ Some field.value
 unfolding value_of
 value_here key field others same = rw same refl
 
-value_later : (key : List ℕ) (field : Field) (others : List Field) → bytes_eq field.key key ≡ false → value_of key (field ∷ others) ≡ value_of key others
+value_later : (key : List ℕ) (field : KeyedNode) (others : List KeyedNode) → bytes_eq field.key key ≡ false → value_of key (field ∷ others) ≡ value_of key others
 unfolding value_of
 value_later key field others other = rw other refl
 

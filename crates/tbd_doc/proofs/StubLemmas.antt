@@ -9,15 +9,15 @@ use Rattle.std.proofs.lemmas.Grind.{flat_map-append}
 use Rattle.std.proofs.lemmas.List.{drop_all, drop_more}
 use Rattle.mo_types.specs.Gives.{◌>>=◌, Gives}
 use Rattle.tbd_yaml.specs.Tree.{HasTree, events_of}
-use Rattle.tbd_yaml.specs.declared.file.YamlDoc.{YamlDoc}
-use Rattle.tbd_yaml.specs.declared.file.YamlEvent.{YamlEvent}
-use Rattle.tbd_yaml.specs.declared.file.YamlFile.{YamlFile}
+use Rattle.yaml_text.specs.declared.file.YamlDoc.{YamlDoc}
+use Rattle.yaml_text.specs.declared.file.YamlEvent.{YamlEvent}
+use Rattle.yaml_text.specs.declared.file.YamlFile.{YamlFile}
 use Rattle.tbd_doc.specs.declared.fault.StubFault.{StubFault}
 use Rattle.tbd_doc.specs.declared.fault.StubFault.TheVariants.{NotTbd4, NoTarget, BadKey}
 use Rattle.tbd_doc.specs.declared.stub.Export.{Export}
 use Rattle.tbd_doc.specs.declared.stub.Stub.{Stub}
 use Rattle.tbd_doc.specs.declared.stub.StubFile.{StubFile}
-use Rattle.tbd_doc.specs.Nodes.{Field, fields_of, tree_of, text_under}
+use Rattle.tbd_doc.specs.Nodes.{KeyedNode, fields_of, tree_of, text_under}
 use Rattle.tbd_doc.specs.Forms.{is_well_formed}
 use Rattle.tbd_doc.specs.Exports.{exporting, exported_names, weak_names, AreInOrder}
 use Rattle.tbd_doc.specs.Stubs.{IsStubFault, IsWholeStub, IsWhole, is_tbd4, target_of, text_or_empty, version_or_one, libraries_of, exports_for, stub_of, stub_for, stub_at, stubs_from, stub_file_of, with_stub}
@@ -89,13 +89,13 @@ reading_ends docs at stubs reading past =
 
 pub ruleset reading = (reading_starts, reading_goes_on, reading_stops, reading_ends)
 
-pub stub_made : (target : List ℕ) (fields : List Field) (install : List ℕ) (current compatible : ℕ) (reexports : List (List ℕ)) (exports : List Export)
+pub stub_made : (target : List ℕ) (fields : List KeyedNode) (install : List ℕ) (current compatible : ℕ) (reexports : List (List ℕ)) (exports : List Export)
     → install ≡ text_or_empty (text_under (codes "install-name") fields) → current ≡ version_or_one (text_under (codes "current-version") fields) → compatible ≡ version_or_one (text_under (codes "compatibility-version") fields)
     → reexports ≡ libraries_of target fields → exports ≡ exports_for target fields → a_stub install current compatible reexports exports ≡ stub_of target fields
 unfolding stub_of
 stub_made target fields install current compatible reexports exports i c d r e = rw (i, c, d, r, e) refl
 
-pub stub_held : (result : Result (Option Stub) StubFault) (number : ℕ) (tag : List ℕ) (fields : List Field) (target : Option (List ℕ)) → is_tbd4 tag fields ≡ true → target ≡ target_of fields
+pub stub_held : (result : Result (Option Stub) StubFault) (number : ℕ) (tag : List ℕ) (fields : List KeyedNode) (target : Option (List ℕ)) → is_tbd4 tag fields ≡ true → target ≡ target_of fields
     → Gives IsStubFault result (stub_for number fields target) → Gives IsStubFault result (stub_at number tag fields)
 unfolding stub_at
 stub_held result number tag fields target test is gives = rw test (subst (λ t. Gives IsStubFault result (stub_for number fields t)) is gives)
@@ -115,11 +115,11 @@ passed_on returned fault given is at_fault =
 
 -- What is read is whole.
 
-exports_whole : (target : List ℕ) (fields : List Field) → AreInOrder (exports_for target fields)
+exports_whole : (target : List ℕ) (fields : List KeyedNode) → AreInOrder (exports_for target fields)
 unfolding exports_for
 exports_whole target fields = exports_in_order (flat_map exported_names (exporting target fields)) (flat_map weak_names (exporting target fields))
 
-stub_whole : (target : List ℕ) (fields : List Field) → IsWholeStub (stub_of target fields)
+stub_whole : (target : List ℕ) (fields : List KeyedNode) → IsWholeStub (stub_of target fields)
 unfolding stub_of
 stub_whole target fields = exports_whole target fields
 
@@ -135,11 +135,11 @@ the_stub : (test : Bool) (made stub : Stub) (number : ℕ) → (if test then Ok 
 the_stub true made stub number is = cc
 the_stub false made stub number is = absurd (cc)
 
-for_whole : (number : ℕ) (fields : List Field) (target : Option (List ℕ)) (stub : Stub) → stub_for number fields target ≡ Ok (Some stub) → IsWholeStub stub
+for_whole : (number : ℕ) (fields : List KeyedNode) (target : Option (List ℕ)) (stub : Stub) → stub_for number fields target ≡ Ok (Some stub) → IsWholeStub stub
 for_whole number fields None stub is = absurd (no_stub (number == 0) stub is)
 for_whole number fields (Some target) stub is = subst IsWholeStub (the_stub (is_well_formed fields) (stub_of target fields) stub number is) (stub_whole target fields)
 
-at_whole : (number : ℕ) (tag : List ℕ) (fields : List Field) (stub : Stub) → stub_at number tag fields ≡ Ok (Some stub) → IsWholeStub stub
+at_whole : (number : ℕ) (tag : List ℕ) (fields : List KeyedNode) (stub : Stub) → stub_at number tag fields ≡ Ok (Some stub) → IsWholeStub stub
 unfolding stub_at
 at_whole number tag fields stub is = for_whole number fields (target_of fields) stub (tbd4_only (is_tbd4 tag fields) (stub_for number fields (target_of fields)) stub is)
 

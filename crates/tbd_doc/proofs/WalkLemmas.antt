@@ -7,10 +7,10 @@ use Rattle.std.proofs.lemmas.Bool.{false≢true}
 use Rattle.std.proofs.lemmas.Grind.{common_steps}
 use Rattle.std.proofs.lemmas.List.{drop-drop}
 use Rattle.std.proofs.lemmas.List.Elements.{All-from_recursion}
-use Rattle.tbd_yaml.specs.declared.file.YamlEvent.{YamlEvent}
-use Rattle.tbd_yaml.specs.declared.file.YamlEvent.TheVariants as event
+use Rattle.yaml_text.specs.declared.file.YamlEvent.{YamlEvent}
+use Rattle.yaml_text.specs.declared.file.YamlEvent.TheVariants as event
 use Rattle.tbd_yaml.specs.Tree.{Tree, scalar, list, map, Trees, no_trees, tree, Pairs, no_pairs, pair, events_of, tree_events, pair_events}
-use Rattle.tbd_doc.specs.Nodes.{Field, Opened, with_node, with_event, blocks_of, first_node, tree_of, items_in, fields_in, items_of, fields_of}
+use Rattle.tbd_doc.specs.Nodes.{KeyedNode, Opened, with_node, with_event, blocks_of, first_node, tree_of, items_in, fields_in, items_of, fields_of}
 use Rattle.tbd_doc.specs.Forms.{is_list, is_map}
 use Rattle.tbd_doc.specs.inner.Places.{tree_at, IsNode, field_at, key_in, nodes_from}
 
@@ -125,7 +125,7 @@ trees_are_nodes (tree t items) events more at is =
     subst (AllByRecursion (IsNode events)) (sym places)
     (node_here events at t (tree_events items ++ more) here, trees_are_nodes items events more (at + length (events_of t)) next)
 
-abbrev a_field : List ℕ → Tree → Field
+abbrev a_field : List ℕ → Tree → KeyedNode
 a_field key value = record { key = key; value = value }
 
 -- the nodes of a map are its values, each behind its key

@@ -7,7 +7,7 @@ use Rattle.std.specs.Ordering.{nat_cmp, match_ordering, on}
 use Rattle.std.specs.Cmp.Lexicographic.{slice_cmp}
 use Rattle.tbd_yaml.specs.Tree.{Tree}
 use Rattle.tbd_doc.specs.declared.stub.Export.{Export}
-use Rattle.tbd_doc.specs.Nodes.{Field, items_of, fields_of, value_of, texts_under}
+use Rattle.tbd_doc.specs.Nodes.{KeyedNode, items_of, fields_of, value_of, texts_under}
 use Rattle.tbd_doc.specs.Forms.{has_text}
 
 -- a name that is no directive to the linker (ld(1)'s `$ld$` symbols)
@@ -15,48 +15,48 @@ abbrev pub is_symbol : List ℕ → Bool
 is_symbol name = not (starts_with nat_eq name (codes "$ld$"))
 
 -- the symbols that a list under a key names
-unfoldable pub symbols_under : List ℕ → List Field → List (List ℕ)
+unfoldable pub symbols_under : List ℕ → List KeyedNode → List (List ℕ)
 symbols_under key fields = filter is_symbol (texts_under (value_of key fields))
 
 -- the symbols of the classes, types or variables that a list under a key names
-unfoldable pub prefixed_under : List ℕ → List ℕ → List Field → List (List ℕ)
+unfoldable pub prefixed_under : List ℕ → List ℕ → List KeyedNode → List (List ℕ)
 prefixed_under prefix key fields = map (λ name. prefix ++ name) (texts_under (value_of key fields))
 
 -- the install names of the libraries that an item re-exports
-unfoldable pub library_names : List Field → List (List ℕ)
+unfoldable pub library_names : List KeyedNode → List (List ℕ)
 library_names fields = texts_under (value_of (codes "libraries") fields)
 
 -- what an item exports weakly, and all that it exports
-unfoldable pub weak_names : List Field → List (List ℕ)
+unfoldable pub weak_names : List KeyedNode → List (List ℕ)
 weak_names fields = symbols_under (codes "weak-symbols") fields
 
-abbrev pub symbol_names : List Field → List (List ℕ)
+abbrev pub symbol_names : List KeyedNode → List (List ℕ)
 symbol_names fields =
     symbols_under (codes "symbols") fields ++ symbols_under (codes "weak-symbols") fields
     ++ symbols_under (codes "thread-local-symbols") fields
 
-abbrev pub class_names : List Field → List (List ℕ)
+abbrev pub class_names : List KeyedNode → List (List ℕ)
 class_names fields =
     prefixed_under (codes "_OBJC_CLASS_$_") (codes "objc-classes") fields
     ++ prefixed_under (codes "_OBJC_METACLASS_$_") (codes "objc-classes") fields
     ++ prefixed_under (codes "_OBJC_EHTYPE_$_") (codes "objc-eh-types") fields
     ++ prefixed_under (codes "_OBJC_IVAR_$_") (codes "objc-ivars") fields
 
-unfoldable pub exported_names : List Field → List (List ℕ)
+unfoldable pub exported_names : List KeyedNode → List (List ℕ)
 exported_names fields = symbol_names fields ++ class_names fields
 
 -- the fields of the items under a key that count for a target
-abbrev pub counts : List ℕ → List Field → Bool
+abbrev pub counts : List ℕ → List KeyedNode → Bool
 counts target fields = has_text (codes "targets") fields target
 
-abbrev pub items_under : Option Tree → List (List Field)
+abbrev pub items_under : Option Tree → List (List KeyedNode)
 items_under None = []
 items_under (Some node) = map fields_of (items_of node)
 
-unfoldable pub counted : List ℕ → List ℕ → List Field → List (List Field)
+unfoldable pub counted : List ℕ → List ℕ → List KeyedNode → List (List KeyedNode)
 counted target key fields = filter (counts target) (items_under (value_of key fields))
 
-abbrev pub exporting : List ℕ → List Field → List (List Field)
+abbrev pub exporting : List ℕ → List KeyedNode → List (List KeyedNode)
 exporting target fields = counted target (codes "exports") fields ++ counted target (codes "reexports") fields
 
 -- a name among names that stand in order, each once

@@ -3,12 +3,12 @@ use Rattle.std.specs.Prelude.{ℕ, List, [], ◌∷◌, Option, Some, None}
 use Rattle.std.specs.List.{find, filter_map}
 use Rattle.std.specs.Option.{option_and_then, option_map}
 use Rattle.std.specs.Str.{bytes_eq}
-use Rattle.tbd_yaml.specs.declared.file.YamlEvent.{YamlEvent}
-use Rattle.tbd_yaml.specs.declared.file.YamlEvent.TheVariants as event
+use Rattle.yaml_text.specs.declared.file.YamlEvent.{YamlEvent}
+use Rattle.yaml_text.specs.declared.file.YamlEvent.TheVariants as event
 use Rattle.tbd_yaml.specs.Tree.{Tree, scalar, list, map, Trees, no_trees, tree, Pairs, no_pairs, pair}
 
 -- a key of a map with its value
-pub record Field : Type 0 where
+pub record KeyedNode : Type 0 where
   pub key : List ℕ
   pub value : Tree
 
@@ -16,7 +16,7 @@ abbrev pub items_in : Trees → List Tree
 items_in no_trees = []
 items_in (tree item items) = item ∷ items_in items
 
-abbrev pub fields_in : Pairs → List Field
+abbrev pub fields_in : Pairs → List KeyedNode
 fields_in no_pairs = []
 fields_in (pair key value pairs) = record { key = key; value = value } ∷ fields_in pairs
 
@@ -27,13 +27,13 @@ items_of (map pairs) = []
 items_of (scalar text) = []
 
 -- the fields of a map; other nodes have none
-abbrev pub fields_of : Tree → List Field
+abbrev pub fields_of : Tree → List KeyedNode
 fields_of (map pairs) = fields_in pairs
 fields_of (list items) = []
 fields_of (scalar text) = []
 
 -- the value under a key
-unfoldable pub value_of : List ℕ → List Field → Option Tree
+unfoldable pub value_of : List ℕ → List KeyedNode → Option Tree
 value_of key fields = option_map (λ field. field.value) (find (λ field. bytes_eq field.key key) fields)
 
 -- the text of a scalar
@@ -43,7 +43,7 @@ text_of (list items) = None
 text_of (map pairs) = None
 
 -- the text under a key, where it is a scalar
-unfoldable pub text_under : List ℕ → List Field → Option (List ℕ)
+unfoldable pub text_under : List ℕ → List KeyedNode → Option (List ℕ)
 text_under key fields = option_and_then text_of (value_of key fields)
 
 -- the scalars among the items of a list

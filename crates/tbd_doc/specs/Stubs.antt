@@ -5,14 +5,14 @@ use Rattle.std.specs.Str.{bytes_eq}
 use Rattle.mo_cmd.specs.Numbers.{version_of}
 use Rattle.mo_types.specs.Gives.{◌>>=◌}
 use Rattle.tbd_yaml.specs.Tree.{HasTree}
-use Rattle.tbd_yaml.specs.declared.file.YamlDoc.{YamlDoc}
-use Rattle.tbd_yaml.specs.declared.file.YamlFile.{YamlFile}
+use Rattle.yaml_text.specs.declared.file.YamlDoc.{YamlDoc}
+use Rattle.yaml_text.specs.declared.file.YamlFile.{YamlFile}
 use Rattle.tbd_doc.specs.declared.fault.StubFault.{StubFault}
 use Rattle.tbd_doc.specs.declared.fault.StubFault.TheVariants.{NotTbd4, NoTarget, BadKey, OutOfMemory}
 use Rattle.tbd_doc.specs.declared.stub.Export.{Export}
 use Rattle.tbd_doc.specs.declared.stub.Stub.{Stub}
 use Rattle.tbd_doc.specs.declared.stub.StubFile.{StubFile}
-use Rattle.tbd_doc.specs.Nodes.{Field, fields_of, text_under, tree_of}
+use Rattle.tbd_doc.specs.Nodes.{KeyedNode, fields_of, text_under, tree_of}
 use Rattle.tbd_doc.specs.Forms.{is_well_formed, has_text}
 use Rattle.tbd_doc.specs.Exports.{counted, exporting, library_names, exported_names, weak_names, exports_of, AreInOrder}
 
@@ -44,28 +44,28 @@ is_text None text = false
 is_text (Some found) text = bytes_eq found text
 
 -- a document of TBD version 4
-unfoldable pub is_tbd4 : List ℕ → List Field → Bool
+unfoldable pub is_tbd4 : List ℕ → List KeyedNode → Bool
 is_tbd4 tag fields = bytes_eq tag (codes "!tapi-tbd") && is_text (text_under (codes "tbd-version") fields) (codes "4")
 
-abbrev pub holds_target : List ℕ → List Field → Bool
+abbrev pub holds_target : List ℕ → List KeyedNode → Bool
 holds_target target fields = has_text (codes "targets") fields target
 
 -- the target that a document is for: arm64 before arm64e
-unfoldable pub target_of : List Field → Option (List ℕ)
+unfoldable pub target_of : List KeyedNode → Option (List ℕ)
 target_of fields =
     if holds_target (codes "arm64-macos") fields then Some (codes "arm64-macos")
     else if holds_target (codes "arm64e-macos") fields then Some (codes "arm64e-macos")
     else None
 
 -- the libraries that a document re-exports for a target, and what it exports itself
-unfoldable pub libraries_of : List ℕ → List Field → List (List ℕ)
+unfoldable pub libraries_of : List ℕ → List KeyedNode → List (List ℕ)
 libraries_of target fields = flat_map library_names (counted target (codes "reexported-libraries") fields)
 
-unfoldable pub exports_for : List ℕ → List Field → List Export
+unfoldable pub exports_for : List ℕ → List KeyedNode → List Export
 exports_for target fields = exports_of (flat_map exported_names (exporting target fields)) (flat_map weak_names (exporting target fields))
 
 -- what a document says for a target
-unfoldable pub stub_of : List ℕ → List Field → Stub
+unfoldable pub stub_of : List ℕ → List KeyedNode → Stub
 stub_of target fields = record {
   install = text_or_empty (text_under (codes "install-name") fields);
   current = version_or_one (text_under (codes "current-version") fields);
@@ -76,11 +76,11 @@ stub_of target fields = record {
 
 -- Of a document by its number what it says for its target, nothing where it is passed over, or its fault: the first
 -- document has to have a target.
-abbrev pub stub_for : ℕ → List Field → Option (List ℕ) → Result (Option Stub) StubFault
+abbrev pub stub_for : ℕ → List KeyedNode → Option (List ℕ) → Result (Option Stub) StubFault
 stub_for doc fields None = if doc == 0 then Err NoTarget else Ok None
 stub_for doc fields (Some target) = if is_well_formed fields then Ok (Some (stub_of target fields)) else Err (BadKey doc)
 
-unfoldable pub stub_at : ℕ → List ℕ → List Field → Result (Option Stub) StubFault
+unfoldable pub stub_at : ℕ → List ℕ → List KeyedNode → Result (Option Stub) StubFault
 stub_at doc tag fields = if is_tbd4 tag fields then stub_for doc fields (target_of fields) else Err NotTbd4
 
 abbrev pub with_stub : Option Stub → List Stub → List Stub

@@ -2,7 +2,7 @@
 
 ghost use Rattle.std.specs.Prelude.{◌≡◌, ℕ, List, Ok};
 ghost use Rattle.tbd_yaml.specs.Tree.{Tree, events_of};
-ghost use Rattle.tbd_yaml.specs.declared.file.YamlFile.{YamlFile};
+ghost use Rattle.yaml_text.specs.declared.file.YamlFile.{YamlFile};
 ghost use Rattle.tbd_doc.specs.Exports.{AreExports, exports_of};
 ghost use Rattle.tbd_doc.specs.Nodes.{tree_of};
 ghost use Rattle.tbd_doc.specs.Stubs.{IsWhole, stub_file_of};

@@ -4,16 +4,16 @@ use Rattle.std.proofs.lemmas.Bool.{lt-ltb, le-ltb}
 use Rattle.std.specs.Prelude.{nat_lt}
 use Rattle.std.proofs.lemmas.List.{reverse-append, drop-drop, length-drop}
 use Rattle.mo_types.specs.Gives.{Gives}
-use Rattle.tbd_yaml.specs.File.{IsYamlFault}
+use Rattle.yaml_text.specs.FaultText.{IsYamlFault}
 use Rattle.mo_types.specs.declared.cause.Rule.TheVariants as rule
-use Rattle.tbd_yaml.specs.declared.fault.YamlFault.{YamlFault}
-use Rattle.tbd_yaml.specs.declared.fault.YamlFault.TheVariants.{At}
+use Rattle.yaml_text.specs.declared.fault.YamlFault.{YamlFault}
+use Rattle.yaml_text.specs.declared.fault.YamlFault.TheVariants.{At}
 use Rattle.tbd_yaml.specs.declared.block.Block.{Block}
-use Rattle.tbd_yaml.specs.declared.file.YamlEvent.{YamlEvent}
-use Rattle.tbd_yaml.specs.declared.file.YamlEvent.TheVariants as event
+use Rattle.yaml_text.specs.declared.file.YamlEvent.{YamlEvent}
+use Rattle.yaml_text.specs.declared.file.YamlEvent.TheVariants as event
 use Rattle.tbd_yaml.specs.declared.body.Body.{Body}
-use Rattle.tbd_yaml.specs.Lines.{blanks, without_blanks, is_bare, is_item}
-use Rattle.tbd_yaml.specs.Scalars.{key_of}
+use Rattle.yaml_text.specs.Lines.{blanks, without_blanks, is_bare, is_item}
+use Rattle.yaml_text.specs.Scalars.{key_of}
 use Rattle.tbd_yaml.specs.Blocks.{closed_to, goes_on, with_item, with_item_of}
 
 -- the blocks that are left end as all of them do

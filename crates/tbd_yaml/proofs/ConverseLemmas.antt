@@ -5,24 +5,24 @@ use Rattle.std.specs.Prelude.{nat_lt, slice_index, is_none, if◌then◌else◌}
 use Rattle.std.specs.Str.{is_utf8}
 use Rattle.mo_types.specs.Gives.{◌>>=◌}
 use Rattle.mo_types.specs.declared.cause.Rule.TheVariants as rule
-use Rattle.tbd_yaml.specs.declared.fault.YamlFault.{YamlFault}
-use Rattle.tbd_yaml.specs.declared.fault.YamlFault.TheVariants.{At}
-use Rattle.tbd_yaml.specs.declared.file.YamlEvent.{YamlEvent}
-use Rattle.tbd_yaml.specs.declared.file.YamlEvent.TheVariants as event
-use Rattle.tbd_yaml.specs.declared.file.YamlDoc.{YamlDoc}
-use Rattle.tbd_yaml.specs.declared.file.YamlFile.{YamlFile}
+use Rattle.yaml_text.specs.declared.fault.YamlFault.{YamlFault}
+use Rattle.yaml_text.specs.declared.fault.YamlFault.TheVariants.{At}
+use Rattle.yaml_text.specs.declared.file.YamlEvent.{YamlEvent}
+use Rattle.yaml_text.specs.declared.file.YamlEvent.TheVariants as event
+use Rattle.yaml_text.specs.declared.file.YamlDoc.{YamlDoc}
+use Rattle.yaml_text.specs.declared.file.YamlFile.{YamlFile}
 use Rattle.tbd_yaml.specs.declared.block.Block.{Block}
 use Rattle.tbd_yaml.specs.declared.block.Form.{Form}
 use Rattle.tbd_yaml.specs.declared.block.Form.TheVariants as form
 use Rattle.tbd_yaml.specs.declared.body.Body.{Body}
 use Rattle.tbd_yaml.specs.declared.body.FlowList.{FlowList}
-use Rattle.tbd_yaml.specs.declared.flow.FlowPlace.{FlowPlace}
-use Rattle.tbd_yaml.specs.declared.token.Token.{Token}
+use Rattle.yaml_text.specs.declared.flow.FlowPlace.{FlowPlace}
+use Rattle.yaml_text.specs.declared.token.Token.{Token}
 use Rattle.tbd_yaml.specs.declared.reading.Reading.{Reading}
-use Rattle.tbd_yaml.specs.Characters.{is_quote, is_forbidden}
-use Rattle.tbd_yaml.specs.Lines.{lines_of, spaces, blanks, without_blanks, begins_with, is_bare, is_empty, is_ended, trimmed, is_item, is_end, tag_of}
-use Rattle.tbd_yaml.specs.Scalars.{Quoted, Keyed, is_key_end, key_of, quoted_of, quoted_alone, plain_alone, plain_size, scalar_begun, scalar_of}
-use Rattle.tbd_yaml.specs.Flow.{with_tokens, new_state, flow_of}
+use Rattle.yaml_text.specs.Characters.{is_quote, is_forbidden}
+use Rattle.yaml_text.specs.Lines.{lines_of, spaces, blanks, without_blanks, begins_with, is_bare, is_empty, is_ended, trimmed, is_item, is_end, tag_of}
+use Rattle.yaml_text.specs.Scalars.{Quoted, Keyed, is_key_end, key_of, quoted_of, quoted_alone, plain_alone, plain_size, scalar_begun, scalar_of}
+use Rattle.yaml_text.specs.Flow.{with_tokens, new_state, flow_of}
 use Rattle.tbd_yaml.specs.Blocks.{is_key_list, goes_on, closed_to, begins_block, list_form, opening, with_block, answered, closing, placed, has_key, with_key, after_flow, with_flow, with_value, with_rest, with_pair, with_item_of, with_item, is_map_form, is_map, with_entry, with_line_at, with_line, whole_events, new_body}
 use Rattle.tbd_yaml.specs.File.{with_doc, with_mark, with_block_line, flow_in, with_any_line, with_next, ends, finished, new_reading, read_on, file_of}
 use Rattle.tbd_yaml.specs.Tree.{Tree, Trees, Pairs, events_of, tree_events, pair_events}

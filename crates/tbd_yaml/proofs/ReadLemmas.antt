@@ -9,11 +9,12 @@ use Rattle.std.proofs.lemmas.Str.{is_utf8-from_IsUtf8, IsUtf8-from_is_utf8}
 use Rattle.std.specs.Str.{IsUtf8, is_utf8}
 use Rattle.memchr.specs.Find.{IsFirstByte, is_byte}
 use Rattle.mo_types.specs.Gives.{Gives}
-use Rattle.tbd_yaml.specs.declared.fault.YamlFault.{YamlFault}
-use Rattle.tbd_yaml.specs.declared.file.YamlFile.{YamlFile}
+use Rattle.yaml_text.specs.declared.fault.YamlFault.{YamlFault}
+use Rattle.yaml_text.specs.declared.file.YamlFile.{YamlFile}
 use Rattle.tbd_yaml.specs.declared.reading.Reading.{Reading}
-use Rattle.tbd_yaml.specs.Lines.{without_return, whole_lines, lines_of}
-use Rattle.tbd_yaml.specs.File.{IsYamlFault, read_on, with_next, ends, finished, file_of, new_reading}
+use Rattle.yaml_text.specs.Lines.{without_return, whole_lines, lines_of}
+use Rattle.tbd_yaml.specs.File.{read_on, with_next, ends, finished, file_of, new_reading}
+use Rattle.yaml_text.specs.FaultText.{IsYamlFault}
 
 -- Carriage returns
 

@@ -5,26 +5,26 @@ use Rattle.std.specs.Str.{is_utf8}
 use Rattle.std.specs.List.{AllByRecursion}
 use Rattle.mo_types.specs.Gives.{◌>>=◌}
 use Rattle.mo_types.specs.declared.cause.Rule.TheVariants as rule
-use Rattle.tbd_yaml.specs.declared.fault.YamlFault.{YamlFault}
-use Rattle.tbd_yaml.specs.declared.fault.YamlFault.TheVariants.{At}
-use Rattle.tbd_yaml.specs.declared.file.YamlEvent.{YamlEvent}
-use Rattle.tbd_yaml.specs.declared.file.YamlEvent.TheVariants as event
-use Rattle.tbd_yaml.specs.declared.file.YamlDoc.{YamlDoc}
-use Rattle.tbd_yaml.specs.declared.file.YamlFile.{YamlFile}
+use Rattle.yaml_text.specs.declared.fault.YamlFault.{YamlFault}
+use Rattle.yaml_text.specs.declared.fault.YamlFault.TheVariants.{At}
+use Rattle.yaml_text.specs.declared.file.YamlEvent.{YamlEvent}
+use Rattle.yaml_text.specs.declared.file.YamlEvent.TheVariants as event
+use Rattle.yaml_text.specs.declared.file.YamlDoc.{YamlDoc}
+use Rattle.yaml_text.specs.declared.file.YamlFile.{YamlFile}
 use Rattle.tbd_yaml.specs.declared.block.Block.{Block}
 use Rattle.tbd_yaml.specs.declared.block.Form.{Form}
 use Rattle.tbd_yaml.specs.declared.block.Form.TheVariants as form
 use Rattle.tbd_yaml.specs.declared.body.Body.{Body}
 use Rattle.tbd_yaml.specs.declared.body.FlowList.{FlowList}
-use Rattle.tbd_yaml.specs.declared.flow.FlowPlace.{FlowPlace}
-use Rattle.tbd_yaml.specs.declared.flow.FlowState.{FlowState}
-use Rattle.tbd_yaml.specs.declared.token.Token.{Token}
-use Rattle.tbd_yaml.specs.declared.token.Token.TheVariants as token
+use Rattle.yaml_text.specs.declared.flow.FlowPlace.{FlowPlace}
+use Rattle.yaml_text.specs.declared.flow.FlowState.{FlowState}
+use Rattle.yaml_text.specs.declared.token.Token.{Token}
+use Rattle.yaml_text.specs.declared.token.Token.TheVariants as token
 use Rattle.tbd_yaml.specs.declared.reading.Reading.{Reading}
 use Rattle.tbd_yaml.specs.declared.reading.OpenDoc.{OpenDoc}
-use Rattle.tbd_yaml.specs.Lines.{lines_of, spaces, blanks, without_blanks, begins_with, is_bare, is_item, tag_of}
-use Rattle.tbd_yaml.specs.Scalars.{Keyed, key_of, scalar_of}
-use Rattle.tbd_yaml.specs.Flow.{with_token, settled, with_tokens, new_state, tokens_from, flow_of}
+use Rattle.yaml_text.specs.Lines.{lines_of, spaces, blanks, without_blanks, begins_with, is_bare, is_item, tag_of}
+use Rattle.yaml_text.specs.Scalars.{Keyed, key_of, scalar_of}
+use Rattle.yaml_text.specs.Flow.{with_token, settled, with_tokens, new_state, tokens_from, flow_of}
 use Rattle.tbd_yaml.specs.Blocks.{goes_on, closed_to, begins_block, list_form, opening, with_block, answered, closing, placed, has_key, key_added, with_key, after_flow, with_flow, with_value, with_rest, with_pair, with_item_of, with_item, is_map_form, is_map, with_entry, with_line_at, with_line, whole_events}
 use Rattle.tbd_yaml.specs.File.{docs_with, with_doc, with_body, with_text, with_mark, with_block_line, flow_in, with_flow_line, with_any_line, with_next, ends, closed, finished, read_on, file_of}
 use Rattle.tbd_yaml.specs.Tree.{IsWalk, HasTree}

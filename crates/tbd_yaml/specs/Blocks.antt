@@ -4,19 +4,19 @@ use Rattle.std.specs.List.{list_any}
 use Rattle.std.specs.Str.{bytes_eq}
 use Rattle.mo_types.specs.Gives.{◌>>=◌}
 use Rattle.mo_types.specs.declared.cause.Rule.TheVariants as rule
-use Rattle.tbd_yaml.specs.declared.fault.YamlFault.{YamlFault}
-use Rattle.tbd_yaml.specs.declared.fault.YamlFault.TheVariants.{At}
-use Rattle.tbd_yaml.specs.declared.file.YamlEvent.{YamlEvent}
-use Rattle.tbd_yaml.specs.declared.file.YamlEvent.TheVariants as event
+use Rattle.yaml_text.specs.declared.fault.YamlFault.{YamlFault}
+use Rattle.yaml_text.specs.declared.fault.YamlFault.TheVariants.{At}
+use Rattle.yaml_text.specs.declared.file.YamlEvent.{YamlEvent}
+use Rattle.yaml_text.specs.declared.file.YamlEvent.TheVariants as event
 use Rattle.tbd_yaml.specs.declared.block.Block.{Block}
 use Rattle.tbd_yaml.specs.declared.block.Form.{Form}
 use Rattle.tbd_yaml.specs.declared.block.Form.TheVariants as form
-use Rattle.tbd_yaml.specs.declared.flow.FlowPlace.{FlowPlace}
-use Rattle.tbd_yaml.specs.declared.flow.FlowState.{FlowState}
+use Rattle.yaml_text.specs.declared.flow.FlowPlace.{FlowPlace}
+use Rattle.yaml_text.specs.declared.flow.FlowState.{FlowState}
 use Rattle.tbd_yaml.specs.declared.body.Body.{Body}
-use Rattle.tbd_yaml.specs.Lines.{spaces, blanks, without_blanks, begins_with, is_bare, is_item}
-use Rattle.tbd_yaml.specs.Scalars.{Keyed, key_of, scalar_of}
-use Rattle.tbd_yaml.specs.Flow.{flow_of}
+use Rattle.yaml_text.specs.Lines.{spaces, blanks, without_blanks, begins_with, is_bare, is_item}
+use Rattle.yaml_text.specs.Scalars.{Keyed, key_of, scalar_of}
+use Rattle.yaml_text.specs.Flow.{flow_of}
 
 -- Which block a line belongs to. The innermost open block stands first.
 

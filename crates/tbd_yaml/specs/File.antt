@@ -3,21 +3,16 @@ use Rattle.std.specs.Prelude.{ℕ, ◌+◌, ◌&&◌, max, Bool, true, is_none, 
 use Rattle.std.specs.Str.{is_utf8}
 use Rattle.mo_types.specs.Gives.{◌>>=◌}
 use Rattle.mo_types.specs.declared.cause.Rule.TheVariants as rule
-use Rattle.tbd_yaml.specs.declared.fault.YamlFault.{YamlFault}
-use Rattle.tbd_yaml.specs.declared.fault.YamlFault.TheVariants.{At, OutOfMemory}
-use Rattle.tbd_yaml.specs.declared.file.YamlFile.{YamlFile}
-use Rattle.tbd_yaml.specs.declared.file.YamlDoc.{YamlDoc}
+use Rattle.yaml_text.specs.declared.fault.YamlFault.{YamlFault}
+use Rattle.yaml_text.specs.declared.fault.YamlFault.TheVariants.{At}
+use Rattle.yaml_text.specs.declared.file.YamlFile.{YamlFile}
+use Rattle.yaml_text.specs.declared.file.YamlDoc.{YamlDoc}
 use Rattle.tbd_yaml.specs.declared.body.Body.{Body}
 use Rattle.tbd_yaml.specs.declared.body.FlowList.{FlowList}
 use Rattle.tbd_yaml.specs.declared.reading.Reading.{Reading}
 use Rattle.tbd_yaml.specs.declared.reading.OpenDoc.{OpenDoc}
-use Rattle.tbd_yaml.specs.Lines.{lines_of, is_bare, tag_of, is_end}
+use Rattle.yaml_text.specs.Lines.{lines_of, is_bare, tag_of, is_end}
 use Rattle.tbd_yaml.specs.Blocks.{with_line, with_flow, whole_events, new_body}
-
--- a fault that a text may have
-abbrev pub IsYamlFault : YamlFault → Type 0
-IsYamlFault OutOfMemory = ⊥
-IsYamlFault (At line rule) = Unit {0}
 
 -- the documents of a text up to a place, of which the last one is open
 abbrev pub docs_with : List YamlDoc → Option OpenDoc → List YamlDoc

@@ -2,12 +2,12 @@
 -- lines, and the text that is left of a line before them, and leaves the lines that follow.
 use Rattle.std.specs.Prelude.{ℕ, ◌≡◌, ◌≤◌, ◌+◌, ◌==◌, ◌&&◌, ◌||◌, nat_lt, Bool, true, false, List, [], ◌∷◌, ◌++◌, length, drop, map as each, Option, Some, None, Ok}
 use Rattle.std.specs.Str.{is_utf8}
-use Rattle.tbd_yaml.specs.declared.file.YamlDoc.{YamlDoc}
-use Rattle.tbd_yaml.specs.declared.token.Token.{Token}
-use Rattle.tbd_yaml.specs.declared.token.Token.TheVariants as token
-use Rattle.tbd_yaml.specs.Lines.{spaces, blanks, without_blanks, begins_with, is_bare, tag_of, is_end, is_item}
-use Rattle.tbd_yaml.specs.Scalars.{Keyed, key_of, scalar_of}
-use Rattle.tbd_yaml.specs.Flow.{tokens_from}
+use Rattle.yaml_text.specs.declared.file.YamlDoc.{YamlDoc}
+use Rattle.yaml_text.specs.declared.token.Token.{Token}
+use Rattle.yaml_text.specs.declared.token.Token.TheVariants as token
+use Rattle.yaml_text.specs.Lines.{spaces, blanks, without_blanks, begins_with, is_bare, tag_of, is_end, is_item}
+use Rattle.yaml_text.specs.Scalars.{Keyed, key_of, scalar_of}
+use Rattle.yaml_text.specs.Flow.{tokens_from}
 use Rattle.tbd_yaml.specs.Blocks.{has_key}
 use Rattle.tbd_yaml.specs.Tree.{Tree, scalar, list, map, Trees, no_trees, tree, Pairs, no_pairs, pair, events_of}
 

@@ -1,10 +1,4 @@
-pub mod inner
-pub mod Characters
-pub mod Lines
-pub mod Scalars
-pub mod Flow
 pub mod Blocks
 pub mod File
 pub mod Tree
 pub mod Grammar
-pub mod FaultText

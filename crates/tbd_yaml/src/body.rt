@@ -4,9 +4,9 @@ ghost use Rattle.std.specs.Prelude.{◌≡◌};
 ghost use Rattle.tbd_yaml.specs.Blocks as blocks;
 
 use crate::block::BlockStack;
-use crate::file::EventList;
 use mo_types::Items;
 use std::alloc::Global;
+use yaml_text::EventList;
 
 /// A flow list that the last line left open: the number of the line that opened it, and whether it wants a scalar.
 #[derive(Clone, Copy, Debug)]

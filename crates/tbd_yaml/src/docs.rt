@@ -2,16 +2,15 @@
 
 ghost use Rattle.std.specs.Prelude.{◌≡◌, ◌++◌, map, Ok};
 ghost use Rattle.mo_types.specs.Gives.{Gives};
-ghost use Rattle.tbd_yaml.specs.File.{IsYamlFault};
+ghost use Rattle.yaml_text.specs.FaultText.{IsYamlFault};
 ghost use Rattle.tbd_yaml.specs.Blocks as spec;
 ghost use Rattle.tbd_yaml.specs.File as files;
 
 use crate::block::BlockStack;
 use crate::body::Body;
-use crate::fault::YamlFault;
-use crate::file::{DocList, EventList, YamlDoc, YamlEvent};
 use crate::places::answered;
 use crate::reading::OpenDoc;
+use yaml_text::{DocList, EventList, YamlDoc, YamlEvent, YamlFault};
 
 /// Ends all open blocks.
 #[tactic(auto, using(crate::proofs::BlockLemmas::endings))]

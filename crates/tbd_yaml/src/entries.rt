@@ -3,22 +3,20 @@
 ghost use Rattle.std.specs.Prelude.{◌≡◌, ◌+◌, ◌≤◌, drop, if◌then◌else◌, length, None, Ok, Some, IfSome};
 ghost use Rattle.std.specs.Option.{option_map};
 ghost use Rattle.mo_types.specs.Gives.{Gives};
-ghost use Rattle.tbd_yaml.specs.Scalars as scalars;
-ghost use Rattle.tbd_yaml.specs.File.{IsYamlFault};
+ghost use Rattle.yaml_text.specs.Scalars as scalars;
+ghost use Rattle.yaml_text.specs.FaultText.{IsYamlFault};
 ghost use Rattle.tbd_yaml.specs.Blocks as spec;
-ghost use Rattle.tbd_yaml.specs.inner.Units.{keyed_in};
+ghost use Rattle.yaml_text.specs.inner.Units.{keyed_in};
 
 use crate::block::{Block, BlockStack, Form};
 use crate::body::{Body, FlowList};
-use crate::fault::YamlFault;
-use crate::file::{EventList, YamlEvent};
-use crate::flow::{FlowPlace, FlowStart, FlowState, flow_of};
-use crate::lines::{begins_with, behind, behind_mark, blanks, is_bare, spaces};
-use crate::marks::is_item;
 use crate::places::{placed, with_block};
-use crate::scalars::{KeyText, key_of, scalar_of};
 use mo_types::{Bytes, Rule};
 use std::alloc::Global;
+use yaml_text::{
+    EventList, FlowPlace, FlowStart, FlowState, KeyText, YamlEvent, YamlFault, begins_with, behind,
+    behind_mark, blanks, flow_of, is_bare, is_item, key_of, scalar_of, spaces,
+};
 
 /// Adds a key to the innermost map.
 #[tactic(auto, unfolding(crate::specs::Blocks::with_key))]
@@ -89,7 +87,7 @@ pub fn with_flow(
 }
 
 /// Adds the value at the end of a line.
-#[tactic(auto, using(crate::proofs::PlainLemmas::keys), unfolding(crate::specs::Blocks::with_value))]
+#[tactic(auto, using(yaml_text::proofs::PlainLemmas::keys), unfolding(crate::specs::Blocks::with_value))]
 fn with_value(
     alloc: Global,
     number: u32,
@@ -119,7 +117,7 @@ fn with_value(
     }
 }
 
-#[tactic(auto, using(crate::proofs::PlainLemmas::keys))]
+#[tactic(auto, using(yaml_text::proofs::PlainLemmas::keys))]
 fn with_rest(
     alloc: Global,
     number: u32,

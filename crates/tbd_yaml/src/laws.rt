@@ -4,11 +4,11 @@ ghost use Rattle.std.specs.Prelude.{◌≡◌, ℕ, List, Ok, Err};
 ghost use Rattle.std.specs.List.{AllByRecursion};
 ghost use Rattle.tbd_yaml.specs.File.{file_of};
 ghost use Rattle.tbd_yaml.specs.Grammar.{AreDocumentsOf, Document, HasDocuments};
-ghost use Rattle.tbd_yaml.specs.Lines.{lines_of};
+ghost use Rattle.yaml_text.specs.Lines.{lines_of};
 ghost use Rattle.tbd_yaml.specs.Tree.{HasTree, Tree, events_of};
-ghost use Rattle.tbd_yaml.specs.declared.fault.YamlFault.{YamlFault};
-ghost use Rattle.tbd_yaml.specs.declared.file.YamlDoc.{YamlDoc};
-ghost use Rattle.tbd_yaml.specs.declared.file.YamlFile.{YamlFile};
+ghost use Rattle.yaml_text.specs.declared.fault.YamlFault.{YamlFault};
+ghost use Rattle.yaml_text.specs.declared.file.YamlDoc.{YamlDoc};
+ghost use Rattle.yaml_text.specs.declared.file.YamlFile.{YamlFile};
 
 /// What is read stands in the grammar: the lines of the text are those of documents, with the trees whose walks were
 /// read.

@@ -3,29 +3,18 @@
 
 mod block;
 mod body;
-mod characters;
 mod docs;
 mod entries;
-mod fault;
-mod file;
-mod flow;
 mod key_set;
 mod laws;
-mod lines;
-mod marks;
 mod places;
-mod quoted;
 mod read;
 mod reading;
-mod scalars;
-mod token;
-mod units;
 
-pub use fault::YamlFault;
-pub use file::{DocList, EventList, YamlDoc, YamlEvent, YamlFile};
 pub use laws::{
     a_text_has_one_list_of_trees, a_walk_is_through_one_tree, each_document_is_a_tree,
     what_is_in_the_grammar_is_read, what_is_read_is_in_the_grammar,
     what_is_refused_is_not_in_the_grammar,
 };
 pub use read::read_yaml;
+pub use yaml_text::{DocList, EventList, YamlDoc, YamlEvent, YamlFault, YamlFile};

@@ -2,16 +2,15 @@
 
 ghost use Rattle.std.specs.Prelude.{◌≡◌, if◌then◌else◌, Ok};
 ghost use Rattle.mo_types.specs.Gives.{Gives};
-ghost use Rattle.tbd_yaml.specs.File.{IsYamlFault};
+ghost use Rattle.yaml_text.specs.FaultText.{IsYamlFault};
 ghost use Rattle.tbd_yaml.specs.Blocks as spec;
 
 use crate::block::{Block, BlockStack, Form};
 use crate::body::Body;
-use crate::fault::YamlFault;
-use crate::file::{EventList, YamlEvent};
 use crate::key_set::KeySet;
 use mo_types::{Bytes, Rule};
 use std::alloc::Global;
+use yaml_text::{EventList, YamlEvent, YamlFault};
 
 fn is_key_list(form: Form) -> bool
     ensures { result ≡ spec.is_key_list form }

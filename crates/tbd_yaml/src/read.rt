@@ -2,15 +2,15 @@
 
 ghost use Rattle.std.specs.Prelude.{◌≡◌, ◌+◌, ◌^◌, ◌<◌, ◌≤◌, ◌∷◌, length, take, drop};
 ghost use Rattle.mo_types.specs.Gives.{Gives};
-ghost use Rattle.tbd_yaml.specs.File.{IsYamlFault, file_of};
-ghost use Rattle.tbd_yaml.specs.Lines as lines;
+ghost use Rattle.tbd_yaml.specs.File.{file_of};
+ghost use Rattle.yaml_text.specs.FaultText.{IsYamlFault};
+ghost use Rattle.yaml_text.specs.Lines as lines;
 
-use crate::fault::YamlFault;
-use crate::file::YamlFile;
 use crate::reading::{ends, finished, new_reading, with_next};
 use memchr::memchr;
 use mo_types::Bytes;
 use std::alloc::Global;
+use yaml_text::{YamlFault, YamlFile};
 
 /// The first line of a text: how many bytes it has, and how many the text's rest begins behind.
 #[derive(Clone, Copy, Debug)]
@@ -19,7 +19,7 @@ struct Cut {
     taken: usize,
 }
 
-#[tactic(auto, using(crate::proofs::ReadLemmas::returns), unfolding(crate::specs::Lines::without_return))]
+#[tactic(auto, using(crate::proofs::ReadLemmas::returns), unfolding(yaml_text::specs::Lines::without_return))]
 fn without_return(line: &[u8]) -> usize
     ensures exact { take result line.now ≡ lines.without_return line.now }
     ensures within { result ≤ length line.now }

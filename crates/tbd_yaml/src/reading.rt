@@ -2,20 +2,16 @@
 
 ghost use Rattle.std.specs.Prelude.{◌≡◌, Ok};
 ghost use Rattle.mo_types.specs.Gives.{Gives};
-ghost use Rattle.tbd_yaml.specs.File.{IsYamlFault};
+ghost use Rattle.yaml_text.specs.FaultText.{IsYamlFault};
 ghost use Rattle.std.specs.Str as strings;
 ghost use Rattle.tbd_yaml.specs.File as files;
 
 use crate::body::{Body, FlowList, new_body};
 use crate::docs::docs_with;
 use crate::entries::{with_flow, with_line};
-use crate::fault::YamlFault;
-use crate::file::{DocList, YamlFile};
-use crate::flow::{FlowPlace, FlowStart};
-use crate::lines::is_bare;
-use crate::marks::{is_end, tag_of};
 use mo_types::{Bytes, Items, Rule};
 use std::alloc::Global;
+use yaml_text::{DocList, FlowPlace, FlowStart, YamlFault, YamlFile, is_bare, is_end, tag_of};
 
 /// A document that is open.
 #[derive(Drop)]

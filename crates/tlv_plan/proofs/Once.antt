@@ -12,7 +12,7 @@ use Rattle.mo_types.specs.declared.out_section.OutSection.{OutSection}
 use Rattle.mo_types.specs.Keys.{compare_keys}
 use Rattle.tlv_plan.specs.declared.parts.Offset.{Offset}
 use Rattle.tlv_plan.specs.Template.{aligned, atoms_of, end_of, keys_of, offsets, sections_stand, stand, template_stand, thread_local}
-use Rattle.key_hints.proofs.Keys.{same_key}
+use Rattle.atom_index.proofs.Keys.{same_key}
 
 -- no key is listed twice
 abbrev AreOnce : List AtomKey → Type 0

@@ -5,8 +5,7 @@ ghost use Rattle.tlv_plan.specs.declared.parts.Offset.{Offset};
 ghost use Rattle.mo_types.specs.Keys.{compare_keys};
 
 use crate::parts::{Offset, Template};
-use crate::plan::compare;
-use mo_types::AtomKey;
+use mo_types::{AtomKey, compare_atoms};
 
 /// The offset of an atom from the template's start in bytes, or `None` exactly where the atom isn't in the template.
 /// Takes no memory.
@@ -21,7 +20,7 @@ fn find(offsets: &[Offset], atom: &AtomKey) -> Option<u64>
     requires { IsSorted (on (λ (o : Offset). o.atom) compare_keys) offsets.now }
     ensures { MatchOption result ((offset : ℕ) → ¬ Contains offsets.now (record { atom = atom.now; offset = offset })) (λ offset. Contains offsets.now (record { atom = atom.now; offset = offset })) }
 {
-    match offsets.binary_search_by(|o| compare(&o.atom, atom)) {
+    match offsets.binary_search_by(|o| compare_atoms(&o.atom, atom)) {
         Ok(at) => Some(offsets[at].offset),
         Err(_) => None,
     }

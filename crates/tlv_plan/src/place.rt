@@ -8,9 +8,9 @@ ghost use Rattle.mo_types.specs.Keys.{compare_keys};
 ghost use Rattle.tlv_plan.specs.Template.{aligned, atoms_of, stand, end_of, template_stand, template_size, offsets};
 
 use crate::parts::Offset;
-use crate::plan::{compare, is_thread_local};
+use crate::plan::is_thread_local;
 use mo_bytes::round_up;
-use mo_types::{Atom, AtomKey, OutOfMemory, OutSection};
+use mo_types::{Atom, AtomKey, OutOfMemory, OutSection, compare_atoms};
 use std::alloc::Global;
 
 // Where the atoms of the template stand, section by section, and how many bytes it has.
@@ -81,7 +81,7 @@ pub(crate) fn find_atom<'a>(kept: &'a [Atom], key: &AtomKey) -> Option<&'a Atom>
     requires { IsStrictlySortedBy (on (λ (atom : Atom). atom.key) compare_keys) kept.now }
     ensures { option_copied result ≡ find (λ atom. is_eq (compare_keys atom.key key.now)) kept.now }
 {
-    match kept.binary_search_by(|atom| compare(&atom.key, key)) {
+    match kept.binary_search_by(|atom| compare_atoms(&atom.key, key)) {
         Ok(at) => Some(&kept[at]),
         Err(_) => None,
     }

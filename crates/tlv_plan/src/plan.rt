@@ -8,9 +8,8 @@ ghost use Rattle.tlv_plan.specs.Template as spec;
 use crate::parts::{Offset, OffsetList, Template};
 use crate::place::place_sections;
 use mo_format::loader::{S_THREAD_LOCAL_REGULAR, S_THREAD_LOCAL_ZEROFILL};
-use mo_types::{AtomKey, AtomList, OutOfMemory, OutSection, OutSections};
+use mo_types::{AtomKey, AtomList, OutOfMemory, OutSection, OutSections, compare_atoms};
 use std::alloc::Global;
-use std::cmp::Ordering;
 
 /// The template of the thread-local sections among these: their atoms, of those that are kept, each at the least
 /// place that its alignment and the order allow (`loader.h`: S_THREAD_LOCAL_REGULAR, S_THREAD_LOCAL_ZEROFILL). The
@@ -42,15 +41,8 @@ fn in_order(offsets: Vec<Offset>) -> OffsetList
     ensures { IsPermutation offsets.items result }
 {
     let mut offsets = offsets;
-    offsets.sort_unstable_by(|a, b| compare(&a.atom, &b.atom));
+    offsets.sort_unstable_by(|a, b| compare_atoms(&a.atom, &b.atom));
     OffsetList::from_sorted(offsets)
-}
-
-// The order of two atoms.
-pub(crate) fn compare(a: &AtomKey, b: &AtomKey) -> Ordering
-    ensures { result ≡ compare_keys a.now b.now }
-{
-    a.cmp(b)
 }
 
 /// The greatest alignment of the thread-local sections among these, as a power of two.

@@ -3,7 +3,7 @@ use Rattle.std.proofs.Common.{◌≡◌, ℕ, suc, ◌-◌, ◌<◌, ◌≤◌, 
 use Rattle.std.specs.List.{AllByRecursion}
 use Rattle.std.proofs.lemmas.Bool.{le-leb, lt-leb, lt-ltb, ltb-true, le-ltb, ltb-false}
 use Rattle.list_lemmas.proofs.Members.{In, all_weaker}
-use Rattle.mo_format.specs.declared.unwind.RegularPageEntry.{RegularPageEntry}
+use Rattle.image_format.specs.declared.unwind.RegularPageEntry.{RegularPageEntry}
 use Rattle.unwind_out.specs.declared.row.UnwindRow.{UnwindRow}
 use Rattle.unwind_out.specs.Lookup.{greater, before, row_at}
 use Rattle.unwind_out.specs.Table.{BeginsAfter, AreApart, row_of, gap, rows_of, no_row, end_of}

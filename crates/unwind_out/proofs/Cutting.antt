@@ -4,7 +4,7 @@ use Rattle.std.specs.List.{AllByRecursion}
 use Rattle.std.proofs.lemmas.List.{take_all, take_more, take_min, get_or-take, length-drop, take_rest, length-take, length-take-le, map-append, take-append-drop, take-take}
 use Rattle.std.proofs.lemmas.Bool.{leb-true, leb-false, lt-ltb, ltb-true, le-ltb}
 use Rattle.list_lemmas.proofs.Members.{all_at}
-use Rattle.mo_format.specs.declared.unwind.RegularPageEntry.{RegularPageEntry}
+use Rattle.image_format.specs.declared.unwind.RegularPageEntry.{RegularPageEntry}
 use Rattle.unwind_out.specs.declared.cut.Page.{Page}
 use Rattle.unwind_out.specs.Pages.{with_new, encodings, first_function, IsNear, IsCompressible, IsMost, page_length, IsFirstPage, ArePages}
 use Rattle.unwind_out.specs.Held.{AreKnown, held, IsHeld}

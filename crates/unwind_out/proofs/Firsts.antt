@@ -13,7 +13,7 @@ use Rattle.std.proofs.Math.ListN.{get_or-append}
 use Rattle.std.proofs.Math.Seq.{get_or-append_seam}
 use Rattle.list_lemmas.proofs.Members.{In, in_from_Contains, Contains_from_in, in_left, in_last, from_last, all_weaker}
 use Rattle.list_lemmas.proofs.Rising.{rising_same}
-use Rattle.mo_format.specs.declared.unwind.RegularPageEntry.{RegularPageEntry}
+use Rattle.image_format.specs.declared.unwind.RegularPageEntry.{RegularPageEntry}
 use Rattle.unwind_out.specs.Pages.{with_new, first_uses, encodings}
 use Rattle.unwind_out.specs.Law.{first_place, AreFirstUses}
 use Rattle.unwind_out.proofs.Uses.{place, new_by}

@@ -6,8 +6,8 @@ use Rattle.std.proofs.lemmas.Nat.{and_le_r}
 use Rattle.std.proofs.lemmas.Bool.{lt-ltb, ltb-true}
 use Rattle.std.proofs.lemmas.Bool.Decides.{nat_tests}
 use Rattle.list_lemmas.proofs.Members.{In, in_from_Contains, all_at, all_weaker}
-use Rattle.mo_format.specs.declared.unwind.UnwindLsdaEntry.{UnwindLsdaEntry}
-use Rattle.mo_format.specs.declared.unwind.RegularPageEntry.{RegularPageEntry}
+use Rattle.image_format.specs.declared.unwind.UnwindLsdaEntry.{UnwindLsdaEntry}
+use Rattle.image_format.specs.declared.unwind.RegularPageEntry.{RegularPageEntry}
 use Rattle.unwind_out.specs.declared.row.UnwindRow.{UnwindRow}
 use Rattle.unwind_out.specs.Lookup.{lsda_found, row_at, hit_of, unwind}
 use Rattle.unwind_out.specs.Table.{BeginsAfter, AreApart, personalities, personality_number, lsda_bit, output_encoding, gap, rows_of, end_of, lsda_of, lsdas_of}

@@ -7,8 +7,8 @@ use Rattle.std.proofs.lemmas.Bool.Decides.{nat_tests}
 use Rattle.std.proofs.lemmas.List.Sums.{passes_at_first}
 use Rattle.list_lemmas.proofs.Members.{In, in_from_Contains, Contains_from_in, all_in, all_from_in}
 use Rattle.mo_bytes.specs.Number.{number_at, number_bytes}
-use Rattle.mo_format.specs.Unwind.{unwind_info_header_at, unwind_info_header_bytes}
-use Rattle.mo_format.specs.declared.unwind.UnwindInfoHeader.{UnwindInfoHeader}
+use Rattle.image_format.specs.Unwind.{unwind_info_header_at, unwind_info_header_bytes}
+use Rattle.image_format.specs.declared.unwind.UnwindInfoHeader.{UnwindInfoHeader}
 use Rattle.unwind_out.specs.declared.row.UnwindRow.{UnwindRow}
 use Rattle.unwind_out.specs.Lookup.{lies, named_number, personality_at}
 use Rattle.unwind_out.specs.Table.{personalities, personality_number, lsda_bit, output_encoding, end_of, lsdas_of}

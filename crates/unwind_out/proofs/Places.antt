@@ -4,8 +4,8 @@ use Rattle.std.specs.Option.{option_or}
 use Rattle.std.proofs.Math.Nat.{mul-suc}
 use Rattle.std.proofs.Math.Numerals.{add-one}
 use Rattle.std.proofs.lemmas.Bool.{lt-ltb, ltb-true, le-ltb, ltb-false, lt-leb, leb-false}
-use Rattle.mo_format.specs.declared.unwind.RegularPageEntry.{RegularPageEntry}
-use Rattle.mo_format.specs.declared.unwind.UnwindLsdaEntry.{UnwindLsdaEntry}
+use Rattle.image_format.specs.declared.unwind.RegularPageEntry.{RegularPageEntry}
+use Rattle.image_format.specs.declared.unwind.UnwindLsdaEntry.{UnwindLsdaEntry}
 use Rattle.unwind_out.specs.Lookup.{each_at, lies, greater, before, row_at, lsda_row, lsda_found}
 
 pub greater_none : (best : Option RegularPageEntry) → greater best None ≡ best

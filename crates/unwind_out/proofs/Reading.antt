@@ -8,14 +8,14 @@ use Rattle.list_lemmas.proofs.Members.{In, all_in}
 use Rattle.mo_bytes.specs.Number.{number, number_at, number_bytes}
 use Rattle.mo_bytes.proofs.Numbers.{length-number_bytes, number-number_bytes}
 use Rattle.std.proofs.Math.Seq.{drop-append_seam}
-use Rattle.mo_format.specs.Unwind.{unwind_index_entry_at, unwind_index_entry_bytes, unwind_lsda_entry_at, unwind_lsda_entry_bytes, regular_page_header_at, regular_page_header_bytes, regular_page_entry_at, regular_page_entry_bytes, compressed_page_header_at, compressed_page_header_bytes, compressed_page_entry_at, compressed_page_entry_bytes}
-use Rattle.mo_format.proofs.UnwindLemmas.{unwind_index_entry_read, unwind_lsda_entry_read, regular_page_header_read, regular_page_entry_read, compressed_page_header_read, compressed_page_entry_read}
-use Rattle.mo_format.specs.declared.unwind.UnwindInfoHeader.{UnwindInfoHeader}
-use Rattle.mo_format.specs.declared.unwind.UnwindIndexEntry.{UnwindIndexEntry}
-use Rattle.mo_format.specs.declared.unwind.UnwindLsdaEntry.{UnwindLsdaEntry}
-use Rattle.mo_format.specs.declared.unwind.RegularPageHeader.{RegularPageHeader}
-use Rattle.mo_format.specs.declared.unwind.RegularPageEntry.{RegularPageEntry}
-use Rattle.mo_format.specs.declared.unwind.CompressedPageHeader.{CompressedPageHeader}
+use Rattle.image_format.specs.Unwind.{unwind_index_entry_at, unwind_index_entry_bytes, unwind_lsda_entry_at, unwind_lsda_entry_bytes, regular_page_header_at, regular_page_header_bytes, regular_page_entry_at, regular_page_entry_bytes, compressed_page_header_at, compressed_page_header_bytes, compressed_page_entry_at, compressed_page_entry_bytes}
+use Rattle.image_format.proofs.UnwindLemmas.{unwind_index_entry_read, unwind_lsda_entry_read, regular_page_header_read, regular_page_entry_read, compressed_page_header_read, compressed_page_entry_read}
+use Rattle.image_format.specs.declared.unwind.UnwindInfoHeader.{UnwindInfoHeader}
+use Rattle.image_format.specs.declared.unwind.UnwindIndexEntry.{UnwindIndexEntry}
+use Rattle.image_format.specs.declared.unwind.UnwindLsdaEntry.{UnwindLsdaEntry}
+use Rattle.image_format.specs.declared.unwind.RegularPageHeader.{RegularPageHeader}
+use Rattle.image_format.specs.declared.unwind.RegularPageEntry.{RegularPageEntry}
+use Rattle.image_format.specs.declared.unwind.CompressedPageHeader.{CompressedPageHeader}
 use Rattle.unwind_out.specs.Lookup.{each_at, lies, regular_row, regular_rows, encoding_at, compressed_row, compressed_rows, page_rows, all_rows, lsda_row}
 use Rattle.unwind_out.specs.Pages.{with_new, first_uses, encodings, first_function, IsNear, IsCompressible, compressed_entry, regular_page_header, compressed_page_header, regular_page, compressed_page, page_bytes, field, lsda_place, index_of}
 use Rattle.unwind_out.proofs.Uses.{place as place_in, encodings_there}

@@ -5,9 +5,9 @@ use Rattle.std.proofs.lemmas.List.{at_drop_more, at_drop_all}
 use Rattle.std.proofs.lemmas.Bool.{ltb-true}
 use Rattle.mo_bytes.specs.Number.{number_bytes}
 use Rattle.mo_bytes.proofs.Numbers.{length-number_bytes}
-use Rattle.mo_format.specs.Unwind.{unwind_info_header_bytes, unwind_index_entry_bytes, unwind_lsda_entry_bytes}
-use Rattle.mo_format.specs.declared.unwind.UnwindLsdaEntry.{UnwindLsdaEntry}
-use Rattle.mo_format.specs.declared.unwind.RegularPageEntry.{RegularPageEntry}
+use Rattle.image_format.specs.Unwind.{unwind_info_header_bytes, unwind_index_entry_bytes, unwind_lsda_entry_bytes}
+use Rattle.image_format.specs.declared.unwind.UnwindLsdaEntry.{UnwindLsdaEntry}
+use Rattle.image_format.specs.declared.unwind.RegularPageEntry.{RegularPageEntry}
 use Rattle.unwind_out.specs.declared.row.UnwindRow.{UnwindRow}
 use Rattle.unwind_out.specs.declared.cut.Page.{Page}
 use Rattle.unwind_out.specs.Table.{AreApart, personalities, gap, rows_of, end_of, lsda_of, lsdas_of}

@@ -9,14 +9,14 @@ use Rattle.std.proofs.Math.Nat.{mul-suc}
 use Rattle.list_lemmas.proofs.Members.{all_at}
 use Rattle.mo_bytes.specs.Number.{number_bytes}
 use Rattle.mo_bytes.proofs.Numbers.{length-number_bytes}
-use Rattle.mo_format.specs.Unwind.{unwind_info_header_bytes, unwind_index_entry_bytes, unwind_lsda_entry_bytes, regular_page_header_bytes, regular_page_entry_bytes, compressed_page_header_bytes, compressed_page_entry_bytes}
-use Rattle.mo_format.specs.declared.unwind.UnwindInfoHeader.{UnwindInfoHeader}
-use Rattle.mo_format.specs.declared.unwind.UnwindIndexEntry.{UnwindIndexEntry}
-use Rattle.mo_format.specs.declared.unwind.UnwindLsdaEntry.{UnwindLsdaEntry}
-use Rattle.mo_format.specs.declared.unwind.RegularPageHeader.{RegularPageHeader}
-use Rattle.mo_format.specs.declared.unwind.RegularPageEntry.{RegularPageEntry}
-use Rattle.mo_format.specs.declared.unwind.CompressedPageHeader.{CompressedPageHeader}
-use Rattle.mo_format.specs.declared.unwind.CompressedPageEntry.{CompressedPageEntry}
+use Rattle.image_format.specs.Unwind.{unwind_info_header_bytes, unwind_index_entry_bytes, unwind_lsda_entry_bytes, regular_page_header_bytes, regular_page_entry_bytes, compressed_page_header_bytes, compressed_page_entry_bytes}
+use Rattle.image_format.specs.declared.unwind.UnwindInfoHeader.{UnwindInfoHeader}
+use Rattle.image_format.specs.declared.unwind.UnwindIndexEntry.{UnwindIndexEntry}
+use Rattle.image_format.specs.declared.unwind.UnwindLsdaEntry.{UnwindLsdaEntry}
+use Rattle.image_format.specs.declared.unwind.RegularPageHeader.{RegularPageHeader}
+use Rattle.image_format.specs.declared.unwind.RegularPageEntry.{RegularPageEntry}
+use Rattle.image_format.specs.declared.unwind.CompressedPageHeader.{CompressedPageHeader}
+use Rattle.image_format.specs.declared.unwind.CompressedPageEntry.{CompressedPageEntry}
 use Rattle.unwind_out.specs.declared.cut.Page.{Page}
 use Rattle.unwind_out.specs.Pages.{encodings, first_function, IsNear, IsCompressible, compressed_entry, regular_page_header, compressed_page_header, regular_page, compressed_page, page_bytes, field, lsda_place, index_of, last_entry, info_header, section_bytes}
 use Rattle.unwind_out.specs.Held.{AreFirst, AreNear, AreThere, entry_of, held, IsHeld}

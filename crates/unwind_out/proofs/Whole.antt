@@ -6,12 +6,12 @@ use Rattle.std.proofs.lemmas.Bool.{le-leb, lt-ltb}
 use Rattle.std.proofs.lemmas.List.{length-take, take_min, take-append-drop}
 use Rattle.mo_bytes.specs.Number.{number_bytes}
 use Rattle.mo_bytes.proofs.Numbers.{length-number_bytes}
-use Rattle.mo_format.specs.Unwind.{unwind_info_header_at, unwind_info_header_bytes, unwind_index_entry_at, unwind_index_entry_bytes, unwind_lsda_entry_bytes}
-use Rattle.mo_format.proofs.UnwindLemmas.{unwind_info_header_read}
-use Rattle.mo_format.specs.declared.unwind.UnwindInfoHeader.{UnwindInfoHeader}
-use Rattle.mo_format.specs.declared.unwind.UnwindIndexEntry.{UnwindIndexEntry}
-use Rattle.mo_format.specs.declared.unwind.UnwindLsdaEntry.{UnwindLsdaEntry}
-use Rattle.mo_format.specs.declared.unwind.RegularPageEntry.{RegularPageEntry}
+use Rattle.image_format.specs.Unwind.{unwind_info_header_at, unwind_info_header_bytes, unwind_index_entry_at, unwind_index_entry_bytes, unwind_lsda_entry_bytes}
+use Rattle.image_format.proofs.UnwindLemmas.{unwind_info_header_read}
+use Rattle.image_format.specs.declared.unwind.UnwindInfoHeader.{UnwindInfoHeader}
+use Rattle.image_format.specs.declared.unwind.UnwindIndexEntry.{UnwindIndexEntry}
+use Rattle.image_format.specs.declared.unwind.UnwindLsdaEntry.{UnwindLsdaEntry}
+use Rattle.image_format.specs.declared.unwind.RegularPageEntry.{RegularPageEntry}
 use Rattle.unwind_out.specs.Lookup.{lies, all_rows, all_lsda_rows, row_at, hit_of, has_end, unwind_in, unwind}
 use Rattle.unwind_out.specs.Pages.{IsCompressible, IsFirstPage, ArePages, page_length, first_function, page_bytes, field, lsda_place, index_of, last_entry, info_header, section_bytes}
 use Rattle.unwind_out.proofs.Spelling.{length-flat, length-index_entry, length-lsda_entry, length-info_header, field_small}

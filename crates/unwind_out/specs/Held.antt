@@ -2,9 +2,9 @@
 use Rattle.std.specs.Prelude.{ℕ, ◌≡◌, ◌+◌, ◌*◌, ◌/◌, ◌%◌, ◌^◌, ◌<◌, ◌==◌, List, [], ◌∷◌, length, map, slice_index}
 use Rattle.std.specs.List.{AllByRecursion, position_or_len}
 use Rattle.std.specs.List.Sorted.{IsNonDecreasingBy}
-use Rattle.mo_format.specs.declared.unwind.UnwindIndexEntry.{UnwindIndexEntry}
-use Rattle.mo_format.specs.declared.unwind.UnwindLsdaEntry.{UnwindLsdaEntry}
-use Rattle.mo_format.specs.declared.unwind.RegularPageEntry.{RegularPageEntry}
+use Rattle.image_format.specs.declared.unwind.UnwindIndexEntry.{UnwindIndexEntry}
+use Rattle.image_format.specs.declared.unwind.UnwindLsdaEntry.{UnwindLsdaEntry}
+use Rattle.image_format.specs.declared.unwind.RegularPageEntry.{RegularPageEntry}
 use Rattle.unwind_out.specs.declared.cut.Page.{Page}
 use Rattle.unwind_out.specs.Pages.{IsNear, IsCompressible, encodings, field, first_function, lsda_place, page_bytes}
 

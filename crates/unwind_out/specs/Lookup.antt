@@ -2,13 +2,13 @@
 use Rattle.std.specs.Prelude.{ℕ, zero, suc, ◌+◌, ◌-◌, ◌*◌, ◌==◌, ◌&&◌, ◌/◌, ◌%◌, ◌^◌, nat_lt, nat_le, Bool, if◌then◌else◌, List, [], ◌∷◌, ◌++◌, length, Option, Some, None, unwrap_or}
 use Rattle.std.specs.Option.{option_map, option_map_or}
 use Rattle.mo_bytes.specs.Number.{number_at}
-use Rattle.mo_format.specs.Unwind.{unwind_info_header_at, unwind_index_entry_at, unwind_lsda_entry_at, regular_page_header_at, regular_page_entry_at, compressed_page_header_at, compressed_page_entry_at}
-use Rattle.mo_format.specs.declared.compact_unwind.TheConstants.{UNWIND_SECOND_LEVEL_REGULAR, UNWIND_SECOND_LEVEL_COMPRESSED}
-use Rattle.mo_format.specs.declared.unwind.UnwindInfoHeader.{UnwindInfoHeader}
-use Rattle.mo_format.specs.declared.unwind.UnwindIndexEntry.{UnwindIndexEntry}
-use Rattle.mo_format.specs.declared.unwind.UnwindLsdaEntry.{UnwindLsdaEntry}
-use Rattle.mo_format.specs.declared.unwind.RegularPageEntry.{RegularPageEntry}
-use Rattle.mo_format.specs.declared.unwind.CompressedPageHeader.{CompressedPageHeader}
+use Rattle.image_format.specs.Unwind.{unwind_info_header_at, unwind_index_entry_at, unwind_lsda_entry_at, regular_page_header_at, regular_page_entry_at, compressed_page_header_at, compressed_page_entry_at}
+use Rattle.image_format.specs.declared.compact_unwind.TheConstants.{UNWIND_SECOND_LEVEL_REGULAR, UNWIND_SECOND_LEVEL_COMPRESSED}
+use Rattle.image_format.specs.declared.unwind.UnwindInfoHeader.{UnwindInfoHeader}
+use Rattle.image_format.specs.declared.unwind.UnwindIndexEntry.{UnwindIndexEntry}
+use Rattle.image_format.specs.declared.unwind.UnwindLsdaEntry.{UnwindLsdaEntry}
+use Rattle.image_format.specs.declared.unwind.RegularPageEntry.{RegularPageEntry}
+use Rattle.image_format.specs.declared.unwind.CompressedPageHeader.{CompressedPageHeader}
 use Rattle.unwind_out.specs.declared.lookup.UnwindHit.{UnwindHit}
 
 -- what is read at some places, the first at `at` and each `width` bytes behind the one before

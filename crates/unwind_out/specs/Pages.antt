@@ -2,15 +2,15 @@
 use Rattle.std.specs.Prelude.{ℕ, ◌≡◌, ◌+◌, ◌-◌, ◌*◌, ◌%◌, ◌^◌, ◌<◌, ◌≤◌, ◌==◌, nat_lt, nat_le, if◌then◌else◌, List, [], ◌∷◌, ◌++◌, length, take, drop, map, is_some}
 use Rattle.std.specs.List.{AllByRecursion, flat_map, position, position_or_len}
 use Rattle.mo_bytes.specs.Number.{number_bytes}
-use Rattle.mo_format.specs.Unwind.{unwind_info_header_bytes, unwind_index_entry_bytes, unwind_lsda_entry_bytes, regular_page_header_bytes, regular_page_entry_bytes, compressed_page_header_bytes, compressed_page_entry_bytes}
-use Rattle.mo_format.specs.declared.compact_unwind.TheConstants.{UNWIND_SECTION_VERSION, UNWIND_SECOND_LEVEL_REGULAR, UNWIND_SECOND_LEVEL_COMPRESSED}
-use Rattle.mo_format.specs.declared.unwind.UnwindInfoHeader.{UnwindInfoHeader}
-use Rattle.mo_format.specs.declared.unwind.UnwindIndexEntry.{UnwindIndexEntry}
-use Rattle.mo_format.specs.declared.unwind.UnwindLsdaEntry.{UnwindLsdaEntry}
-use Rattle.mo_format.specs.declared.unwind.RegularPageHeader.{RegularPageHeader}
-use Rattle.mo_format.specs.declared.unwind.RegularPageEntry.{RegularPageEntry}
-use Rattle.mo_format.specs.declared.unwind.CompressedPageHeader.{CompressedPageHeader}
-use Rattle.mo_format.specs.declared.unwind.CompressedPageEntry.{CompressedPageEntry}
+use Rattle.image_format.specs.Unwind.{unwind_info_header_bytes, unwind_index_entry_bytes, unwind_lsda_entry_bytes, regular_page_header_bytes, regular_page_entry_bytes, compressed_page_header_bytes, compressed_page_entry_bytes}
+use Rattle.image_format.specs.declared.compact_unwind.TheConstants.{UNWIND_SECTION_VERSION, UNWIND_SECOND_LEVEL_REGULAR, UNWIND_SECOND_LEVEL_COMPRESSED}
+use Rattle.image_format.specs.declared.unwind.UnwindInfoHeader.{UnwindInfoHeader}
+use Rattle.image_format.specs.declared.unwind.UnwindIndexEntry.{UnwindIndexEntry}
+use Rattle.image_format.specs.declared.unwind.UnwindLsdaEntry.{UnwindLsdaEntry}
+use Rattle.image_format.specs.declared.unwind.RegularPageHeader.{RegularPageHeader}
+use Rattle.image_format.specs.declared.unwind.RegularPageEntry.{RegularPageEntry}
+use Rattle.image_format.specs.declared.unwind.CompressedPageHeader.{CompressedPageHeader}
+use Rattle.image_format.specs.declared.unwind.CompressedPageEntry.{CompressedPageEntry}
 use Rattle.unwind_out.specs.declared.row.UnwindRow.{UnwindRow}
 use Rattle.unwind_out.specs.Table.{personalities, rows_of, lsdas_of, end_of}
 

@@ -2,8 +2,8 @@
 use Rattle.std.specs.Prelude.{ℕ, ◌+◌, ◌*◌, ◌<◌, ◌≤◌, ◌-◌, ◌==◌, nat_lt, bit_and, if◌then◌else◌, List, [], ◌∷◌, ◌++◌, length, slice_index_or}
 use Rattle.std.specs.List.{flat_map, position}
 use Rattle.std.specs.Option.{option_map_or}
-use Rattle.mo_format.specs.declared.unwind.UnwindLsdaEntry.{UnwindLsdaEntry}
-use Rattle.mo_format.specs.declared.unwind.RegularPageEntry.{RegularPageEntry}
+use Rattle.image_format.specs.declared.unwind.UnwindLsdaEntry.{UnwindLsdaEntry}
+use Rattle.image_format.specs.declared.unwind.RegularPageEntry.{RegularPageEntry}
 use Rattle.unwind_out.specs.declared.row.UnwindRow.{UnwindRow}
 
 -- the first function of some begins at a place at the earliest

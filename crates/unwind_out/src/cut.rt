@@ -3,7 +3,7 @@ ghost use Rattle.unwind_out.specs.Pages.{encodings as encodings_of, first_functi
 ghost use Rattle.unwind_out.specs.Held.{held, IsHeld};
 
 use crate::numbers::{GUESSES, Guesses, forget, put_new};
-use mo_format::RegularPageEntry;
+use image_format::RegularPageEntry;
 use mo_types::OutOfMemory;
 use std::alloc::Global;
 

@@ -1,7 +1,7 @@
 //! What the definitions say, in words of their own.
 
 ghost use Rattle.std.specs.Prelude.{◌≡◌, ℕ, List, map};
-ghost use Rattle.mo_format.specs.declared.unwind.RegularPageEntry.{RegularPageEntry};
+ghost use Rattle.image_format.specs.declared.unwind.RegularPageEntry.{RegularPageEntry};
 ghost use Rattle.unwind_out.specs.declared.row.UnwindRow.{UnwindRow};
 ghost use Rattle.unwind_out.specs.Table.{personalities};
 ghost use Rattle.unwind_out.specs.Pages.{encodings, IsSection};

@@ -1,12 +1,12 @@
 ghost use Rattle.std.specs.Prelude.{◌≡◌, ◌+◌, ◌*◌, ◌<◌, ◌≤◌, ◌^◌, length};
 ghost use Rattle.unwind_out.specs.Lookup.{lies as lies_whole, encoding_at, regular_row, compressed_row, regular_rows, compressed_rows, page_rows, all_rows, each_at, lsda_found, lsda_row, greater as greater_of, row_at, unwind_in, unwind};
 
-use mo_bytes::read_u32;
-use mo_format::compact_unwind::{UNWIND_SECOND_LEVEL_COMPRESSED, UNWIND_SECOND_LEVEL_REGULAR};
-use mo_format::{
+use image_format::compact_unwind::{UNWIND_SECOND_LEVEL_COMPRESSED, UNWIND_SECOND_LEVEL_REGULAR};
+use image_format::{
     CompressedPageEntry, CompressedPageHeader, RegularPageEntry, RegularPageHeader,
     UnwindIndexEntry, UnwindInfoHeader, UnwindLsdaEntry,
 };
+use mo_bytes::read_u32;
 
 /// What a section of compact unwind says of a place. Offsets are image offsets.
 #[derive(Clone, Copy, Debug, PartialEq, Eq)]

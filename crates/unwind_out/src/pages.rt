@@ -1,14 +1,16 @@
 ghost use Rattle.std.specs.Prelude.{◌≡◌, ◌≤◌, ◌<◌, ◌++◌, length, OnOk};
 ghost use Rattle.std.specs.List.{flat_map};
-ghost use Rattle.mo_format.specs.Unwind.{regular_page_entry_bytes, compressed_page_entry_bytes};
+ghost use Rattle.image_format.specs.Unwind.{regular_page_entry_bytes, compressed_page_entry_bytes};
 ghost use Rattle.mo_bytes.specs.Number.{number_bytes};
 ghost use Rattle.unwind_out.specs.Pages.{IsCompressible, compressed_entry, encodings, regular_page, compressed_page, page_bytes};
 ghost use Rattle.unwind_out.specs.Held.{AreFirst, AreNear, AreThere, IsHeld};
 
 use crate::cut::{Page, REGULAR_ROWS, first_function};
 use crate::numbers::{Guesses, guess_all, place_of};
-use mo_format::compact_unwind::{UNWIND_SECOND_LEVEL_COMPRESSED, UNWIND_SECOND_LEVEL_REGULAR};
-use mo_format::{CompressedPageEntry, CompressedPageHeader, RegularPageEntry, RegularPageHeader};
+use image_format::compact_unwind::{UNWIND_SECOND_LEVEL_COMPRESSED, UNWIND_SECOND_LEVEL_REGULAR};
+use image_format::{
+    CompressedPageEntry, CompressedPageHeader, RegularPageEntry, RegularPageHeader,
+};
 use mo_types::OutOfMemory;
 
 /// Appends numbers of 4 bytes.

@@ -6,7 +6,7 @@ ghost use Rattle.unwind_out.specs.Held.{held, page_sizes, section_size as sectio
 use crate::cut::{Page, REGULAR_ROWS, pages};
 use crate::row::{UnwindLimit, UnwindRow, UnwindRows};
 use crate::table::{lsdas, slots, table};
-use mo_format::{
+use image_format::{
     CompressedPageEntry, CompressedPageHeader, RegularPageEntry, RegularPageHeader,
     UnwindIndexEntry, UnwindInfoHeader, UnwindLsdaEntry,
 };

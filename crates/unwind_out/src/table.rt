@@ -4,8 +4,8 @@ ghost use Rattle.unwind_out.specs.Law.{AreFields};
 ghost use Rattle.unwind_out.specs.Table.{personalities, with_slot, with_personality, personality_number, output_encoding, gap, row_of, rows_of, end_of, lsda_of, lsdas_of};
 
 use crate::row::{UnwindLimit, UnwindRow};
-use mo_format::compact_unwind::{UNWIND_HAS_LSDA, UNWIND_PERSONALITY_MASK};
-use mo_format::{RegularPageEntry, UnwindLsdaEntry};
+use image_format::compact_unwind::{UNWIND_HAS_LSDA, UNWIND_PERSONALITY_MASK};
+use image_format::{RegularPageEntry, UnwindLsdaEntry};
 use mo_types::OutOfMemory;
 use std::alloc::Global;
 

@@ -1,6 +1,6 @@
 ghost use Rattle.std.specs.Prelude.{◌≡◌, ◌+◌, ◌*◌, ◌≤◌, ◌<◌, ◌^◌, ◌++◌, [], ◌≢◌, nat_le, length, All, OnOk, IfOk, IfErr};
 ghost use Rattle.std.specs.List.{AllByRecursion, flat_map, position_or_len};
-ghost use Rattle.mo_format.specs.Unwind.{unwind_index_entry_bytes, unwind_lsda_entry_bytes};
+ghost use Rattle.image_format.specs.Unwind.{unwind_index_entry_bytes, unwind_lsda_entry_bytes};
 ghost use Rattle.unwind_out.specs.Table.{AreApart, personalities};
 ghost use Rattle.unwind_out.specs.Pages.{field as field_of, lsda_place as lsda_place_of, info_header as info_header_of, index_of, page_bytes, section_bytes, IsSection};
 ghost use Rattle.unwind_out.specs.Held.{AreRising, entry_of, held, section_size as section_size_of, IsHeld};
@@ -12,8 +12,8 @@ use crate::pages::{put_numbers, put_page};
 use crate::row::{UnwindLimit, UnwindRow, UnwindRows};
 use crate::size::{page_size, section_size};
 use crate::table::{end, lsdas, slots, table};
-use mo_format::compact_unwind::UNWIND_SECTION_VERSION;
-use mo_format::{UnwindIndexEntry, UnwindInfoHeader, UnwindLsdaEntry};
+use image_format::compact_unwind::UNWIND_SECTION_VERSION;
+use image_format::{UnwindIndexEntry, UnwindInfoHeader, UnwindLsdaEntry};
 use mo_types::{Bytes, OutOfMemory};
 use std::alloc::Global;
 

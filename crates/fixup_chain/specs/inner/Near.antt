@@ -1,7 +1,7 @@
 -- What the code tells of pointers from those beside them.
 use Rattle.std.specs.Prelude.{ℕ, ◌≡◌, ◌+◌, ◌-◌, ◌/◌, ◌%◌, ◌<◌, ◌==◌, nat_le, List, length, slice_get, slice_index_or, Option, Some, None, if◌then◌else◌}
 use Rattle.std.specs.Option.{option_map}
-use Rattle.mo_format.specs.declared.fixup_chains.TheConstants.{DYLD_CHAINED_PTR_START_NONE}
+use Rattle.image_format.specs.declared.fixup_chains.TheConstants.{DYLD_CHAINED_PTR_START_NONE}
 use Rattle.fixup_chain.specs.Places.{PAGE, page_of}
 use Rattle.fixup_chain.specs.declared.chains.Fixup.{Fixup}
 

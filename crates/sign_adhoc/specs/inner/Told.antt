@@ -1,7 +1,7 @@
 -- What the fields of a code directory tell of a signature.
 use Rattle.std.specs.Prelude.{ℕ, ◌+◌, ◌-◌, ◌==◌, ◌&&◌, nat_le, nat_lt, List, length, Option, Some, None, if◌then◌else◌}
-use Rattle.mo_format.specs.Signature.{code_directory_at}
-use Rattle.mo_format.specs.declared.signature.CodeDirectory.{CodeDirectory}
+use Rattle.image_format.specs.Signature.{code_directory_at}
+use Rattle.image_format.specs.declared.signature.CodeDirectory.{CodeDirectory}
 use Rattle.sign_adhoc.specs.declared.standing.Standing.{Standing}
 
 abbrev pub told_by : ℕ → ℕ → CodeDirectory → Standing

@@ -2,13 +2,13 @@
 use Rattle.std.specs.Prelude.{◌≡◌, ◌≢◌, refl, ℕ, ◌<◌, ◌==◌, Bool, true, max, List, map, fold, get_or, length, Option, Some, None, if◌then◌else◌}
 use Rattle.std.specs.List.{AllByRecursion, find}
 use Rattle.std.specs.Option.{option_map}
-use Rattle.mo_cmd.specs.declared.command.Command.{Command}
+use Rattle.command_line.specs.declared.command.Command.{Command}
 use Rattle.mo_types.specs.Candidates.{is_candidate, least}
 use Rattle.mo_types.specs.Loaded.{IsWholeFile}
 use Rattle.mo_types.specs.declared.loaded.LoadedFile.{LoadedFile}
 use Rattle.mo_types.specs.declared.object.Symbol.{Symbol}
 use Rattle.mo_types.specs.declared.object.SymbolKind.{SymbolKind}
-use Rattle.symbol_winners.specs.Found.{Found}
+use Rattle.symbol_winners.specs.Found.{FileCandidate}
 use Rattle.symbol_winners.specs.Winners.{align_in, found_word, is_exported, size_in, winner_by}
 use Rattle.symbol_winners.specs.declared.best.Best.{Best}
 use Rattle.symbol_winners.specs.declared.chosen.Chosen.{Chosen}
@@ -47,14 +47,14 @@ pub record AreBests (files : List LoadedFile) (names : List (List ℕ)) (fs : Li
   pub are : table ≡ table_of (best_of files) held_name names fs
 
 -- for each name what is held of its candidates, of some that have the numbers of their names
-pub record HasBests (files : List LoadedFile) (names : List (List ℕ)) (all : List Found) (table : List Best) : Type 0 where
+pub record HasBests (files : List LoadedFile) (names : List (List ℕ)) (all : List FileCandidate) (table : List Best) : Type 0 where
   pub fs : List FoundIn
   pub held_is : held fs ≡ all
   pub numbered : AreNumbered names fs
   pub bests : AreBests files names fs table
 
 -- a candidate stands at its index in a whole file
-pub record IsCandidateOf (f : Found) : Type 0 where
+pub record IsCandidateOf (f : FileCandidate) : Type 0 where
   pub whole : IsWholeFile f.file
   pub index : f.index < length f.file.object.symbols
   pub there : (d : Symbol) → get_or f.file.object.symbols f.index d ≡ f.symbol

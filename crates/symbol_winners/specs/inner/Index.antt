@@ -2,7 +2,7 @@
 use Rattle.std.specs.Prelude.{◌≡◌, ℕ, ◌<◌, List, get_or, position, slice_get, Option, Some, None, IsSome}
 use Rattle.std.specs.Option.{option_and_then}
 use Rattle.std.specs.Str.{bytes_eq}
-use Rattle.mo_cmd.specs.declared.command.Command.{Command}
+use Rattle.command_line.specs.declared.command.Command.{Command}
 use Rattle.symbol_winners.specs.Winners.{lists, winner_named}
 use Rattle.symbol_winners.specs.declared.chosen.Chosen.{Chosen}
 use Rattle.symbol_winners.specs.declared.exports.ExportRules.{ExportRules}

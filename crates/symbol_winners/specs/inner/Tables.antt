@@ -9,7 +9,7 @@ use Rattle.symbol_winners.specs.declared.firsts.Firsts.TheVariants.{Neither, One
 use Rattle.symbol_winners.specs.declared.found.FoundIn.{FoundIn}
 use Rattle.mo_types.specs.declared.key.FileId.{FileId}
 use Rattle.symbol_winners.specs.Duplicates.{is_strong}
-use Rattle.symbol_winners.specs.Found.{Found, candidate_of}
+use Rattle.symbol_winners.specs.Found.{FileCandidate, candidate_of}
 
 -- the elements of a name
 abbrev pub named : {X : Type 0} → (X → List ℕ) → List ℕ → List X → List X
@@ -35,14 +35,14 @@ pair_of _ = None
 pub record AreFirsts (names : List (List ℕ)) (candidates : List Candidate) (table : List Firsts) : Type 0 where
   pub are : table ≡ table_of firsts_of candidate_name names candidates
 
-abbrev pub found_of : FoundIn → Found
+abbrev pub found_of : FoundIn → FileCandidate
 found_of f = record { file = f.file.now; index = f.index; symbol = f.symbol.now }
 
-abbrev pub held : List FoundIn → List Found
+abbrev pub held : List FoundIn → List FileCandidate
 held fs = map found_of fs
 
 -- the strong ones among candidates
-unfoldable pub strong_among : List Found → List Candidate
+unfoldable pub strong_among : List FileCandidate → List Candidate
 strong_among fs = filter is_strong (map candidate_of fs)
 
 -- the files of the first two candidates of the name of a number

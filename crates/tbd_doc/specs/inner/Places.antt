@@ -1,9 +1,9 @@
 -- The nodes of a walk by the places of their first events.
 use Rattle.std.specs.Prelude.{ℕ, ◌+◌, ◌-◌, ◌≡◌, ◌==◌, ◌&&◌, Bool, true, false, List, [], ◌∷◌, ◌++◌, drop, if◌then◌else◌}
-use Rattle.tbd_yaml.specs.declared.file.YamlEvent.{YamlEvent}
-use Rattle.tbd_yaml.specs.declared.file.YamlEvent.TheVariants as event
+use Rattle.yaml_text.specs.declared.file.YamlEvent.{YamlEvent}
+use Rattle.yaml_text.specs.declared.file.YamlEvent.TheVariants as event
 use Rattle.tbd_yaml.specs.Tree.{Tree, scalar, list, map as map_of, events_of}
-use Rattle.tbd_doc.specs.Nodes.{Field, tree_of}
+use Rattle.tbd_doc.specs.Nodes.{KeyedNode, tree_of}
 
 -- the tree at a place
 abbrev pub tree_at : List YamlEvent → ℕ → Tree
@@ -26,7 +26,7 @@ key_in [] = []
 key_in (step ∷ steps) = key_of step
 
 -- the field whose value begins at a place, right behind its key
-abbrev pub field_at : List YamlEvent → ℕ → Field
+abbrev pub field_at : List YamlEvent → ℕ → KeyedNode
 field_at events at = record { key = key_in (drop (at - 1) events); value = tree_at events at }
 
 abbrev pub is_end : YamlEvent → Bool

@@ -1,4 +1,4 @@
-use Rattle.fixup_chain.proofs.AddressLemmas.{address_is}
+use Rattle.sect_place.proofs.AddressLemmas.{address_is}
 use Rattle.fixup_chain.proofs.targets.address_of.Goals as goal
 
 pub returns : goal.returns

@@ -1,4 +1,4 @@
-use Rattle.image_make.proofs.AddressLemmas.{address_is}
+use Rattle.sect_place.proofs.AddressLemmas.{address_is}
 use Rattle.image_make.proofs.addresses.address_beside.Goals as goal
 
 pub returns : goal.returns

@@ -1,6 +1,6 @@
 use Rattle.std.proofs.Common.{◌<◌, ◌^◌, subst}
 use Rattle.sect_place.specs.Layout.{IsLayoutOf, IsTooLarge, Plan, image_size}
-use Rattle.sect_place.proofs.Once.{listed_once}
+use Rattle.sect_list.proofs.Once.{listed_once}
 use Rattle.sect_place.proofs.Single.{layout_rises}
 use Rattle.image_make.proofs.KeptListLemmas.{rising_atoms}
 use Rattle.image_make.proofs.LaidLemmas.{low_atoms, once, same_plan}

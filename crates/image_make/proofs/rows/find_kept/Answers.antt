@@ -2,7 +2,7 @@ use Rattle.std.proofs.Common.{rules, sym, ◌∙◌}
 use Rattle.std.proofs.lemmas.Fn.{always_returns_same}
 use Rattle.mo_types.specs.Keys.{compare_keys}
 use Rattle.mo_types.specs.declared.atom.Atom.{Atom}
-use Rattle.key_hints.proofs.Keys.{found_key, no_key}
+use Rattle.atom_index.proofs.Keys.{found_key, no_key}
 use Rattle.image_make.proofs.KeptListLemmas.{atom_found, atom_missing, sorted_atoms}
 use Rattle.image_make.proofs.rows.find_kept.Goals as goal
 

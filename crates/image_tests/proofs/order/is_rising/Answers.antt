@@ -4,7 +4,7 @@ use Rattle.std.proofs.lemmas.List.{get_or_default}
 use Rattle.std.proofs.lemmas.List.Sorted.{all_adjacent_more}
 use Rattle.mo_types.specs.declared.atom.Atom.{Atom}
 use Rattle.mo_types.specs.Keys.{compare_keys}
-use Rattle.key_hints.proofs.Keys.{rises_from}
+use Rattle.atom_index.proofs.Keys.{rises_from}
 use Rattle.image_tests.proofs.order.is_rising.Goals as goal
 
 apart : (atoms : List Atom) (i : ℕ) (a b d : Atom) → 1 ≤ i → i < length atoms → Less ≡ compare_keys (get_or atoms (i - 1) a).key (get_or atoms i b).key → compare_keys (get_or atoms (i - 1) d).key (get_or atoms i d).key ≡ Less

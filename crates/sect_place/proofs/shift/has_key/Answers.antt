@@ -4,7 +4,7 @@ use Rattle.std.proofs.lemmas.Fn.{always_returns_same}
 use Rattle.mo_types.proofs.KeyOrder.{compare_keys_total}
 use Rattle.mo_types.specs.Keys.{compare_keys}
 use Rattle.mo_types.specs.declared.key.AtomKey.{AtomKey}
-use Rattle.key_hints.proofs.Keys.{found_key, no_key, sorted_from_rising}
+use Rattle.atom_index.proofs.Keys.{found_key, no_key, sorted_from_rising}
 use Rattle.sect_place.proofs.shift.has_key.Goals as goal
 
 pub returns-in-Ok-clause-found : goal.returns-in-Ok-clause-found

@@ -1,4 +1,4 @@
-use Rattle.mo_cmd.specs.declared.command.Command.{Command}
+use Rattle.command_line.specs.declared.command.Command.{Command}
 use Rattle.symbol_winners.specs.inner.Index.{AreRules}
 use Rattle.symbol_winners.proofs.ListSteps.{AreUpTo}
 use Rattle.symbol_winners.proofs.choosing.winners_of.Given as goal

@@ -5,7 +5,7 @@ use Rattle.std.proofs.lemmas.Fn.{always_returns_same}
 use Rattle.tlv_plan.specs.declared.parts.Offset.{Offset}
 use Rattle.mo_types.specs.Keys.{compare_keys}
 use Rattle.mo_types.proofs.KeyOrder.{compare_keys_total}
-use Rattle.key_hints.proofs.Keys.{found_key, no_key}
+use Rattle.atom_index.proofs.Keys.{found_key, no_key}
 use Rattle.std.proofs.lemmas.Cmp.{tied_itself}
 use Rattle.tlv_plan.proofs.lookup.find.Goals as goal
 

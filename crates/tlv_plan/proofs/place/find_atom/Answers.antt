@@ -3,7 +3,7 @@ use Rattle.std.proofs.lemmas.Fn.{always_returns_same}
 use Rattle.mo_types.specs.declared.atom.Atom.{Atom}
 use Rattle.mo_types.specs.Keys.{compare_keys}
 use Rattle.mo_types.proofs.KeyOrder.{compare_keys_total}
-use Rattle.key_hints.proofs.Keys.{found_key, no_key, find_found, find_missing, sorted_from_rising}
+use Rattle.atom_index.proofs.Keys.{found_key, no_key, find_found, find_missing, sorted_from_rising}
 use Rattle.std.proofs.lemmas.Cmp.{on_total}
 use Rattle.tlv_plan.proofs.place.find_atom.Goals as goal
 

@@ -1,6 +1,6 @@
 use Rattle.std.proofs.Common.{◌≤◌, refl, sym, arith}
 use Rattle.mo_types.specs.declared.atom.Atom.{Atom}
-use Rattle.key_hints.proofs.Keys.{find_has}
+use Rattle.atom_index.proofs.Keys.{find_has}
 use Rattle.tlv_plan.proofs.Walk.{standing_skips, standing_goes_on, standing_room, standing_ends}
 use Rattle.tlv_plan.proofs.place.place_atoms.Goals as goal
 use Rattle.tlv_plan.proofs.place.place_atoms.Goals.{in-Some+in_ok-push-in-Some, in-None}

@@ -1,6 +1,6 @@
 use Rattle.std.proofs.Common.{◌≤◌, refl, sym, arith}
 use Rattle.mo_types.specs.declared.atom.Atom.{Atom}
-use Rattle.key_hints.proofs.Keys.{find_has}
+use Rattle.atom_index.proofs.Keys.{find_has}
 use Rattle.tlv_plan.proofs.Walk.{ending_starts, ending_skips, ending_goes_on, ending_room, ending_ends}
 use Rattle.tlv_plan.proofs.room.end_of_atoms.Goals as goal
 use Rattle.tlv_plan.proofs.room.end_of_atoms.Goals.{in-Some+in_ok-at-in-Some, in-None}

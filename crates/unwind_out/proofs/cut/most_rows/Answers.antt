@@ -1,6 +1,6 @@
 use Rattle.std.proofs.Common.{◌≡◌, ◌+◌, get_or, take, arith}
 use Rattle.std.proofs.lemmas.List.{get_or_default}
-use Rattle.mo_format.specs.declared.unwind.RegularPageEntry.{RegularPageEntry}
+use Rattle.image_format.specs.declared.unwind.RegularPageEntry.{RegularPageEntry}
 use Rattle.unwind_out.specs.Pages.{encodings}
 use Rattle.unwind_out.proofs.Cutting.{meeting_starts, meeting_goes_on, most_far, most_indexed, most_room, encodings_next}
 use Rattle.unwind_out.proofs.cut.most_rows.Goals as goal

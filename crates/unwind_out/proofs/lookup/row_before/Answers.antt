@@ -1,6 +1,6 @@
 use Rattle.std.proofs.Common.{◌+◌, ◌-◌, ◌*◌, ℕ, refl, ap, ◌∙◌, arith}
-use Rattle.mo_format.specs.Unwind.{unwind_index_entry_at}
-use Rattle.mo_format.specs.declared.unwind.UnwindIndexEntry.{UnwindIndexEntry}
+use Rattle.image_format.specs.Unwind.{unwind_index_entry_at}
+use Rattle.image_format.specs.declared.unwind.UnwindIndexEntry.{UnwindIndexEntry}
 use Rattle.unwind_out.specs.Lookup.{page_rows, row_at}
 use Rattle.unwind_out.proofs.Places.{seeking_goes_on}
 use Rattle.unwind_out.proofs.lookup.row_before.Goals as goal

@@ -1,5 +1,5 @@
 use Rattle.std.proofs.Common.{◌-◌}
-use Rattle.mo_format.specs.Unwind.{unwind_index_entry_at}
+use Rattle.image_format.specs.Unwind.{unwind_index_entry_at}
 use Rattle.unwind_out.specs.Lookup.{page_rows}
 use Rattle.unwind_out.proofs.Places.{IsSeeking}
 use Rattle.unwind_out.proofs.lookup.row_before.Given as goal

@@ -1,4 +1,4 @@
-use Rattle.mo_format.specs.Unwind.{regular_page_entry_bytes}
+use Rattle.image_format.specs.Unwind.{regular_page_entry_bytes}
 use Rattle.unwind_out.proofs.Loops.{IsPutting}
 use Rattle.unwind_out.proofs.pages.put_regular_rows.Given as goal
 

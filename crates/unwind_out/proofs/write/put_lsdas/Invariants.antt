@@ -1,4 +1,4 @@
-use Rattle.mo_format.specs.Unwind.{unwind_lsda_entry_bytes}
+use Rattle.image_format.specs.Unwind.{unwind_lsda_entry_bytes}
 use Rattle.unwind_out.proofs.Loops.{IsPutting}
 use Rattle.unwind_out.proofs.write.put_lsdas.Given as goal
 

@@ -1,0 +1,12 @@
+use Rattle.std.proofs.Common.{append-nil}
+use Rattle.image_format.proofs.ChainedLemmas.{chained_starts_in_image_read}
+use Rattle.image_format.proofs.chained_fixups.ChainedStartsInImage.write.Goals as goal
+
+pub returns-clause-ok : goal.returns-clause-ok
+returns-clause-ok c =
+    rw (c.put_u32.ensures.items, c.reserve.ensures.items)
+    (simp append-nil)
+
+pub returns-clause-read_back : goal.returns-clause-read_back
+returns-clause-read_back c rest =
+    rw (returns-clause-ok c) (chained_starts_in_image_read c.args.self c.args.out.now.items rest (c.put_u32.ensures.fits, tt))

@@ -1,0 +1,12 @@
+use Rattle.std.proofs.Common.{append_assoc, append-nil}
+use Rattle.image_format.proofs.UnwindLemmas.{regular_page_entry_read}
+use Rattle.image_format.proofs.unwind.RegularPageEntry.write.Goals as goal
+
+pub returns-clause-ok : goal.returns-clause-ok
+returns-clause-ok c =
+    rw (c.put_u32-2.ensures.items, c.put_u32.ensures.items, c.reserve.ensures.items)
+    (simp (append_assoc, append-nil))
+
+pub returns-clause-read_back : goal.returns-clause-read_back
+returns-clause-read_back c rest =
+    rw (returns-clause-ok c) (regular_page_entry_read c.args.self c.args.out.now.items rest (c.put_u32.ensures.fits, (c.put_u32-2.ensures.fits, tt)))

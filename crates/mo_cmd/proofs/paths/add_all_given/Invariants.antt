@@ -1,8 +1,0 @@
-use Rattle.std.proofs.Common.{◌≡◌, ◌++◌, take}
-use Rattle.std.specs.Prelude.{flat_map}
-use Rattle.std.specs.Option.{option_map}
-use Rattle.mo_cmd.specs.Paths.{for_directory}
-use Rattle.mo_cmd.proofs.paths.add_all_given.Given as goal
-
-abbrev pub invariant-loop-directory : goal.invariant-loop-directory
-invariant-loop-directory l = l.found ≡ l.initial.found ++ flat_map (for_directory l.form l.stem (option_map (λ root. root.now) l.root)) (take l.directory-index l.directories)

@@ -1,0 +1,2 @@
+pub mod OutSections
+pub mod inner

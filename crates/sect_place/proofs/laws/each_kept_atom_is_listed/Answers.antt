@@ -1,5 +1,0 @@
-use Rattle.sect_place.proofs.Listed.{kept_are_listed}
-use Rattle.sect_place.proofs.laws.each_kept_atom_is_listed.Goals as goal
-
-pub returns : goal.returns
-returns c = λ files kept atom home there is. kept_are_listed files kept atom home there is

@@ -1,9 +1,0 @@
-use Rattle.std.proofs.Common.{◌-◌, length}
-use Rattle.tbd_yaml.proofs.QuotedLemmas.{IsReadingText}
-use Rattle.tbd_yaml.proofs.quoted.meant_text.Given as goal
-
-abbrev pub invariant-loop-at : goal.invariant-loop-at
-invariant-loop-at l = IsReadingText l.quote l.text l.at l.bytes.items
-
-abbrev pub decreases-loop-at : goal.decreases-loop-at
-decreases-loop-at l = length l.text - l.at

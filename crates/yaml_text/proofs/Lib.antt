@@ -1,0 +1,4 @@
+pub mod LineLemmas
+pub mod QuotedLemmas
+pub mod PlainLemmas
+pub mod FlowLemmas

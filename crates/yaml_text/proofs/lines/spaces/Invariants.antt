@@ -1,0 +1,9 @@
+use Rattle.std.proofs.Common.{◌==◌, ◌-◌, length}
+use Rattle.yaml_text.proofs.LineLemmas.{IsPassing}
+use Rattle.yaml_text.proofs.lines.spaces.Given as goal
+
+abbrev pub invariant-loop-at : goal.invariant-loop-at
+invariant-loop-at l = IsPassing (λ byte. byte == 0x20) l.text l.at
+
+abbrev pub decreases-loop-at : goal.decreases-loop-at
+decreases-loop-at l = length l.text - l.at

@@ -1,0 +1,6 @@
+pub mod Characters
+pub mod Lines
+pub mod Scalars
+pub mod Flow
+pub mod FaultText
+pub mod inner
