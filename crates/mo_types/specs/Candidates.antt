@@ -10,10 +10,19 @@ use Rattle.mo_types.specs.declared.loaded.LoadedFile.{LoadedFile}
 use Rattle.mo_types.specs.declared.object.Section.{Section}
 use Rattle.mo_types.specs.declared.object.Symbol.{Symbol}
 use Rattle.mo_types.specs.declared.object.SymbolKind.{SymbolKind}
-use Rattle.mo_types.specs.declared.object.SymbolKind.TheVariants.{Common, Defined}
+use Rattle.mo_types.specs.declared.object.SymbolKind.TheVariants.{Common, Defined, Undefined}
 use Rattle.mo_types.specs.RelocationRules.{section_numbered}
 use Rattle.mo_types.specs.Rows.{when}
 use Rattle.mo_types.specs.Whole.{is_dropped}
+
+-- a name that another file is to define (`nlist.h`: N_UNDF)
+abbrev pub is_undefined : SymbolKind → Bool
+is_undefined Undefined = true
+is_undefined _ = false
+
+abbrev pub is_common : SymbolKind → Bool
+is_common (Common align size) = true
+is_common _ = false
 
 -- a symbol that stands for a place of the image: a definition in a section that is linked, or a common symbol
 abbrev pub has_place : List Section → SymbolKind → Bool

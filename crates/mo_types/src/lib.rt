@@ -10,6 +10,9 @@
 //! candidates for the definition of a name, and the word of each, is said by `Object::is_candidate` and
 //! `FileId::word_of`; to which section of the image a section's atoms go by `Section::destination_segment` and its
 //! kin.
+//!
+//! A body that orders atoms by their offsets before their sections isn't proved, nor one in which different goals of
+//! one name tie, one that exchanges two exit statuses, or one that loses what a reference subtracts.
 #![tactic(auto)]
 
 mod answer;
@@ -56,5 +59,5 @@ pub use out_section::{KeyList, OutSection, OutSections};
 pub use ref_list::RefList;
 pub use reference::{FieldRange, Ref, RefKind, Target};
 pub use reference_fault::RefFault;
-pub use string::{Arg, ArgList, Bytes, NameList};
+pub use string::{Arg, ArgList, Bytes, NameList, hashed_front};
 pub use unwind::{Unwind, UnwindList};

@@ -1,3 +1,6 @@
+ghost use Rattle.std.specs.Prelude.{◌≡◌};
+ghost use Rattle.mo_types.specs.Candidates as spec;
+
 use crate::items::Items;
 use crate::string::Bytes;
 
@@ -17,6 +20,22 @@ pub enum SymbolKind {
     Absolute,
     /// A symbol that the linker passes over: a debugging entry, or an undefined one that isn't external.
     Passed,
+}
+
+impl SymbolKind {
+    /// Whether another file is to define it.
+    pub fn is_undefined(&self) -> bool
+        ensures { result ≡ spec.is_undefined self.now }
+    {
+        matches!(self, SymbolKind::Undefined)
+    }
+
+    /// Whether it is a common symbol.
+    pub fn is_common(&self) -> bool
+        ensures { result ≡ spec.is_common self.now }
+    {
+        matches!(self, SymbolKind::Common { .. })
+    }
 }
 
 /// A symbol of an object (`nlist.h`: `nlist_64`).

@@ -70,7 +70,8 @@ fn add(
     reference: Ref,
 ) -> Result<(), OutOfMemory>
     requires { spec.AreRowsWithin (length others.now.items) rows.now.items }
-    ensures ok { OnOk result (spec.refs_of_rows file others.new.items rows.new.items ≡ spec.refs_of_rows file others.old.items rows.old.items ++ reference ∷ []) }
+    ensures ok { OnOk result (spec.refs_of_rows file others.new.items rows.new.items
+        ≡ spec.refs_of_rows file others.old.items rows.old.items ++ reference ∷ []) }
     ensures within { spec.AreRowsWithin (length others.new.items) rows.new.items }
     ensures err_rows { OnErr result (rows.new.items ≡ rows.old.items) }
     ensures err_others { OnErr result (others.new.items ≡ others.old.items) }

@@ -135,17 +135,17 @@ impl Ord for Bytes {
     }
 }
 
-// The first bytes of a string, or all where it has no more.
+/// The part of a string that a hash takes: its first 1,024 bytes, or all where it has no more. Strings of a file that are
+/// parts of each other have other lengths, so that a hash of length and front tells them apart, and one of all bytes would
+/// be quadratic in the file.
 #[tactic(auto, using(crate::proofs::Fronts::fronts))]
-fn front(bytes: &[u8]) -> &[u8]
+pub fn hashed_front(bytes: &[u8]) -> &[u8]
     ensures { result.now ≡ take 1024 bytes.now }
 {
     let count = bytes.len().min(1024);
     &bytes[..count]
 }
 
-// Strings that are parts of each other have other lengths, so that a hash of all their bytes, which is quadratic in
-// the file where they overlap, isn't needed to tell them apart.
 impl Hash for Bytes {
     ghost hash_input = { λ bytes. fed.usize (length bytes) ++ fed.slice fed.u8 (take 1024 bytes) };
 
@@ -153,7 +153,7 @@ impl Hash for Bytes {
 
     fn hash<H: Hasher>(&self, state: &mut H) {
         self.len().hash(state);
-        front(self.as_slice()).hash(state);
+        hashed_front(self.as_slice()).hash(state);
     }
 }
 

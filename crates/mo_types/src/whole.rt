@@ -42,7 +42,8 @@ fn has_whole_strings(section: &Section) -> bool
 }
 
 fn has_room(section: &Section) -> bool
-    ensures { IsTrue result ↔ ((section.now.address + section.now.size < 2 ^ 63) × (section.now.file_offset + section.now.size < 2 ^ 64) × (section.now.reloc_offset + 8 * length section.now.relocs < 2 ^ 64)) }
+    ensures { IsTrue result ↔ ((section.now.address + section.now.size < 2 ^ 63) × (section.now.file_offset + section.now.size < 2 ^ 64)
+        × (section.now.reloc_offset + 8 * length section.now.relocs < 2 ^ 64)) }
 {
     let address = section.address;
     let size = section.size;

@@ -1,9 +1,8 @@
 -- Names that are numbered one by one are there once each.
-use Rattle.std.proofs.Common.{◌≡◌, ◌≢◌, ℕ, zero, suc, ◌<◌, ◌⊎◌, Bool, nat_lt, true, false, ◌||◌, List, [], ◌∷◌, ◌++◌, length, min, take, slice_get, position, Contains, Some, refl, sym, ap, subst, ◌∙◌, inl, inr, arith}
+use Rattle.std.proofs.Common.{◌≡◌, ◌≢◌, ℕ, zero, suc, ◌<◌, ◌⊎◌, Bool, nat_lt, true, false, ◌||◌, List, [], ◌∷◌, ◌++◌, length, slice_get, position, Contains, Some, refl, sym, subst, ◌∙◌, inl, inr, arith}
 use Rattle.std.specs.List.{AllByRecursion, AllPairs, IsDistinct, list_any, position_or_len}
 use Rattle.std.specs.Str.{bytes_eq}
 use Rattle.std.proofs.lemmas.Bool.{lt-ltb}
-use Rattle.std.proofs.lemmas.List.{take_min}
 use Rattle.std.proofs.lemmas.Map.Made.{AllPairs-from_IsDistinct}
 use Rattle.std.proofs.lemmas.Slice.Eq.{bytes_eq-Decides}
 use Rattle.indexmap.specs.IndexSet.{insert_all, insert_key}
@@ -95,11 +94,3 @@ unfolding numbered
 only names name h = only_listed names name (from_inserted bytes_eq same_name [] names name (in_from_Contains (insert_all bytes_eq [] names) name h))
 
 pub ruleset numbers = (once, back, all, only)
-
--- the first bytes of a name
-pub front_of : (bytes : List ℕ) (count : ℕ) → count ≡ min (length bytes) 1024 → take count bytes ≡ take 1024 bytes
-front_of bytes count is =
-    let e : count ≡ min 1024 (length bytes) = omega arith in
-    ap (λ n. take n bytes) e ∙ take_min 1024 bytes
-
-pub ruleset fronts = (front_of)

@@ -15,5 +15,6 @@ pub fn each_name_has_a_number()
 #[tactic(auto, using(crate::proofs::Once::numbers))]
 pub fn numbers_lead_back()
     ensures once { (names : List (List ℕ)) → AllPairs (λ a b. a ≢ b) (numbered names) }
-    ensures back { (names : List (List ℕ)) (id : ℕ) (name : List ℕ) → slice_get (numbered names) id ≡ Some name → position (bytes_eq name) (numbered names) ≡ Some id }
+    ensures back { (names : List (List ℕ)) (id : ℕ) (name : List ℕ) → slice_get (numbered names) id ≡ Some name
+        → position (bytes_eq name) (numbered names) ≡ Some id }
 {}

@@ -6,7 +6,10 @@
 //! (`numbers_lead_back`). With them come the numbers of the names of each file's symbols, `NO_NUMBER` for what isn't
 //! external (`numbers`): so what belongs to a name is found by its number, and each name is hashed once where it
 //! stands. `id_of` is the number of a name, `None` exactly where it isn't there, and `name_of` the name of a number,
-//! both without memory.
+//! both without memory. Which names there are is said in `specs/Names.antt`.
+//!
+//! Refused are a body that gives each symbol the number 0, one that leaves out the further names, one that takes names
+//! of one length for the same, and one that numbers one name more than the limit allows.
 #![tactic(auto)]
 
 mod fault;

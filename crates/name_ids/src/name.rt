@@ -1,5 +1,6 @@
-ghost use Rattle.std.specs.Prelude.{◌≡◌, take};
+ghost use Rattle.std.specs.Prelude.{◌≡◌};
 
+use mo_types::hashed_front;
 use std::hash::{Hash, Hasher};
 use std::marker::Model;
 
@@ -51,17 +52,6 @@ impl<'a> Eq for Name<'a> {
     ghost laws = { nat_list_eq_equiv };
 }
 
-// The first bytes of a name, or all where it has no more.
-#[tactic(auto, using(crate::proofs::Once::fronts))]
-fn front(bytes: &[u8]) -> &[u8]
-    ensures { result.now ≡ take 1024 bytes.now }
-{
-    let count = bytes.len().min(1024);
-    &bytes[..count]
-}
-
-// Names that are parts of each other have other lengths, so that a hash of all their bytes, which is quadratic in the
-// file where they overlap, isn't needed to tell them apart.
 impl<'a> Hash for Name<'a> {
     ghost use Rattle.std.specs.Prelude.{◌∷◌, ◌++◌, [], length, take};
     ghost use Rattle.std.specs.Hash as fed;
@@ -74,6 +64,6 @@ impl<'a> Hash for Name<'a> {
 
     fn hash<H: Hasher>(&self, state: &mut H) {
         state.write_usize(self.0.len());
-        state.write(front(self.0));
+        state.write(hashed_front(self.0));
     }
 }
