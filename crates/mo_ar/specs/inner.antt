@@ -1,4 +1,5 @@
 pub mod Hash
 pub mod Index
+pub mod Offered
 pub mod Order
 pub mod Tables

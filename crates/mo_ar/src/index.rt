@@ -1,10 +1,13 @@
 //! The index of offers by name.
 
-ghost use Rattle.std.specs.Prelude.{◌≡◌, ℕ, ◌+◌, ◌^◌, ◌<◌, ◌≤◌, List, length, All, IfNone, IfOk, IfSome, OnOk, drop, slice_set, slice_index, slice_index_or, true};
+ghost use Rattle.std.specs.Prelude.{◌≡◌, ℕ, ◌+◌, ◌^◌, ◌<◌, ◌≤◌, true, IfNone, IfOk, IfSome, OnOk};
+ghost use Rattle.std.specs.Prelude.{List, length, All, slice_set, slice_index, slice_index_or};
 ghost use Rattle.std.specs.Str.{bytes_eq};
 ghost use Rattle.mo_ar.specs.inner.Index as index;
 ghost use Rattle.mo_ar.specs.inner.Hash.{AreMarks};
-ghost use Rattle.mo_ar.specs.inner.Index.{AreBuckets, AreChained, AreNexts, AreNodes, BeginsAt, IsEntry, IsIndex, IsIndexOf, IsNodeOf, IsOther, StandsAt, offers_of};
+ghost use Rattle.mo_ar.specs.inner.Index.{AreChained, AreNexts, AreNodes, BeginsAt, IsEntry, IsIndexOf, IsNodeOf};
+ghost use Rattle.mo_ar.specs.inner.Index.{IsOther, StandsAt, offers_of};
+ghost use Rattle.mo_ar.specs.inner.Offered.{AreBucketsFrom, IsBucketAt, IsIndexFrom};
 ghost use Rattle.mo_ar.specs.Offers.{first_offer};
 ghost use Rattle.mo_ar.specs.Text.{part};
 ghost use Rattle.mo_ar.specs.declared.index.Node.{Node};
@@ -12,6 +15,7 @@ ghost use Rattle.mo_ar.specs.declared.offers.Entry.{Entry};
 ghost use Rattle.mo_ar.specs.declared.offers.Offer.{Offer};
 
 use crate::hash::{LONG, hash, hash_at, marks_of};
+use crate::offered::Offered;
 use crate::offers::Entry;
 use crate::order::{in_order, name_of, rank};
 use mo_types::OutOfMemory;
@@ -160,9 +164,7 @@ fn bucket_count(names: usize) -> usize
 // memory. Hashes of long names need marks, which are made at the first such name.
 fn buckets_of(
     alloc: Global,
-    strings: &[u8],
-    order: &[Entry],
-    entries: &[Entry],
+    offered: &Offered,
     marks: &mut Vec<u64>,
     count: usize,
     from: usize,
@@ -171,20 +173,25 @@ fn buckets_of(
     requires some { 0 < count }
     requires few { count ≤ 2 ^ 32 }
     requires places { from ≤ to }
-    requires within { to ≤ length entries.now }
-    requires entries { All (IsEntry strings.now) entries.now }
-    requires order { All (IsEntry strings.now) order.now }
-    requires marks { AreMarks strings.now marks.old.items }
-    ensures buckets { IfOk result (λ buckets. AreBuckets strings.now order.now count entries.now from buckets.items) }
+    requires within { to ≤ length offered.now.entries.now }
+    requires marks { AreMarks offered.now.strings.now marks.old.items }
+    ensures buckets { IfOk result (λ buckets. AreBucketsFrom offered.now count from buckets.items) }
     ensures len { IfOk result (λ buckets. from + length buckets.items ≡ to) }
-    ensures marks { OnOk result (AreMarks strings.now marks.new.items) }
+    ensures marks { OnOk result (AreMarks offered.now.strings.now marks.new.items) }
 {
     let mut buckets = Vec::with_capacity(alloc, to - from)?;
     for i in from..to {
-        if entries[i].size as usize > LONG && marks.is_empty() {
-            *marks = marks_of(alloc, strings)?;
+        let entry = offered.entries[i];
+        if entry.size as usize > LONG && marks.is_empty() {
+            *marks = marks_of(alloc, offered.strings)?;
         }
-        let b = bucket_at(strings, order, marks.as_slice(), entries[i], count);
+        let b = bucket_at(
+            offered.strings,
+            offered.order,
+            marks.as_slice(),
+            entry,
+            count,
+        );
         buckets.push_reserved(b as u32);
     }
     Ok(buckets)
@@ -209,35 +216,31 @@ fn ahead(heads: &[u32], buckets: &[u32]) -> u32
 // is long. The greatest of the heads that were read ahead is no greater than a new one; it is used here, so that they are
 // read at all.
 fn put(
-    strings: &[u8],
-    order: &[Entry],
-    entries: &[Entry],
+    offered: &Offered,
     heads: &mut [u32],
     nodes: &mut Vec<Node>,
     b: usize,
     greatest: u32,
     at: usize,
 ) -> Result<bool, OutOfMemory>
-    requires entries { All (IsEntry strings.now) entries.now }
-    requires order { All (IsEntry strings.now) order.now }
-    requires place { at < length entries.now }
-    requires bucket { (d : Entry) → b ≡ index.bucket strings.now order.now (length heads.old) (part strings.now (slice_index_or entries.now at d).at (slice_index_or entries.now at d).size) }
+    requires place { at < length offered.now.entries.now }
+    requires bucket { IsBucketAt offered.now (length heads.old) at b }
     requires inside { b < length heads.old }
     requires few { length nodes.old.items + 1 < 2 ^ 32 }
     requires greatest { greatest ≤ length nodes.old.items }
-    requires index { IsIndex strings.now order.now (drop (at + 1) (offers_of strings.now entries.now)) heads.old nodes.old.items }
-    ensures index { OnOk result (IsIndex strings.now order.now (drop at (offers_of strings.now entries.now)) heads.new nodes.new.items) }
+    requires index { IsIndexFrom offered.now (at + 1) heads.old nodes.old.items }
+    ensures index { OnOk result (IsIndexFrom offered.now at heads.new nodes.new.items) }
     ensures more { OnOk result (length nodes.old.items ≤ length nodes.new.items) }
     ensures few { OnOk result (length nodes.new.items ≤ length nodes.old.items + 1) }
     ensures len { length heads.new ≡ length heads.old }
 {
-    let entry = entries[at];
-    let name = name_of(strings, entry);
+    let entry = offered.entries[at];
+    let name = name_of(offered.strings, entry);
     let count = heads.len();
     let head = heads[b];
     match find(
-        strings,
-        order,
+        offered.strings,
+        offered.order,
         nodes.as_slice(),
         name,
         Some(entry.at),
@@ -259,25 +262,21 @@ fn put(
 
 // Puts the offers from one index up to another, from the last to the first, and says whether a bucket of theirs is long.
 fn put_each(
-    strings: &[u8],
-    order: &[Entry],
-    entries: &[Entry],
+    offered: &Offered,
     buckets: &[u32],
     heads: &mut [u32],
     nodes: &mut Vec<Node>,
     from: usize,
     to: usize,
 ) -> Result<bool, OutOfMemory>
-    requires entries { All (IsEntry strings.now) entries.now }
-    requires order { All (IsEntry strings.now) order.now }
-    requires buckets { AreBuckets strings.now order.now (length heads.old) entries.now from buckets.now }
+    requires buckets { AreBucketsFrom offered.now (length heads.old) from buckets.now }
     requires many { from + length buckets.now ≡ to }
-    requires within { to ≤ length entries.now }
-    requires offers { length entries.now < 2 ^ 32 }
-    requires few { length nodes.old.items + to ≤ length entries.now }
-    requires index { IsIndex strings.now order.now (drop to (offers_of strings.now entries.now)) heads.old nodes.old.items }
-    ensures index { OnOk result (IsIndex strings.now order.now (drop from (offers_of strings.now entries.now)) heads.new nodes.new.items) }
-    ensures few { OnOk result (length nodes.new.items + from ≤ length entries.now) }
+    requires within { to ≤ length offered.now.entries.now }
+    requires offers { length offered.now.entries.now < 2 ^ 32 }
+    requires few { length nodes.old.items + to ≤ length offered.now.entries.now }
+    requires index { IsIndexFrom offered.now to heads.old nodes.old.items }
+    ensures index { OnOk result (IsIndexFrom offered.now from heads.new nodes.new.items) }
+    ensures few { OnOk result (length nodes.new.items + from ≤ length offered.now.entries.now) }
     ensures len { length heads.new ≡ length heads.old }
 {
     let greatest = ahead(heads, buckets);
@@ -286,7 +285,7 @@ fn put_each(
     while at > from {
         at -= 1;
         let b = buckets[at - from] as usize;
-        if put(strings, order, entries, heads, nodes, b, greatest, at)? {
+        if put(offered, heads, nodes, b, greatest, at)? {
             long = true;
         }
     }
@@ -296,41 +295,27 @@ fn put_each(
 // The same, with their buckets.
 fn put_piece(
     alloc: Global,
-    strings: &[u8],
-    order: &[Entry],
-    entries: &[Entry],
+    offered: &Offered,
     marks: &mut Vec<u64>,
     heads: &mut [u32],
     nodes: &mut Vec<Node>,
     from: usize,
     to: usize,
 ) -> Result<bool, OutOfMemory>
-    requires entries { All (IsEntry strings.now) entries.now }
-    requires order { All (IsEntry strings.now) order.now }
-    requires marks { AreMarks strings.now marks.old.items }
+    requires marks { AreMarks offered.now.strings.now marks.old.items }
     requires buckets { length heads.old ≤ 2 ^ 32 }
     requires places { from ≤ to }
-    requires within { to ≤ length entries.now }
-    requires offers { length entries.now < 2 ^ 32 }
-    requires few { length nodes.old.items + to ≤ length entries.now }
-    requires index { IsIndex strings.now order.now (drop to (offers_of strings.now entries.now)) heads.old nodes.old.items }
-    ensures index { OnOk result (IsIndex strings.now order.now (drop from (offers_of strings.now entries.now)) heads.new nodes.new.items) }
-    ensures few { OnOk result (length nodes.new.items + from ≤ length entries.now) }
+    requires within { to ≤ length offered.now.entries.now }
+    requires offers { length offered.now.entries.now < 2 ^ 32 }
+    requires few { length nodes.old.items + to ≤ length offered.now.entries.now }
+    requires index { IsIndexFrom offered.now to heads.old nodes.old.items }
+    ensures index { OnOk result (IsIndexFrom offered.now from heads.new nodes.new.items) }
+    ensures few { OnOk result (length nodes.new.items + from ≤ length offered.now.entries.now) }
     ensures len { length heads.new ≡ length heads.old }
-    ensures marks { OnOk result (AreMarks strings.now marks.new.items) }
+    ensures marks { OnOk result (AreMarks offered.now.strings.now marks.new.items) }
 {
-    let count = heads.len();
-    let buckets = buckets_of(alloc, strings, order, entries, marks, count, from, to)?;
-    put_each(
-        strings,
-        order,
-        entries,
-        buckets.as_slice(),
-        heads,
-        nodes,
-        from,
-        to,
-    )
+    let buckets = buckets_of(alloc, offered, marks, heads.len(), from, to)?;
+    put_each(offered, buckets.as_slice(), heads, nodes, from, to)
 }
 
 // The index of some offers by buckets, or `None` if it is to have no long bucket, and would have one.
@@ -354,11 +339,14 @@ fn built(
     let mut to = entries.len();
     while to > 0 {
         let from = to.saturating_sub(PIECE);
+        let offered = Offered {
+            strings,
+            order: order.as_slice(),
+            entries,
+        };
         let long = put_piece(
             alloc,
-            strings,
-            order.as_slice(),
-            entries,
+            &offered,
             &mut marks,
             heads.as_mut_slice(),
             &mut nodes,

@@ -7,6 +7,13 @@
 //! the member whose header stands at its place (`an_archive_is_a_chain`). `first_offer` gives the least-numbered
 //! member that the table gives to a name, by an index. No contract speaks of time; reading is linear in members,
 //! pairs and strings but for what is slow yet.
+//!
+//! The definitions stand in `specs/Slice.antt`, `specs/Archive.antt` and `specs/Offers.antt`, and the chain of headers
+//! in `specs/Chain.antt`. The module `member` reads one header with its name, `contents` the table of contents, and
+//! `index` finds names in it.
+//!
+//! The contracts refuse a body that answers a slice that ends outside the file, one that looks for the next header
+//! without the byte that pads an odd member, and one that gives a pair the member of its own number.
 #![tactic(auto)]
 
 mod archive;
@@ -17,6 +24,7 @@ mod index;
 mod laws;
 mod member;
 mod offer_list;
+mod offered;
 mod offers;
 mod order;
 mod places;
