@@ -7,11 +7,20 @@ ghost use Rattle.mo_types.specs.Keys.{compare_keys};
 ghost use Rattle.patch.specs.Range.{AreStanding, IsPatched, IsSameBeside};
 ghost use Rattle.image_join.specs.inner.Halves.{IsFilled, least_of};
 
+use crate::worker_range::WorkerRange;
 use mo_outside::Gate;
 use mo_types::{AtomKey, Loaded};
 use patch::{Meeting, PatchFault, PlacedWork, patch_range};
 use std::alloc::Global;
 use std::thread::{Threads, join_mut};
+
+/// Atoms with their places in an image, the loaded files whose objects have their bytes, and what their references mean.
+#[derive_where(Clone, Copy)]
+pub struct PlacedAtoms<'a, M> {
+    pub work: &'a [PlacedWork],
+    pub loaded: &'a Loaded,
+    pub meeting: &'a M,
+}
 
 fn is_after(a: &AtomKey, b: &AtomKey) -> bool
     ensures { result ≡ is_gt (compare_keys a.now b.now) }
@@ -47,51 +56,62 @@ fn cut_of(work: &[PlacedWork], low: u32, workers: u32) -> usize
         .clamp(1, work.len() - 1)
 }
 
-// Places atoms in a piece of the image by so many workers, the first of which has the number `first`. The piece is
-// halved between two atoms and one half goes to a new thread, or comes last in this one where none can be started.
+// Places atoms in a piece of the image that begins at the offset `from` of its file, by these workers. The piece is halved
+// between two atoms and one half goes to a new thread, or comes last in this one where none can be started.
 #[cycle(halves)]
 fn fill_piece<R: Threads + Sync, G: Gate + Sync, M: Meeting + Sync>(
     rt: &R,
     alloc: Global,
     gate: &G,
-    first: u32,
-    workers: u32,
-    loaded: &Loaded,
-    meeting: &M,
-    work: &[PlacedWork],
+    workers: WorkerRange,
+    atoms: &PlacedAtoms<M>,
     from: u64,
     piece: &mut [u8],
 ) -> Result<(), PatchFault>
-    requires workers { first + workers < 2 ^ 32 }
-    requires ready { M.ready meeting.now }
-    requires work { AreStanding loaded.now.files from (length piece.old) work.now }
-    ensures { IsFilled loaded.now.files (M.mets_of meeting.now) from work.now piece.old piece.new result }
+    requires ready { M.ready atoms.now.meeting.now }
+    requires work { AreStanding atoms.now.loaded.now.files from (length piece.old) atoms.now.work.now }
+    ensures { IsFilled atoms.now.loaded.now.files (M.mets_of atoms.now.meeting.now) from atoms.now.work.now piece.old piece.new result }
 {
-    if workers < 2 || work.len() < 2 {
-        gate.pass(first);
+    let (work, loaded, meeting) = (atoms.work, atoms.loaded, atoms.meeting);
+    if workers.count < 2 || work.len() < 2 {
+        gate.pass(workers.first);
         return patch_range(alloc, piece, from, work, loaded, meeting);
     }
-    let low = workers / 2;
-    let high = workers - low;
+    let first = workers.first;
+    let low = workers.count / 2;
+    let high = workers.count - low;
     let next = first + low;
-    let (before, behind) = work.split_at(cut_of(work, low, workers));
+    let (before, behind) = work.split_at(cut_of(work, low, workers.count));
     let seam = behind[0].at;
     let (front, back) = piece.split_at_mut((seam - from) as usize);
     let mut place_low = || -> Result<(), PatchFault>
-        requires { IsSync R.row × IsSync G.row × IsSync M.row × M.ready meeting.now × (first + low < 2 ^ 32) × AreStanding loaded.now.files from (length front.now) before.now }
+        requires { IsSync R.row × IsSync G.row × IsSync M.row × M.ready meeting.now × (first + low < 2 ^ 32)
+            × AreStanding loaded.now.files from (length front.now) before.now }
         ensures { IsFilled loaded.entry.now.files (M.mets_of meeting.entry.now) from before.entry.now front.entry.now front.exit.now result }
     {
-        fill_piece(
-            rt, alloc, gate, first, low, loaded, meeting, before, from, front,
-        )
+        let workers = WorkerRange { first, count: low };
+        let atoms = PlacedAtoms {
+            work: before,
+            loaded,
+            meeting,
+        };
+        fill_piece(rt, alloc, gate, workers, &atoms, from, front)
     };
     let mut place_high = || -> Result<(), PatchFault>
-        requires { IsSync R.row × IsSync G.row × IsSync M.row × M.ready meeting.now × (next + high < 2 ^ 32) × AreStanding loaded.now.files seam (length back.now) behind.now }
+        requires { IsSync R.row × IsSync G.row × IsSync M.row × M.ready meeting.now × (next + high < 2 ^ 32)
+            × AreStanding loaded.now.files seam (length back.now) behind.now }
         ensures { IsFilled loaded.entry.now.files (M.mets_of meeting.entry.now) seam behind.entry.now back.entry.now back.exit.now result }
     {
-        fill_piece(
-            rt, alloc, gate, next, high, loaded, meeting, behind, seam, back,
-        )
+        let workers = WorkerRange {
+            first: next,
+            count: high,
+        };
+        let atoms = PlacedAtoms {
+            work: behind,
+            loaded,
+            meeting,
+        };
+        fill_piece(rt, alloc, gate, workers, &atoms, seam, back)
     };
     let (low, high) = join_mut(rt, &mut place_low, &mut place_high);
     least_of(low, high)
@@ -111,14 +131,16 @@ pub fn fill<R: Threads + Sync, G: Gate + Sync, M: Meeting + Sync>(
     gate: &G,
     workers: u32,
     image: &mut [u8],
-    work: &[PlacedWork],
-    loaded: &Loaded,
-    meeting: &M,
+    atoms: &PlacedAtoms<M>,
 ) -> Result<(), PatchFault>
-    requires ready { M.ready meeting.now }
-    requires work { AreStanding loaded.now.files 0 (length image.old) work.now }
-    ensures beside { IsSameBeside loaded.now.files 0 work.now image.old image.new }
-    ensures patched { IsPatched loaded.now.files (M.mets_of meeting.now) 0 work.now image.new result }
+    requires ready { M.ready atoms.now.meeting.now }
+    requires work { AreStanding atoms.now.loaded.now.files 0 (length image.old) atoms.now.work.now }
+    ensures beside { IsSameBeside atoms.now.loaded.now.files 0 atoms.now.work.now image.old image.new }
+    ensures patched { IsPatched atoms.now.loaded.now.files (M.mets_of atoms.now.meeting.now) 0 atoms.now.work.now image.new result }
 {
-    fill_piece(rt, alloc, gate, 0, workers, loaded, meeting, work, 0, image)
+    let all = WorkerRange {
+        first: 0,
+        count: workers,
+    };
+    fill_piece(rt, alloc, gate, all, atoms, 0, image)
 }

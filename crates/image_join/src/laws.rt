@@ -22,12 +22,18 @@ pub fn parts_are_one_image()
 /// The atoms with their fields and the bytes beside them are all of an image: two images, or pieces of one, in which
 /// each atom stands with its fields and every other byte is as it was are the same.
 pub fn filled_images_are_one()
-    ensures { (files : List LoadedFile) (mets : PlacedWork → List Met) (from : ℕ) (work : List PlacedWork) (old a b : List ℕ) → AreStanding files from (length old) work → All (λ byte. byte < 256) a → All (λ byte. byte < 256) b → IsSameBeside files from work old a → All (IsPlaced files mets from a) work → IsSameBeside files from work old b → All (IsPlaced files mets from b) work → a ≡ b }
+    ensures { (files : List LoadedFile) (mets : PlacedWork → List Met) (from : ℕ) (work : List PlacedWork) (old a b : List ℕ)
+        → AreStanding files from (length old) work → All (λ byte. byte < 256) a → All (λ byte. byte < 256) b
+        → IsSameBeside files from work old a → All (IsPlaced files mets from a) work
+        → IsSameBeside files from work old b → All (IsPlaced files mets from b) work → a ≡ b }
 {}
 
 /// Where a value doesn't fit its field, no image is filled, and where atoms have their fields and no two of them one key,
 /// one fault alone is the first one of the atom with the least key.
 pub fn filled_or_not()
-    ensures never { (files : List LoadedFile) (mets : PlacedWork → List Met) (from : ℕ) (work : List PlacedWork) (key : AtomKey) (fault : RangeFault) (image : List ℕ) → IsLeastFault files mets work key fault → ¬ All (IsPlaced files mets from image) work }
-    ensures one { (files : List LoadedFile) (mets : PlacedWork → List Met) (work : List PlacedWork) (fault other : AtomKey × RangeFault) → All (HasFields files mets) work → AllPairs (λ a b. a.atom.key ≢ b.atom.key) work → IsLeastFault files mets work fault.0 fault.1 → IsLeastFault files mets work other.0 other.1 → fault ≡ other }
+    ensures never { (files : List LoadedFile) (mets : PlacedWork → List Met) (from : ℕ) (work : List PlacedWork) (key : AtomKey) (fault : RangeFault)
+        → (image : List ℕ) → IsLeastFault files mets work key fault → ¬ All (IsPlaced files mets from image) work }
+    ensures one { (files : List LoadedFile) (mets : PlacedWork → List Met) (work : List PlacedWork) (fault other : AtomKey × RangeFault)
+        → All (HasFields files mets) work → AllPairs (λ a b. a.atom.key ≢ b.atom.key) work
+        → IsLeastFault files mets work fault.0 fault.1 → IsLeastFault files mets work other.0 other.1 → fault ≡ other }
 {}

@@ -37,7 +37,8 @@ pub fn seal<R: Threads + Sync>(
     requires { HasPlaces seal.now (length image.old) }
     ensures sealed { OnOk result (IsSealed seal.now image.new) }
     // Where its command names the signature, a check of the image is good.
-    ensures good { OnOk result (IsNamed image.new seal.now.signature_at (signature_size (length seal.now.identifier) seal.now.signature_at) → IsSigned image.new) }
+    ensures good { OnOk result (IsNamed image.new seal.now.signature_at (signature_size (length seal.now.identifier) seal.now.signature_at)
+        → IsSigned image.new) }
     ensures beside { (k : ℕ) → IsUnsealed seal.now k → slice_index image.new k ≡ slice_index image.old k }
 {
     let (front, place) = image.split_at_mut(seal.signature_at as usize);

@@ -5,7 +5,7 @@ ghost use Rattle.image_join.specs.Joined.{AreRising};
 
 use crate::fields::{object, work};
 use crate::listed::{Listed, one_each};
-use image_join::{Part, PartList, Parts, fill, join};
+use image_join::{Part, PartList, Parts, PlacedAtoms, fill, join};
 use mo_outside::{FreeGate, Gate, MeetGate};
 use mo_types::{AtomKey, Bytes, Loaded, OutOfMemory, RangeKind, RefKind};
 use patch::{Met, PatchFault, PlacedWork, RangeFault, work_stands};
@@ -151,7 +151,12 @@ fn filled<R: Threads + Sync, G: Gate + Sync>(
         apart,
         rows,
     };
-    Some(fill(rt, alloc, gate, workers, image, items, loaded, &listed))
+    let atoms = PlacedAtoms {
+        work: items,
+        loaded,
+        meeting: &listed,
+    };
+    Some(fill(rt, alloc, gate, workers, image, &atoms))
 }
 
 // Atoms, of which the last one of the section comes first, so many bytes apart.

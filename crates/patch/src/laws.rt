@@ -14,12 +14,14 @@ ghost use Rattle.patch.specs.Reading.{KeepsBits, Tells};
 /// bits are the target's, and a number is the difference or the target.
 #[tactic(auto, using(crate::proofs::ReadingLemmas::read_back))]
 pub fn fields_read_back()
-    ensures { (address : ℕ) (mets : List Met) (old new : List ℕ) → ArePatched address mets old new → All (λ met. Tells met.kind (address + met.place) (number (size_of met) new met.place) met) mets }
+    ensures { (address : ℕ) (mets : List Met) (old new : List ℕ) → ArePatched address mets old new
+        → All (λ met. Tells met.kind (address + met.place) (number (size_of met) new met.place) met) mets }
 {}
 
 /// The bits of an instruction outside its field are as they were.
 pub fn instructions_keep_their_other_bits()
-    ensures { (address : ℕ) (mets : List Met) (old new : List ℕ) → ArePatched address mets old new → All (λ met. KeepsBits met.kind (number 4 old met.place) (number (size_of met) new met.place)) mets }
+    ensures { (address : ℕ) (mets : List Met) (old new : List ℕ) → ArePatched address mets old new
+        → All (λ met. KeepsBits met.kind (number 4 old met.place) (number (size_of met) new met.place)) mets }
 {}
 
 /// No byte is part of two fields of an atom.
@@ -29,11 +31,13 @@ pub fn no_byte_is_in_two_fields()
 
 /// No byte of an image is part of two atoms.
 pub fn no_byte_is_in_two_atoms()
-    ensures { (files : List LoadedFile) (from size : ℕ) (work : List PlacedWork) → AreStanding files from size work → AllPairs (λ a b. (k : ℕ) → IsBeside files from k a ⊎ IsBeside files from k b) work }
+    ensures { (files : List LoadedFile) (from size : ℕ) (work : List PlacedWork) → AreStanding files from size work
+        → AllPairs (λ a b. (k : ℕ) → IsBeside files from k a ⊎ IsBeside files from k b) work }
 {}
 
 /// The fields and the other bytes of an atom are all of it: two lists of bytes in which each field holds its value and
 /// every other byte is as it was are the same list.
 pub fn patched_bytes_are_one()
-    ensures { (address : ℕ) (mets : List Met) (old a b : List ℕ) → All (λ byte. byte < 256) a → All (λ byte. byte < 256) b → ArePatched address mets old a → ArePatched address mets old b → a ≡ b }
+    ensures { (address : ℕ) (mets : List Met) (old a b : List ℕ) → All (λ byte. byte < 256) a → All (λ byte. byte < 256) b
+        → ArePatched address mets old a → ArePatched address mets old b → a ≡ b }
 {}

@@ -1,4 +1,22 @@
 //! The fields of references in an image: what each is to hold, and the bytes of atoms with their fields.
+//!
+//! A `Met` is a reference with what it means in the image: its field's place in the atom, its kind, and the address
+//! that it leads to with what is added or subtracted. `field_of` (`specs/Field.antt`) says what the field holds, by
+//! the kind (`mach-o/arm64/reloc.h`) and the instruction that is there, or which value doesn't fit it.
+//!
+//! `patch_atom` writes the fields of one atom and leaves all other bytes (`ArePatched`). Where values don't fit it
+//! answers the one at the least place, and writes nothing. It takes no memory. `patch_range` writes the atoms of a
+//! piece of an image, each with its bytes and fields at its place, and leaves all other bytes (`specs/Range.antt`); a
+//! `Meeting` tells it the references of each. Where values don't fit it answers the first one of the atom with the
+//! least key. It takes memory for the references of one atom at a time, and answers fields that don't lie apart as
+//! want of memory.
+//!
+//! Where `fields_are_in_order` says yes, fields are as `patch_atom` wants them, and `work_stands` says whether atoms
+//! are as `patch_range` does. The laws say that what was written reads back as the target (`fields_read_back`), that
+//! instructions keep their other bits, that no byte is in two fields or two atoms, and that the bytes are one thing.
+//!
+//! Refused are a body that adds an addend twice, one that cuts a branch out of reach to its lowest bits, and one that
+//! has written bytes before it answers a fault.
 #![tactic(auto)]
 
 mod atom;

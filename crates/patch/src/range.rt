@@ -64,6 +64,13 @@ impl From<OutOfMemory> for Trouble {
     }
 }
 
+// The references of the atom that was met last, and where they ended among those of the image.
+#[derive(Drop)]
+struct LastMet {
+    mets: Vec<Met>,
+    next: usize,
+}
+
 // A fault with the atom that has it.
 #[derive(Clone, Copy)]
 struct Fault {
@@ -102,14 +109,13 @@ pub(crate) fn contents_of<'a>(files: &'a [LoadedFile], item: &PlacedWork) -> &'a
 fn met_for<M: Meeting>(
     meeting: &M,
     item: &PlacedWork,
-    next: &mut usize,
-    mets: &mut Vec<Met>,
+    last: &mut LastMet,
 ) -> Result<(), OutOfMemory>
     requires ready { M.ready meeting.now }
-    ensures { OnOk result (mets.new.items ≡ M.mets_of meeting.now item.now) }
+    ensures { OnOk result (last.new.mets.items ≡ M.mets_of meeting.now item.now) }
 {
-    mets.clear();
-    meeting.meet(item, next, mets)
+    last.mets.clear();
+    meeting.meet(item, &mut last.next, &mut last.mets)
 }
 
 // Writes the bytes of an atom with its fields. Only where a value doesn't fit, all are asked for the first fault.
@@ -150,7 +156,7 @@ fn has_fields(
     fields_are_apart(alloc, item.address, contents_of(files, item).len(), mets)
 }
 
-// Writes the bytes of an atom whose references are met first, in a list that held those of the one before it.
+// Writes the bytes of an atom whose references are met first, in place of those of the one before it.
 #[tactic(auto, using(crate::proofs::RangeLemmas::ones))]
 fn place_next<M: Meeting>(
     alloc: Global,
@@ -159,19 +165,19 @@ fn place_next<M: Meeting>(
     item: &PlacedWork,
     files: &[LoadedFile],
     meeting: &M,
-    next: &mut usize,
-    mets: &mut Vec<Met>,
+    last: &mut LastMet,
 ) -> Result<(), Trouble>
     requires ready { M.ready meeting.now }
     requires standing { IsStanding files.now from (length piece.old) item.now }
     ensures beside { IsBesideOne files.now from item.now piece.old piece.new }
     ensures patched { IsOnePatched files.now (M.mets_of meeting.now) from piece.new item.now result }
 {
-    met_for(meeting, item, next, mets)?;
-    if !has_fields(alloc, item, files, mets.as_slice())? {
+    met_for(meeting, item, last)?;
+    let mets = last.mets.as_slice();
+    if !has_fields(alloc, item, files, mets)? {
         return Err(Trouble::OutOfMemory);
     }
-    match place(piece, from, item, files, mets.as_slice()) {
+    match place(piece, from, item, files, mets) {
         Ok(()) => Ok(()),
         Err(fault) => Err(Trouble::Range(fault)),
     }
@@ -195,12 +201,12 @@ fn place_all<M: Meeting>(
     ensures fault { IfOk result (λ least. IsLeastSo files.now (M.mets_of meeting.now) work.now least) }
 {
     let mut least = None;
-    let mut next = 0;
-    let mut mets = Vec::new(alloc);
+    let mut last = LastMet {
+        mets: Vec::new(alloc),
+        next: 0,
+    };
     for item in work {
-        match place_next(
-            alloc, piece, from, item, files, meeting, &mut next, &mut mets,
-        ) {
+        match place_next(alloc, piece, from, item, files, meeting, &mut last) {
             Ok(()) => {}
             Err(Trouble::Range(fault)) => {
                 let key = item.atom.key;

@@ -7,9 +7,9 @@ use Rattle.image_join.proofs.filling.+halves.Goals as goal
 
 pub join_mut-low-requires-after_bounds : goal.join_mut-low-requires-after_bounds
 join_mut-low-requires-after_bounds g t c κs within =
-    let files = c.args.loaded.now.files in
-    let mets = (g.M.Meeting.mets_of c.args.meeting.now) in
-    let work = c.args.work.now in
+    let files = c.args.atoms.now.loaded.now.files in
+    let mets = (g.M.Meeting.mets_of c.args.atoms.now.meeting.now) in
+    let work = c.args.atoms.now.work.now in
     let from = c.args.from in
     let size = length c.args.piece.now in
     let at = c.cut_of.result in
@@ -26,9 +26,9 @@ join_mut-low-requires-after_bounds g t c κs within =
 
 pub returns : goal.returns
 returns g t c =
-    let files = c.args.loaded.now.files in
-    let mets = (g.M.Meeting.mets_of c.args.meeting.now) in
-    let work = c.args.work.now in
+    let files = c.args.atoms.now.loaded.now.files in
+    let mets = (g.M.Meeting.mets_of c.args.atoms.now.meeting.now) in
+    let work = c.args.atoms.now.work.now in
     let from = c.args.from in
     let size = length c.args.piece.now in
     let at = c.cut_of.result in
