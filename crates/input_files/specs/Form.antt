@@ -2,11 +2,10 @@
 use Rattle.std.specs.Prelude.{ℕ, ◌==◌, ◌&&◌, ◌||◌, Bool, true, false, not}
 use Rattle.std.specs.List.{list_any}
 use Rattle.mo_format.specs.declared.loader.TheConstants.{S_4BYTE_LITERALS, S_8BYTE_LITERALS, S_16BYTE_LITERALS, S_CSTRING_LITERALS, S_THREAD_LOCAL_REGULAR, S_THREAD_LOCAL_VARIABLES, S_THREAD_LOCAL_ZEROFILL}
+use Rattle.mo_types.specs.Candidates.{is_common}
 use Rattle.mo_types.specs.Whole.{is_dropped}
 use Rattle.mo_types.specs.declared.loaded.LoadedFile.{LoadedFile}
 use Rattle.mo_types.specs.declared.object.Section.{Section}
-use Rattle.mo_types.specs.declared.object.SymbolKind.{SymbolKind}
-use Rattle.mo_types.specs.declared.object.SymbolKind.TheVariants.{Common}
 use Rattle.mo_types.specs.declared.reference.RefKind.{RefKind}
 use Rattle.mo_types.specs.declared.reference.RefKind.TheVariants.{Pointer, GotPage, GotPageOff, GotDelta, GotPointer, TlvPage, TlvPageOff}
 use Rattle.mo_obj.specs.Features.{is_unwind}
@@ -20,10 +19,6 @@ is_later_type kind =
 -- a linked section of such a type, or frames of functions in their compact form
 abbrev pub is_later_section : Section → Bool
 is_later_section section = (not (is_dropped section) && is_later_type section.kind) || is_unwind section
-
-abbrev pub is_common : SymbolKind → Bool
-is_common (Common align size) = true
-is_common _ = false
 
 -- a pointer, and what leads to a slot of the image (`mach-o/arm64/reloc.h`)
 abbrev pub is_later_kind : RefKind → Bool

@@ -3,6 +3,7 @@ use Rattle.std.specs.Prelude.{◌≡◌, List, map, All, Option, Some, None, Res
 use Rattle.std.specs.List.{filter_map}
 use Rattle.std.specs.List.Sorted.{IsStrictlySortedBy}
 use Rattle.std.specs.Ordering.{nat_cmp}
+use Rattle.std.proofs.lemmas.Map.Keys.{IsStrictlySortedBy-prop}
 use Rattle.mo_types.specs.Loaded.{IsWholeFile}
 use Rattle.mo_types.specs.declared.loaded.LoadedFile.{LoadedFile}
 use Rattle.mo_ar.specs.declared.archive.Archive.{Archive}
@@ -17,6 +18,9 @@ inputs_of sources = map (λ source. source.input) sources
 -- the inputs stand by rising positions
 abbrev pub AreInOrder : List Input → Type 0
 AreInOrder inputs = IsStrictlySortedBy nat_cmp (map (λ input. input.position) inputs)
+
+pub in_order_prop : (inputs : List Input) → IsProp (AreInOrder inputs)
+in_order_prop inputs = IsStrictlySortedBy-prop nat_cmp (map (λ input. input.position) inputs)
 
 abbrev pub object_as : Input → Option Archive → Option (Result LoadedFile LoadFault)
 object_as input None = Some (read_as (id_at input 0) input.label input.bytes)

@@ -2,6 +2,7 @@
 ghost use Rattle.std.specs.Prelude.{◌≡◌, false, slice_get};
 ghost use Rattle.std.specs.List.{list_any};
 ghost use Rattle.std.specs.Option.{option_map_or};
+ghost use Rattle.mo_types.specs.Candidates.{is_common};
 ghost use Rattle.mo_obj.specs.Features.{is_unwind};
 ghost use Rattle.input_files.specs.Form as form;
 
@@ -9,7 +10,7 @@ use mo_format::loader::{
     S_4BYTE_LITERALS, S_8BYTE_LITERALS, S_16BYTE_LITERALS, S_CSTRING_LITERALS,
     S_THREAD_LOCAL_REGULAR, S_THREAD_LOCAL_VARIABLES, S_THREAD_LOCAL_ZEROFILL,
 };
-use mo_types::{LoadedFile, RefKind, RefList, Section, Symbol, SymbolKind};
+use mo_types::{LoadedFile, RefKind, RefList, Section, Symbol};
 
 fn is_later_type(kind: u8) -> bool
     ensures { result ≡ form.is_later_type kind }
@@ -39,12 +40,6 @@ fn is_later_section(section: &Section) -> bool
     !section.is_dropped() && is_later_type(section.kind) || has_unwind(section)
 }
 
-fn is_common(symbol: &Symbol) -> bool
-    ensures { result ≡ form.is_common symbol.now.kind }
-{
-    matches!(symbol.kind, SymbolKind::Common { .. })
-}
-
 fn is_later_reference(kind: RefKind) -> bool
     ensures { result ≡ form.is_later_kind kind }
 {
@@ -68,9 +63,9 @@ fn any_later_section(sections: &[Section]) -> bool
 }
 
 fn any_common(symbols: &[Symbol]) -> bool
-    ensures { result ≡ list_any (λ symbol. form.is_common symbol.kind) symbols.now }
+    ensures { result ≡ list_any (λ symbol. is_common symbol.kind) symbols.now }
 {
-    symbols.iter().any(is_common)
+    symbols.iter().any(|symbol| symbol.kind.is_common())
 }
 
 // Whether there is a reference at a place, and its kind comes with a later version.

@@ -65,11 +65,17 @@ low_position inputs k d order high =
     let low : k ≤ get_or (map (λ (input : Input). input.position) inputs) k 0 = low_number (map (λ (input : Input). input.position) inputs) k order (omega (arith, high, length-map inputs (λ (input : Input). input.position))) in
     subst (λ (n : ℕ). k ≤ n) (get_or-map (λ (input : Input). input.position) inputs k d 0 high) low
 
--- so they have a number of 32 bits, where the last one's position has one of 16
-pub few_inputs : (inputs : List Input) (d : Input) → AreInOrder inputs → false ≡ (length inputs == 0) → Fits w16 (get_or inputs (length inputs - 1) d).position → Fits w32 (length inputs)
-few_inputs [] d order some fits = absurd (let s : false ≡ true = some in cc)
-few_inputs (input ∷ inputs) d order some fits =
+-- so there are no more than the last one's position tells
+pub last_position : (inputs : List Input) (d : Input) → AreInOrder inputs → false ≡ (length inputs == 0) → length inputs ≤ (get_or inputs (length inputs - 1) d).position + 1
+last_position [] d order some = absurd (let s : false ≡ true = some in cc)
+last_position (input ∷ inputs) d order some =
     let low : length (input ∷ inputs) - 1 ≤ (get_or (input ∷ inputs) (length (input ∷ inputs) - 1) d).position = low_position (input ∷ inputs) (length (input ∷ inputs) - 1) d order (omega arith) in
-    let high : (get_or (input ∷ inputs) (length (input ∷ inputs) - 1) d).position < 2 ^ 16 = Fits-lt-pow fits in
-    let few : length (input ∷ inputs) < 2 ^ 32 = omega (arith, low, high) in
+    omega (arith, low)
+
+-- and their number has 32 bits, where that position has 16
+pub few_inputs : (inputs : List Input) (d : Input) → AreInOrder inputs → false ≡ (length inputs == 0) → Fits w16 (get_or inputs (length inputs - 1) d).position → Fits w32 (length inputs)
+few_inputs inputs d order some fits =
+    let low : length inputs ≤ (get_or inputs (length inputs - 1) d).position + 1 = last_position inputs d order some in
+    let high : (get_or inputs (length inputs - 1) d).position < 2 ^ 16 = Fits-lt-pow fits in
+    let few : length inputs < 2 ^ 32 = omega (arith, low, high) in
     Fits-of_lt few

@@ -13,12 +13,14 @@ ghost use Rattle.input_read.specs.declared.opening.Opening.{Opening};
 /// There are as many openings as inputs, each what the input at its place is.
 pub fn each_input_is_opened()
     ensures count { (inputs : List Input) (openings : List Opening) → openings_of inputs ≡ Ok openings → length openings ≡ length inputs }
-    ensures each { (inputs : List Input) (openings : List Opening) (k : ℕ) (input : Input) (opening : Opening) → openings_of inputs ≡ Ok openings → k < length inputs → opening_of (slice_index_or inputs k input) ≡ Ok (slice_index_or openings k opening) }
+    ensures each { (inputs : List Input) (openings : List Opening) (k : ℕ) (input : Input) (opening : Opening)
+        → openings_of inputs ≡ Ok openings → k < length inputs → opening_of (slice_index_or inputs k input) ≡ Ok (slice_index_or openings k opening) }
 {}
 
 /// A fault is told exactly where an input has one, and is that of the first such input.
 pub fn the_first_fault_is_told()
-    ensures { (inputs : List Input) (fault : LoadFault) → (contents_of inputs ≡ Err fault) ↔ (first_some (λ input. result_err (opening_of input)) inputs ≡ Some fault) }
+    ensures { (inputs : List Input) (fault : LoadFault)
+        → (contents_of inputs ≡ Err fault) ↔ (first_some (λ input. result_err (opening_of input)) inputs ≡ Some fault) }
 {}
 
 /// The objects and archives stand in the order of the inputs.

@@ -1,9 +1,6 @@
-use input_files::Source;
+use input_files::SourceList;
 use lib_bind::StubFileList;
-use mo_types::{Items, LoadedList};
-
-/// Inputs of which files are loaded, each with the archive that it is, if it is one.
-pub type SourceList = Items<Source>;
+use mo_types::LoadedList;
 
 /// What the inputs of a command line are, in its order.
 #[derive(Debug, Drop)]

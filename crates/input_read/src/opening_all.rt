@@ -53,7 +53,7 @@ fn count_of(inputs: &[Input]) -> u32
     if inputs.is_empty() {
         return 0;
     }
-    let _last = inputs[inputs.len() - 1].position;
+    prove!(inputs.len() <= usize::from(inputs[inputs.len() - 1].position) + 1);
     inputs.len() as u32
 }
 

@@ -92,27 +92,6 @@ after_next fetches root heads start closing next at old mid new before here =
     subst (λ (n : ℕ). Asking fetches [] known_by (Ok next) (λ look. after look root heads n start) old new) count
     (then_asked fetches [] (known_by closing) known_by known_by closing (Ok next) (λ look. after look root heads at start) (λ look. step look root heads at) old mid new refl before here)
 
--- all numbers of requests were taken
-pub after_all : {S : Type 0} (fetches : S → List ℕ → Answer → S → Type 0) (root : Option (List ℕ)) (heads : List (List ℕ × ℕ)) (start closing : Closing) (at : ℕ) (old new : FilesSeen S)
-    → Asking fetches [] known_by (Ok closing) (λ look. after look root heads at start) old new → IsClosing fetches root heads start (Err fault.OutOfMemory) old new
-after_all fetches root heads start closing at old new before = record {
-  count = at;
-  asking = record {
-    asked = before.asked;
-    chain = before.chain;
-    agree = before.agree;
-    logged = before.logged;
-    once = before.once;
-    adds = tt;
-    follows = λ look gave kind. absurd kind;
-    kept = before.kept;
-    rises = before.rises;
-    still = λ well. absurd well;
-    failed = λ path is. absurd (cc);
-  };
-  done = tt;
-}
-
 pub after_ended : {S : Type 0} (fetches : S → List ℕ → Answer → S → Type 0) (root : Option (List ℕ)) (heads : List (List ℕ × ℕ)) (start closing : Closing) (why : BindFault) (result : Result Closing BindFault) (at : ℕ) (old mid new : FilesSeen S)
     → Asking fetches [] known_by (Ok closing) (λ look. after look root heads at start) old mid → Asking fetches (known_by closing) known_by (Err why) (λ look. step look root heads at closing) mid new
     → IsErrAnd result (λ passed. passed ≡ why) → IsClosing fetches root heads start result old new

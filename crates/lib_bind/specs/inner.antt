@@ -1,5 +1,6 @@
 pub mod Checked
 pub mod Filling
+pub mod Growing
 pub mod Held
 pub mod Index
 pub mod Key

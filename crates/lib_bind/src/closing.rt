@@ -215,7 +215,8 @@ fn step<F: Files>(
     requires within { at < length closing.work }
     requires held { IsHeld (length closing.growing.documents) heads.now closing }
     ensures held { IfOk result (IsHeld (length closing.growing.documents) heads.now) }
-    ensures asking { Asking F.answers (asked_in closing.growing) (λ new. asked_in new.growing) result (λ look. spec.step look command.now.syslibroot heads.now at closing)
+    ensures asking { Asking F.answers (asked_in closing.growing) (λ new. asked_in new.growing) result
+        (λ look. spec.step look command.now.syslibroot heads.now at closing)
         (seen F.holds F.asked F.faults files.old) (seen F.holds F.asked F.faults files.new) }
 {
     let Closing {
@@ -240,15 +241,14 @@ pub fn closed<F: Files>(
     requires known { start.growing.known ≡ [] }
     requires held { IsHeld (length start.growing.documents) heads.now start }
     ensures held { IfOk result (IsHeld (length start.growing.documents) heads.now) }
-    ensures closing { IsClosing F.answers command.now.syslibroot heads.now start result (seen F.holds F.asked F.faults files.old) (seen F.holds F.asked F.faults files.new) }
+    ensures closing { IsClosing F.answers command.now.syslibroot heads.now start result
+        (seen F.holds F.asked F.faults files.old) (seen F.holds F.asked F.faults files.new) }
 {
     let mut closing = start;
-    for at in 0..usize::MAX {
-        if at >= closing.work.len() {
-            return Ok(closing);
-        }
+    let mut at = 0;
+    while at < closing.work.len() {
         closing = step(alloc, command, files, heads, at, closing)?;
+        at += 1;
     }
-    // No list has so many elements.
-    Err(BindFault::OutOfMemory)
+    Ok(closing)
 }

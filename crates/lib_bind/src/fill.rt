@@ -1,13 +1,12 @@
 //! The names that libraries provide, noted library by library. A document is looked at once, for the first library that
 //! reaches it: what a later one reaches again is provided by the earlier one.
-ghost use Rattle.std.specs.Prelude.{◌≡◌, ◌+◌, ◌<◌, ◌⊎◌, ◌&&◌, ℕ, List, [], Bool, true, false, not, nat_eq, Some, Contains, IfOk, length, get_or, slice_get, zip, bytes_eq};
-ghost use Rattle.std.specs.List.{list_any};
+ghost use Rattle.std.specs.Prelude.{◌≡◌, ◌+◌, ◌<◌, ◌⊎◌, ◌&&◌, ℕ, List, [], true, false, Some, Contains, IfOk, length, get_or, slice_get, zip, bytes_eq};
 ghost use Rattle.mo_types.specs.Scan.{first_some, option_or_else};
 ghost use Rattle.lib_bind.specs.Provides as provides;
 ghost use Rattle.lib_bind.specs.declared.library.Library.{Library as Lib};
 ghost use Rattle.lib_bind.specs.declared.provider.Offer.{Offer as Offered};
 ghost use Rattle.lib_bind.specs.inner.Index.{known};
-ghost use Rattle.lib_bind.specs.inner.Filling.{Covers, IsBefore, adds, merged};
+ghost use Rattle.lib_bind.specs.inner.Filling.{AddsDocument, AddsNames, Covers, IsBefore, adds, exports_name, weakens_name};
 
 use crate::index::NameIndex;
 use crate::library::{Library, NumberList};
@@ -37,7 +36,7 @@ fn add_export(
     library: Library,
     export: &Export,
 ) -> Result<NameIndex, OutOfMemory>
-    ensures { IfOk result (λ new. (name : List ℕ) → known new name ≡ merged library (known index name) (bytes_eq name export.now.name) (bytes_eq name export.now.name && export.now.weak)) }
+    ensures { IfOk result (AddsNames library (λ name. bytes_eq name export.now.name) (λ name. bytes_eq name export.now.name && export.now.weak) index) }
 {
     let name = export.name.as_slice();
     match index.get(name) {
@@ -73,7 +72,7 @@ fn add_exports(
     library: Library,
     exports: &[Export],
 ) -> Result<NameIndex, OutOfMemory>
-    ensures { IfOk result (λ new. (name : List ℕ) → known new name ≡ merged library (known before name) (list_any (λ export. bytes_eq name export.name) exports.now) (list_any (λ export. bytes_eq name export.name && export.weak) exports.now)) }
+    ensures { IfOk result (AddsNames library (exports_name exports.now) (weakens_name exports.now) before) }
 {
     let mut index = before;
     for export in exports {
@@ -94,7 +93,7 @@ fn add_document(
     requires within { at < length documents.now }
     ensures size { IfOk result (λ new. length new.seen.items ≡ length documents.now) }
     ensures marks { IfOk result (λ new. (d : ℕ) → get_or new.seen.items d false ≡ true → (d ≡ at) ⊎ (get_or before.seen.items d false ≡ true)) }
-    ensures new { IfOk result (λ new. get_or before.seen.items at false ≡ false → (name : List ℕ) → known new.index name ≡ merged library (known before.index name) (provides.exports_at documents.now name at) (provides.weakens_at documents.now name at)) }
+    ensures new { IfOk result (λ new. get_or before.seen.items at false ≡ false → AddsDocument library documents.now at before new) }
     ensures seen { IfOk result (λ new. get_or before.seen.items at false ≡ true → (name : List ℕ) → known new.index name ≡ known before.index name) }
 {
     let Filling { index, mut seen } = before;
@@ -121,7 +120,8 @@ fn add_reached(
     ensures size { IfOk result (λ new. length new.seen.items ≡ length documents.now) }
     ensures covers { IfOk result (Covers documents.now) }
     ensures before { IfOk result (λ new. IsBefore (library.ordinal + 1) new.index) }
-    ensures names { IfOk result (λ new. (name : List ℕ) → known new.index name ≡ option_or_else (known before.index name) (provides.offer_by documents.now name (library, reached.now))) }
+    ensures names { IfOk result (λ new. (name : List ℕ)
+        → known new.index name ≡ option_or_else (known before.index name) (provides.offer_by documents.now name (library, reached.now))) }
 {
     let mut filling = before;
     for document in reached {

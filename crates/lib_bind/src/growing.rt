@@ -3,6 +3,7 @@ ghost use Rattle.std.specs.Prelude.{◌≡◌, ◌+◌, ◌++◌, ℕ, List, [],
 ghost use Rattle.mo_types.specs.Scan.{option_or_else};
 ghost use Rattle.lib_bind.specs.Closing as spec;
 ghost use Rattle.lib_bind.specs.Found.{found};
+ghost use Rattle.lib_bind.specs.inner.Growing.{reexports_among};
 
 use crate::by_name::ByName;
 use crate::library::LinkList;
@@ -49,7 +50,8 @@ pub fn nothing(alloc: Global) -> Growing
 // A number noted under a name that has none.
 #[tactic(auto, using(crate::proofs::GrowingLemmas::noting))]
 fn noted(places: ByName<usize>, name: &Bytes, number: usize) -> Result<ByName<usize>, OutOfMemory>
-    ensures { IfOk result (λ more. (other : List ℕ) → found other more ≡ option_or_else (found other places) (if bytes_eq other name.now then Some number else None)) }
+    ensures { IfOk result (λ more. (other : List ℕ)
+        → found other more ≡ option_or_else (found other places) (if bytes_eq other name.now then Some number else None)) }
 {
     if places.get(name).is_some() {
         return Ok(places);
@@ -80,7 +82,7 @@ fn reexports_of(
     places: &ByName<usize>,
     names: &[Bytes],
 ) -> Result<ReexportList, OutOfMemory>
-    ensures { IfOk result (λ all. all ≡ map (λ install. spec.reexport_by (found install places.now) (found install heads.now) install) names.now) }
+    ensures { IfOk result (λ all. all ≡ reexports_among places.now heads.now names.now) }
 {
     let mut all = Vec::with_capacity(alloc, names.len())?;
     for install in names {
@@ -101,7 +103,7 @@ fn with_reexports(
     stubs: &[Stub],
     before: Items<ReexportList>,
 ) -> Result<Items<ReexportList>, OutOfMemory>
-    ensures { IfOk result (λ all. all ≡ before ++ map (λ stub. map (λ install. spec.reexport_by (found install places.now) (found install heads.now) install) stub.reexports) stubs.now) }
+    ensures { IfOk result (λ all. all ≡ before ++ map (λ stub. reexports_among places.now heads.now stub.reexports) stubs.now) }
 {
     let mut all = before;
     for stub in stubs {

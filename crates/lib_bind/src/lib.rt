@@ -1,4 +1,22 @@
-//! The libraries of a link, what they re-export, and which of them provides a name.
+//! The libraries that an image is bound to (`loader.h`: two-level namespaces), and which of them provides a name.
+//!
+//! `closure` finds the libraries that a command line names with all that they re-export, breadth first. A library is
+//! dropped where an earlier one has its install name; the others have the ordinals 1, 2, 3, and the 241st is one too
+//! many. A re-exported one is looked for among the documents that are there, and then at the paths of
+//! `reexport_paths`. What is answered is said of the answers that `Files` gave (`Closes`, in `specs/Closure.antt`):
+//! each path is asked for once, and the first one without an answer decides. A `BindFault` is a file that couldn't be
+//! read, a refusal, or want of memory. The stubs are to stand by rising positions (`are_named`).
+//!
+//! `Libraries` are documents with their links, the documents that each library reaches, and a table of the names that
+//! they export. `offer_of` and `provider_of` answer the first library by ordinal that provides a name, in its own
+//! document or in one that it re-exports, `None` exactly where none does (`specs/Provides.antt`). They take no memory.
+//!
+//! The laws say that a provider is the first library from whose document a path of links leads to one that exports the
+//! name (`a_provider_is_the_first`), that links are just the re-exports of the texts, and that what is bound is one
+//! thing.
+//!
+//! Refused are a body that goes depth first through re-exports, one that asks again for a path that wasn't there, and
+//! one that answers a provider's ordinal by the number of its document.
 #![tactic(auto)]
 
 mod bind_fault;

@@ -88,7 +88,8 @@ fn found_of(
     requires links { AreLinks (length documents.now) links.now }
     requires libraries { AreLibraries (length documents.now) libraries.now }
     ensures reach { IfOk result (λ found. AreReaches libraries.now links.now found.reach) }
-    ensures names { IfOk result (λ found. (name : List ℕ) → known found.index name ≡ first_some (provides.offer_by documents.now name) (zip libraries.now found.reach)) }
+    ensures names { IfOk result (λ found. (name : List ℕ)
+        → known found.index name ≡ first_some (provides.offer_by documents.now name) (zip libraries.now found.reach)) }
 {
     let reach = Items::from_vec(reaches(alloc, libraries, links)?);
     let index = index_of(alloc, libraries, reach.as_slice(), documents)?;

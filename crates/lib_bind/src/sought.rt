@@ -111,7 +111,8 @@ fn sought_new<F: Files>(
     growing: Growing,
 ) -> Result<Sought, BindFault>
     requires { found path.now growing.known ≡ None }
-    ensures asking { Asking F.answers (asked_in growing) (λ there. asked_in there.growing) result (λ look. spec.sought_new heads.now path.now (look path.now) growing)
+    ensures asking { Asking F.answers (asked_in growing) (λ there. asked_in there.growing) result
+        (λ look. spec.sought_new heads.now path.now (look path.now) growing)
         (seen F.holds F.asked F.faults files.old) (seen F.holds F.asked F.faults files.new) }
 {
     let mut bytes = Vec::new(alloc);
@@ -161,7 +162,8 @@ fn from_second<F: Files>(
     second: &Bytes,
     growing: Growing,
 ) -> Result<Target, BindFault>
-    ensures asking { Asking F.answers (asked_in growing) (λ target. asked_in target.growing) result (λ look. spec.second_of look heads.now first.now second.now None growing)
+    ensures asking { Asking F.answers (asked_in growing) (λ target. asked_in target.growing) result
+        (λ look. spec.second_of look heads.now first.now second.now None growing)
         (seen F.holds F.asked F.faults files.old) (seen F.holds F.asked F.faults files.new) }
 {
     let there = at_path(alloc, files, heads, second, growing)?;
@@ -178,7 +180,8 @@ fn second_of<F: Files>(
     document: Option<usize>,
     growing: Growing,
 ) -> Result<Target, BindFault>
-    ensures asking { Asking F.answers (asked_in growing) (λ target. asked_in target.growing) result (λ look. spec.second_of look heads.now first.now second.now document growing)
+    ensures asking { Asking F.answers (asked_in growing) (λ target. asked_in target.growing) result
+        (λ look. spec.second_of look heads.now first.now second.now document growing)
         (seen F.holds F.asked F.faults files.old) (seen F.holds F.asked F.faults files.new) }
 {
     match document {
@@ -196,7 +199,8 @@ fn fetched<F: Files>(
     second: &Bytes,
     growing: Growing,
 ) -> Result<Target, BindFault>
-    ensures asking { Asking F.answers (asked_in growing) (λ target. asked_in target.growing) result (λ look. spec.fetched look heads.now first.now second.now growing)
+    ensures asking { Asking F.answers (asked_in growing) (λ target. asked_in target.growing) result
+        (λ look. spec.fetched look heads.now first.now second.now growing)
         (seen F.holds F.asked F.faults files.old) (seen F.holds F.asked F.faults files.new) }
 {
     let there = at_path(alloc, files, heads, first, growing)?;
@@ -220,7 +224,8 @@ fn at_paths<F: Files>(
     install: &Bytes,
     growing: Growing,
 ) -> Result<Target, BindFault>
-    ensures asking { Asking F.answers (asked_in growing) (λ target. asked_in target.growing) result (λ look. spec.target_of look command.now.syslibroot heads.now install.now None growing)
+    ensures asking { Asking F.answers (asked_in growing) (λ target. asked_in target.growing) result
+        (λ look. spec.target_of look command.now.syslibroot heads.now install.now None growing)
         (seen F.holds F.asked F.faults files.old) (seen F.holds F.asked F.faults files.new) }
 {
     let first = stub_path_of(alloc, command, install.as_slice())?;
@@ -237,7 +242,8 @@ pub fn target_of<F: Files>(
     reexport: &Reexport,
     growing: Growing,
 ) -> Result<Target, BindFault>
-    ensures asking { Asking F.answers (asked_in growing) (λ target. asked_in target.growing) result (λ look. spec.target look command.now.syslibroot heads.now reexport.now growing)
+    ensures asking { Asking F.answers (asked_in growing) (λ target. asked_in target.growing) result
+        (λ look. spec.target look command.now.syslibroot heads.now reexport.now growing)
         (seen F.holds F.asked F.faults files.old) (seen F.holds F.asked F.faults files.new) }
 {
     match reexport.here {

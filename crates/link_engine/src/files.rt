@@ -1,15 +1,13 @@
 //! The files that a link loads, and the image to which they link.
 ghost use Rattle.std.specs.Prelude.{All, IfOk};
-ghost use Rattle.link_engine.specs.Read.{AreInputs};
 ghost use Rattle.link_engine.specs.Verdict.{IsImage, files_for};
 ghost use Rattle.link_steps.specs.Steps.{Meets, Yields};
 ghost use Rattle.input_files.specs.Files.{HasLowAtoms};
-ghost use Rattle.input_files.specs.Sources.{inputs_of};
 ghost use Rattle.mo_types.specs.Loaded.{IsWholeLoaded};
 
-use crate::inputs::Inputs;
 use crate::stop::{Stop, load_fault, refused};
 use command_line::Command;
+use input_files::Inputs;
 use lib_bind::Libraries;
 use link_files::{link_files, wanted_names};
 use link_steps::StepFault;
@@ -28,25 +26,12 @@ pub fn load_rounds<R: Threads + Sync, G: Gate + Sync>(
     inputs: Inputs,
     libs: &Libraries,
 ) -> Result<Loaded, StepFault<Stop>>
-    requires { AreInputs inputs }
-    ensures exact { Yields (files_for command.now (inputs_of inputs.sources) libs.now) result }
+    ensures exact { Yields (files_for command.now inputs.inputs libs.now) result }
     ensures whole { IfOk result IsWholeLoaded }
     ensures low { IfOk result (λ loaded. All HasLowAtoms loaded.files) }
 {
     let wanted = wanted_names(alloc, command)?;
-    let Inputs { sources, objects } = inputs;
-    let sources = sources.as_slice();
-    load(
-        rt,
-        alloc,
-        gate,
-        command.threads,
-        sources,
-        objects,
-        libs,
-        &wanted,
-    )
-    .map_err(load_fault)
+    load(rt, alloc, gate, command.threads, inputs, libs, &wanted).map_err(load_fault)
 }
 
 /// The image to which the loaded files link, or the first refusal.

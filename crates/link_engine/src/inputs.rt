@@ -4,7 +4,7 @@ ghost use Rattle.lib_bind.specs.Asking.{seen};
 ghost use Rattle.lib_bind.specs.Named.{are_named};
 ghost use Rattle.link_engine.specs.Asks.{AsksFor, FetchesInputs};
 ghost use Rattle.link_engine.specs.Input as spec;
-ghost use Rattle.link_engine.specs.Read.{AreInputs, contents_as};
+ghost use Rattle.link_engine.specs.Read.{contents_as};
 ghost use Rattle.link_engine.specs.Verdict.{contents_with};
 ghost use Rattle.link_steps.specs.Asking.{Acts};
 ghost use Rattle.link_steps.specs.Steps.{Shows};
@@ -14,12 +14,12 @@ ghost use Rattle.input_files.specs.Sources.{AreInOrder};
 use crate::stop::{Stop, fetch_fault, load_fault};
 use command_line::{Command, CommandInput};
 use input_fetch::{Content, ContentList, fetch_inputs};
-use input_files::{Input, InputList};
-use input_read::{Opened, SourceList, open_inputs};
+use input_files::{Input, InputList, Inputs};
+use input_read::{Opened, open_inputs};
 use lib_bind::StubFileList;
 use link_steps::StepFault;
 use mo_outside::{Files, Gate};
-use mo_types::{LoadedList, OutOfMemory};
+use mo_types::OutOfMemory;
 use std::alloc::Global;
 use std::thread::Threads;
 
@@ -75,13 +75,6 @@ fn inputs_with(
     Ok(made)
 }
 
-/// The inputs of which files are loaded: objects and archives, and the files of the objects.
-#[derive(Debug, Drop)]
-pub struct Inputs {
-    pub sources: SourceList,
-    pub objects: LoadedList,
-}
-
 /// What the inputs are, each read by one of the command's workers: those of which files are loaded, and the stub libraries;
 /// or the refusal of the first input that has one. Their bytes are let go.
 pub fn read<R: Threads + Sync, G: Gate + Sync>(
@@ -94,7 +87,6 @@ pub fn read<R: Threads + Sync, G: Gate + Sync>(
     requires size { length found ≡ length command.now.inputs }
     requires few { length command.now.inputs < 2 ^ 16 }
     ensures exact { Shows contents_as (contents_with command.now found) result }
-    ensures inputs { IfOk result (λ read. AreInputs read.0) }
     ensures named { IfOk result (λ read. are_named (length command.now.inputs) 0 read.1 ≡ true) }
 {
     let inputs = inputs_with(alloc, command, found.as_slice())?;

@@ -1,18 +1,20 @@
 //! The link: from the words of a command line and the files that they name to an image.
 //!
-//! `make_plan` is the link up to writing, in one body from the top down: a line for each step at which a link may be refused,
-//! in the order in which refusals count (the words, how many inputs there are, fetching them, reading them, the libraries, the
-//! rounds in which members are loaded, the link of what was loaded, and what is written). Its definition `IsVerdict`
-//! (`specs/Verdict.antt`) and the causes of its stops (`specs/Causes.antt`) have the same lines in the same order. What the
-//! files tell is a value there (`Told`); `link` says for which paths they are asked (`Answered`), and that its answer, what it
-//! writes and what it puts on the messages are the verdict's on what they told (`Settles`).
+//! `make_plan` is the link up to writing, in one body from the top down: a line for each step at which a link may be
+//! refused, in the order in which refusals count (the words, how many inputs there are, fetching them, reading them,
+//! the libraries, the rounds in which members are loaded, the link of what was loaded, and what is written). Its
+//! definition `IsVerdict` (`specs/Verdict.antt`) and the causes of its stops (`specs/Causes.antt`) have the same lines
+//! in the same order. What the files tell is a value there (`Told`); `link` says for which paths they are asked
+//! (`Answered`), and that its answer, what it writes and what it puts on the messages are the verdict's on what they
+//! told (`Settles`).
 //!
-//! Laws on the definition: there is one verdict at most (`a_verdict_is_one`), and it is a stop exactly where that stop's cause
-//! stands (`every_refusal_has_its_cause`). Clauses on the program's own call: each answer comes only where its cause stands, and
-//! where one stands it comes, unless memory ran out; nothing is written before the whole image is there.
+//! Laws on the definition: there is one verdict at most (`a_verdict_is_one`), and it is a stop exactly where that
+//! stop's cause stands (`every_refusal_has_its_cause`). Clauses on the program's own call: each answer comes only
+//! where its cause stands, and where one stands it comes, unless memory ran out; nothing is written before the whole
+//! image is there.
 //!
-//! A body that refuses every link, that leaves out stub libraries or a step, or that begins a file twice doesn't meet its
-//! contract. That memory is found, and that workers ran, is shown by tests alone.
+//! A body that refuses every link, that leaves out stub libraries or a step, or that begins a file twice doesn't meet
+//! its contract. That memory is found, and that workers ran, is shown by tests alone.
 #![tactic(auto)]
 
 ghost use Rattle.std.specs.Prelude.{◌≡◌, ◌≢◌, ◌≤◌, ℕ, List, IfSome};

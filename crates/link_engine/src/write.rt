@@ -4,7 +4,8 @@ ghost use Rattle.std.specs.Prelude.{◌≡◌, ◌≤◌, ◌<◌, [], length, O
 ghost use Rattle.mo_outside.specs.Faults.{Rises};
 ghost use Rattle.mo_outside.specs.Tells.{Tells};
 ghost use Rattle.mo_outside.specs.Written.{Takes, TakesSome};
-ghost use Rattle.link_engine.specs.Writing.{AreCallsUpTo, AreCut, AreFileCalls, AreFilesCalls, ArePartCalls, AreWrites, Hands, WritesAll, WritesPart, WritesUpTo, WritesWhole};
+ghost use Rattle.link_engine.specs.Writing.{AreCallsUpTo, AreCut, AreFileCalls, AreFilesCalls, ArePartCalls, AreWrites};
+ghost use Rattle.link_engine.specs.Writing.{Hands, WritesAll, WritesPart, WritesUpTo, WritesWhole};
 
 use mo_outside::{Failed, Out};
 use mo_types::Bytes;

@@ -109,14 +109,12 @@ pub new_first : (inputs : List Input) (libs : LibraryGraph) (wanted : List (List
 unfolding after
 new_first inputs libs wanted link so none = so.between.new_are ∙ ap (new_ids inputs libs wanted) none
 
-pub read_at : (inputs also : List Input) (libs : LibraryGraph) (wanted : List (List ℕ)) (link : Link) (files : List LoadedFile) → also ≡ inputs → AreInOrder inputs → IsLinkAt inputs libs wanted link → link.rounds < length (all_ids inputs) + 1 → read_each inputs link.new.items ≡ Ok files → All IsWholeFile files → IsReadAt also libs wanted link files
-read_at inputs also libs wanted link files same order so low read whole = subst (λ (all : List Input). IsReadAt all libs wanted link files) (sym same) (record { order = order; link_is = so; rounds = low; read = read; whole = whole })
+pub read_at : (inputs : List Input) (libs : LibraryGraph) (wanted : List (List ℕ)) (link : Link) (files : List LoadedFile) → AreInOrder inputs → IsLinkAt inputs libs wanted link → link.rounds < length (all_ids inputs) + 1 → read_each inputs link.new.items ≡ Ok files → All IsWholeFile files → IsReadAt inputs libs wanted link files
+read_at inputs libs wanted link files order so low read whole = record { order = order; link_is = so; rounds = low; read = read; whole = whole }
 
+-- the inputs are also these
 pub link_over : (inputs also : List Input) (libs : LibraryGraph) (wanted : List (List ℕ)) (link : Link) → also ≡ inputs → IsLinkAt also libs wanted link → IsLinkAt inputs libs wanted link
 link_over inputs also libs wanted link same so = subst (λ (all : List Input). IsLinkAt all libs wanted link) same so
-
-pub fault_over : (inputs also : List Input) (libs : LibraryGraph) (wanted : List (List ℕ)) (fault : LoadFault) → also ≡ inputs → loaded_of also libs wanted ≡ Err fault → loaded_of inputs libs wanted ≡ Err fault
-fault_over inputs also libs wanted fault same is = subst (λ (all : List Input). loaded_of all libs wanted ≡ Err fault) same is
 
 all_both : (xs ys : List LoadedFile) → All IsWholeFile xs → All IsWholeFile ys → All IsWholeFile (xs ++ ys)
 all_both xs ys one two = all_from IsWholeFile (xs ++ ys) (λ file there. elim (in_either xs ys file there) [

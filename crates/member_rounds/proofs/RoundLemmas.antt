@@ -8,7 +8,7 @@ use Rattle.lib_bind.specs.Provides.{offer_of}
 use Rattle.lib_bind.specs.declared.library.LibraryGraph.{LibraryGraph}
 use Rattle.lib_bind.specs.declared.provider.Offer.{Offer}
 use Rattle.input_files.specs.Files.{all_ids, is_first}
-use Rattle.member_rounds.specs.Rounds.{asked_by, asked_ids, asks, files_of, is_header, loaded_ids, missing_names, offer_in, round, unless_before}
+use Rattle.member_rounds.specs.Rounds.{asked_by, asked_ids, asks, files_of, is_header_name, loaded_ids, missing_names, offer_in, round, unless_before}
 use Rattle.input_files.specs.declared.input.Input.{Input}
 use Rattle.member_rounds.proofs.GrowthLemmas.{has_from_in, in_from_has, round_closed, round_reason}
 
@@ -34,7 +34,7 @@ loaded_reason inputs libs wanted k id there = elim (round_reason (all_ids inputs
 
 pub library_first : (inputs : List Input) (libs : LibraryGraph) (name : List ℕ) (id : FileId) (offer : Offer) → asked_by inputs libs name ≡ Some id → offer_of libs name ≡ Some offer → id.position ≤ offer.library.position
 unfolding asked_by
-library_first inputs libs name id offer asked offers = by (is_header name) refl
+library_first inputs libs name id offer asked offers = by (is_header_name name) refl
   where
     before : (o : Option FileId) → unless_before o (Some offer) ≡ Some id → id.position ≤ offer.library.position
     before None e = absurd (let s : None ≡ Some id = e in cc)
@@ -47,11 +47,11 @@ library_first inputs libs name id offer asked offers = by (is_header name) refl
             let same : other ≡ id = cc in
             rw same at (ltb-false offer.library.position other.position high)
 
-    by : (b : Bool) → is_header name ≡ b → id.position ≤ offer.library.position
+    by : (b : Bool) → is_header_name name ≡ b → id.position ≤ offer.library.position
     by true header = absurd (let s : None ≡ Some id = rw header at asked in cc)
     by false other = before (first_some (offer_in name) inputs) (rw (other, offers) at asked)
 
-pub header_asks_nobody : (inputs : List Input) (libs : LibraryGraph) (name : List ℕ) → is_header name ≡ true → asked_by inputs libs name ≡ None
+pub header_asks_nobody : (inputs : List Input) (libs : LibraryGraph) (name : List ℕ) → is_header_name name ≡ true → asked_by inputs libs name ≡ None
 unfolding asked_by
 header_asks_nobody inputs libs name header = rw header refl
 

@@ -8,14 +8,14 @@ use Rattle.std.proofs.lemmas.List.Concat.{flat_map-append}
 use Rattle.std.proofs.lemmas.List.Folds.{list_any-append}
 use Rattle.std.proofs.lemmas.Slice.Eq.{bytes_eq-Decides}
 use Rattle.list_lemmas.proofs.Members.{In, any_from_in, any_true, from_filter, in_filter, from_filter_map, in_filter_map}
-use Rattle.mo_types.specs.Candidates.{candidates}
+use Rattle.mo_types.specs.Candidates.{candidates, is_undefined}
 use Rattle.mo_types.specs.Scan.{first_some}
 use Rattle.mo_types.specs.declared.key.FileId.{FileId}
 use Rattle.mo_types.specs.declared.loaded.LoadedFile.{LoadedFile}
 use Rattle.mo_types.specs.declared.object.Symbol.{Symbol}
 use Rattle.lib_bind.specs.declared.library.LibraryGraph.{LibraryGraph}
 use Rattle.member_rounds.specs.Growth.{is_in, same_file}
-use Rattle.member_rounds.specs.Rounds.{asked_by, has_candidate, is_undefined, offer_in, undefined_in}
+use Rattle.member_rounds.specs.Rounds.{asked_by, has_candidate, offer_in, undefined_in}
 use Rattle.input_files.specs.declared.input.Input.{Input}
 use Rattle.member_rounds.specs.inner.Working.{AreSettled, HaveAsked, asked_of, lists, undefined_name, undefined_of}
 use Rattle.member_rounds.proofs.AskLemmas.{asks_none}

@@ -1,17 +1,15 @@
 -- The files that a link loads, round by round.
-use Rattle.std.specs.Prelude.{ℕ, zero, suc, ◌+◌, ◌^◌, ◌&&◌, ◌||◌, ◌++◌, Bool, true, false, not, nat_lt, List, codes, length, map, filter, Option, Some, None, option_map, Result, Ok, Err, if◌then◌else◌}
+use Rattle.std.specs.Prelude.{◌≡◌, ℕ, zero, suc, ◌+◌, ◌<◌, ◌^◌, ◌||◌, ◌++◌, Bool, not, nat_lt, List, codes, length, map, filter, Contains, Option, Some, None, option_map, Result, Ok, Err, if◌then◌else◌}
 use Rattle.std.specs.List.{filter_map, flat_map, list_any, range_with_len}
 use Rattle.std.specs.Result.{result_err, result_ok}
 use Rattle.std.specs.Str.{bytes_eq}
-use Rattle.mo_types.specs.Candidates.{candidates}
+use Rattle.mo_types.specs.Candidates.{candidates, is_undefined}
 use Rattle.mo_types.specs.Scan.{first_some, option_or_else}
 use Rattle.mo_types.specs.declared.answer.Refusal.TheVariants as refusal
 use Rattle.mo_types.specs.declared.cause.Which.TheVariants.{Names}
 use Rattle.mo_types.specs.declared.key.FileId.{FileId}
 use Rattle.mo_types.specs.declared.loaded.Loaded.{Loaded}
 use Rattle.mo_types.specs.declared.loaded.LoadedFile.{LoadedFile}
-use Rattle.mo_types.specs.declared.object.SymbolKind.{SymbolKind}
-use Rattle.mo_types.specs.declared.object.SymbolKind.TheVariants.{Undefined}
 use Rattle.mo_ar.specs.Offers.{first_offer}
 use Rattle.mo_ar.specs.declared.archive.Archive.{Archive}
 use Rattle.lib_bind.specs.Provides.{offer_of}
@@ -27,8 +25,8 @@ use Rattle.input_files.specs.declared.input.Input.{Input}
 -- ---- what names ask for
 
 -- the names of headers, which stand for the image itself (`loader.h`)
-abbrev pub is_header : List ℕ → Bool
-is_header name = bytes_eq name (codes "___dso_handle") || bytes_eq name (codes "__mh_execute_header") || bytes_eq name (codes "__mh_dylib_header")
+abbrev pub is_header_name : List ℕ → Bool
+is_header_name name = bytes_eq name (codes "___dso_handle") || bytes_eq name (codes "__mh_execute_header") || bytes_eq name (codes "__mh_dylib_header")
 
 abbrev pub offer_as : List ℕ → Input → Option Archive → Option FileId
 offer_as name input None = None
@@ -47,13 +45,9 @@ unless_before (Some id) (Some offer) = if nat_lt offer.library.position id.posit
 -- the member that a name asks for: that of the first archive that offers the name, unless a library that stands before it
 -- does
 unfoldable pub asked_by : List Input → LibraryGraph → List ℕ → Option FileId
-asked_by inputs libs name = if is_header name then None else unless_before (first_some (offer_in name) inputs) (offer_of libs name)
+asked_by inputs libs name = if is_header_name name then None else unless_before (first_some (offer_in name) inputs) (offer_of libs name)
 
 -- ---- wanted names
-
-abbrev pub is_undefined : SymbolKind → Bool
-is_undefined Undefined = true
-is_undefined _ = false
 
 -- the names that an object leaves undefined (`nlist.h`: N_UNDF)
 unfoldable pub undefined_in : LoadedFile → List (List ℕ)
@@ -91,6 +85,11 @@ round inputs libs wanted k = after (all_ids inputs) (is_first inputs) (asks inpu
 -- the files of all rounds
 abbrev pub loaded_ids : List Input → LibraryGraph → List (List ℕ) → List FileId
 loaded_ids inputs libs wanted = union (all_ids inputs) (is_first inputs) (asks inputs libs wanted)
+
+-- a name asks for the file that was wanted after a round before this one, without a candidate there
+abbrev pub WasAskedFor : List Input → LibraryGraph → List (List ℕ) → ℕ → FileId → Type 0
+WasAskedFor inputs libs wanted k id =
+    (j : ℕ) × (name : List ℕ) × (j < k) × Contains (missing_names (files_of inputs (round inputs libs wanted j)) wanted) name × (asked_by inputs libs name ≡ Some id)
 
 -- ---- what the rounds load
 

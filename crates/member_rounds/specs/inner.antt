@@ -1,3 +1,4 @@
+pub mod Asking
 pub mod Linking
 pub mod Offered
 pub mod Working

@@ -6,8 +6,8 @@ use crate::offer_index::OfferIndex;
 use lib_bind::{Libraries, Offer, offer_of};
 use mo_types::FileId;
 
-fn is_header(name: &[u8]) -> bool
-    ensures { result ≡ rounds.is_header name.now }
+fn is_header_name(name: &[u8]) -> bool
+    ensures { result ≡ rounds.is_header_name name.now }
 {
     name == b"___dso_handle".as_slice()
         || name == b"__mh_execute_header".as_slice()
@@ -37,7 +37,7 @@ fn unless_before(id: FileId, library: Option<Offer>) -> Option<FileId>
 pub fn asked_by(offers: &OfferIndex, libs: &Libraries, name: &[u8]) -> Option<FileId>
     ensures { result ≡ rounds.asked_by offers.now libs.now name.now }
 {
-    if is_header(name) {
+    if is_header_name(name) {
         return None;
     }
     match offers.first(name) {

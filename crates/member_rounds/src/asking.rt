@@ -1,15 +1,15 @@
 //! The files for which the names of new files ask.
 ghost use Rattle.std.specs.Prelude.{◌≡◌, ◌++◌, [], ◌∷◌, false, IfOk};
 ghost use Rattle.std.specs.List.{flat_map};
-ghost use Rattle.member_rounds.specs.Rounds as rounds;
 ghost use Rattle.member_rounds.specs.Rounds.{undefined_in};
+ghost use Rattle.member_rounds.specs.inner.Asking.{HaveThenAsked};
 ghost use Rattle.member_rounds.specs.inner.Working.{HaveAsked, lists, undefined_name, undefined_of};
 
 use crate::asked::asked_by;
-use crate::name_set::NameSet;
 use crate::offer_index::OfferIndex;
+use crate::settled_names::SettledNames;
 use lib_bind::Libraries;
-use mo_types::{Bytes, FileId, LoadedFile, OutOfMemory, Symbol, SymbolKind};
+use mo_types::{Bytes, FileId, LoadedFile, OutOfMemory, Symbol};
 use std::alloc::Global;
 
 /// What names have asked for.
@@ -18,13 +18,7 @@ pub(crate) struct Requests {
     /// The files.
     pub(crate) ids: Vec<FileId>,
     /// The names that needn't ask: those that have a candidate or have asked.
-    pub(crate) settled: NameSet,
-}
-
-fn is_undefined(symbol: &Symbol) -> bool
-    ensures { result ≡ rounds.is_undefined symbol.now.kind }
-{
-    matches!(symbol.kind, SymbolKind::Undefined)
+    pub(crate) settled: SettledNames,
 }
 
 // With what a name asks for that isn't settled.
@@ -36,7 +30,7 @@ fn ask_new_name(
     name: &Bytes,
 ) -> Result<Requests, OutOfMemory>
     requires { lists before.settled name.now ≡ false }
-    ensures { IfOk result (λ after. HaveAsked offers.now libs.now before.ids.items before.settled after.ids.items after.settled (name.now ∷ [])) }
+    ensures { IfOk result (λ after. HaveThenAsked offers.now libs.now before after (name.now ∷ [])) }
 {
     let Requests { mut ids, settled } = before;
     let settled = settled.with(name)?;
@@ -57,7 +51,7 @@ fn ask_name(
     libs: &Libraries,
     name: &Bytes,
 ) -> Result<Requests, OutOfMemory>
-    ensures { IfOk result (λ after. HaveAsked offers.now libs.now before.ids.items before.settled after.ids.items after.settled (name.now ∷ [])) }
+    ensures { IfOk result (λ after. HaveThenAsked offers.now libs.now before after (name.now ∷ [])) }
 {
     if before.settled.contains(name) {
         return Ok(before);
@@ -73,9 +67,9 @@ fn ask_symbol(
     libs: &Libraries,
     symbol: &Symbol,
 ) -> Result<Requests, OutOfMemory>
-    ensures { IfOk result (λ after. HaveAsked offers.now libs.now before.ids.items before.settled after.ids.items after.settled (undefined_name symbol.now)) }
+    ensures { IfOk result (λ after. HaveThenAsked offers.now libs.now before after (undefined_name symbol.now)) }
 {
-    if is_undefined(symbol) {
+    if symbol.kind.is_undefined() {
         ask_name(before, offers, libs, &symbol.name)
     } else {
         Ok(before)
@@ -90,7 +84,7 @@ fn ask_symbols(
     libs: &Libraries,
     symbols: &[Symbol],
 ) -> Result<Requests, OutOfMemory>
-    ensures { IfOk result (λ after. HaveAsked offers.now libs.now before.ids.items before.settled after.ids.items after.settled (undefined_of symbols.now)) }
+    ensures { IfOk result (λ after. HaveThenAsked offers.now libs.now before after (undefined_of symbols.now)) }
 {
     let mut asked = before;
     for symbol in symbols {
@@ -107,7 +101,7 @@ fn ask_file(
     libs: &Libraries,
     file: &LoadedFile,
 ) -> Result<Requests, OutOfMemory>
-    ensures { IfOk result (λ after. HaveAsked offers.now libs.now before.ids.items before.settled after.ids.items after.settled (undefined_in file.now)) }
+    ensures { IfOk result (λ after. HaveThenAsked offers.now libs.now before after (undefined_in file.now)) }
 {
     ask_symbols(before, offers, libs, file.object.symbols.as_slice())
 }
@@ -120,7 +114,7 @@ fn ask_files(
     libs: &Libraries,
     files: &[LoadedFile],
 ) -> Result<Requests, OutOfMemory>
-    ensures { IfOk result (λ after. HaveAsked offers.now libs.now before.ids.items before.settled after.ids.items after.settled (flat_map undefined_in files.now)) }
+    ensures { IfOk result (λ after. HaveThenAsked offers.now libs.now before after (flat_map undefined_in files.now)) }
 {
     let mut asked = before;
     for file in files {
@@ -137,7 +131,7 @@ fn ask_names(
     libs: &Libraries,
     names: &[Bytes],
 ) -> Result<Requests, OutOfMemory>
-    ensures { IfOk result (λ after. HaveAsked offers.now libs.now before.ids.items before.settled after.ids.items after.settled names.now) }
+    ensures { IfOk result (λ after. HaveThenAsked offers.now libs.now before after names.now) }
 {
     let mut asked = before;
     for name in names {
@@ -153,7 +147,7 @@ pub(crate) fn ask_all(
     alloc: Global,
     offers: &OfferIndex,
     libs: &Libraries,
-    settled: NameSet,
+    settled: SettledNames,
     files: &[LoadedFile],
     names: &[Bytes],
 ) -> Result<Requests, OutOfMemory>

@@ -1,4 +1,22 @@
 //! The files that a link loads: objects, and round by round the members of archives for which names ask.
+//!
+//! `load` answers exactly the files of the definition, by rising id, or the first refusal (`loaded_of`, in
+//! `specs/Rounds.antt`). In the first round come the objects, which were read before, and the members of forced
+//! archives (ld(1): `-force_load`, `-all_load`); in each further one all members at once for which the names ask that
+//! are wanted so far and have no candidate. The rounds end when one brings no file. Each file is read once, by one of
+//! so many workers, whose number doesn't change the answer. Refusals come for the first round that has one: the fault
+//! of the least of its files that has one, and then that of 2^24 names or more. The other error is want of memory.
+//!
+//! `asked_by` answers the member for which a name asks: the least-numbered one that the table of the first archive
+//! with the name gives to it; `None` exactly where no archive has it, where a library that stands before the archive
+//! provides it, and for names of the image's header. It takes no memory, and finds the name by an `OfferIndex`.
+//!
+//! The module `first_reading` reads the first round, `asking` and `taking` find what a further one brings, and
+//! `round_reading` reads that. The laws say that rounds grow and end (`rounds_end`), that what is loaded was asked
+//! for, and that it asks for nothing more (`what_is_loaded_asks_for_nothing_more`).
+//!
+//! The contracts refuse a body that loads in a later round a member that is loaded already, one that lets a library
+//! behind an archive provide a name in the archive's stead, and one that tells the fault of a later file.
 #![tactic(auto)]
 
 mod asked;
@@ -10,10 +28,11 @@ mod id_set;
 mod in_order;
 mod laws;
 mod loading;
-mod name_set;
 mod noting;
 mod offer_index;
 mod round_reading;
+mod round_rules;
+mod settled_names;
 mod taking;
 
 pub use asked::asked_by;

@@ -1,6 +1,5 @@
 //! The files that a link loads, round by round.
-ghost use Rattle.std.specs.Prelude.{◌≡◌, ℕ, ◌+◌, ◌^◌, ◌<◌, ◌≤◌, ◌++◌, ◌&&◌, ◌||◌, List, [], length, not, true, All, IfErr, IfOk, Err, Ok, Some};
-ghost use Rattle.std.specs.List.{flat_map};
+ghost use Rattle.std.specs.Prelude.{◌≡◌, ◌+◌, ◌^◌, ◌<◌, ◌≤◌, ◌&&◌, [], length, not, true, All, IfErr, IfOk, Err};
 ghost use Rattle.std.specs.List.Sorted.{IsStrictlySortedBy};
 ghost use Rattle.mo_types.specs.Gives.{Gives};
 ghost use Rattle.mo_types.specs.Keys.{compare_files};
@@ -10,24 +9,25 @@ ghost use Rattle.name_ids.specs.Names.{external_names};
 ghost use Rattle.lib_bind.specs.declared.library.LibraryGraph.{LibraryGraph};
 ghost use Rattle.input_files.specs.Files as files;
 ghost use Rattle.input_files.specs.Files.{HasLowAtoms, IsLoadFault};
-ghost use Rattle.member_rounds.specs.Rounds.{asked_by, has_candidate, loaded_of, undefined_in};
-ghost use Rattle.member_rounds.specs.Growth.{is_in};
 ghost use Rattle.input_files.specs.Sources.{AreInOrder, AreObjects, inputs_of};
-ghost use Rattle.member_rounds.specs.inner.Linking.{IsLinkAt, IsReadAt};
+ghost use Rattle.member_rounds.specs.Growth.{is_in};
+ghost use Rattle.member_rounds.specs.Rounds.{loaded_of};
+ghost use Rattle.member_rounds.specs.inner.Linking.{HaveNewAsked, IsLinkAt, IsLinkBy, IsReadBy, loaded_by};
 ghost use Rattle.member_rounds.specs.inner.Working as working;
-ghost use Rattle.member_rounds.specs.inner.Working.{HaveAsked};
+ghost use Rattle.member_rounds.specs.inner.Working.{HaveNoted};
 
 use crate::asking::{Requests, ask_all};
 use crate::counting::{first_spare, names_of, spare_names};
 use crate::first_reading::read_first;
 use crate::id_set::IdSet;
 use crate::in_order::{in_order, with_files};
-use crate::name_set::NameSet;
 use crate::noting::note_files;
 use crate::offer_index::OfferIndex;
 use crate::round_reading::read_all;
+use crate::round_rules::RoundRules;
+use crate::settled_names::SettledNames;
 use crate::taking::{left_of, take_next};
-use input_files::{LoadFault, Source, all_ids, first_ids};
+use input_files::{Inputs, LoadFault, Source, all_ids, first_ids};
 use lib_bind::Libraries;
 use mo_outside::Gate;
 use mo_types::{Bytes, FileId, Loaded, LoadedList, NameList, OutOfMemory};
@@ -42,7 +42,7 @@ pub(crate) struct Link {
     /// The files that they brought, round by round.
     pub(crate) kept: Loaded,
     /// The names that needn't ask: those that have a candidate in these or have asked.
-    pub(crate) settled: NameSet,
+    pub(crate) settled: SettledNames,
     /// The files for which no name has asked.
     pub(crate) left: IdSet,
     /// The files of the next round, by rising id.
@@ -81,7 +81,7 @@ fn begin(
     let new = first_ids(alloc, sources, all)?;
     let left = left_at(alloc, all, &new)?;
     let files = LoadedList::new(alloc);
-    let settled = NameSet::new(alloc);
+    let settled = SettledNames::new(alloc);
     let spare = first_spare(wanted);
     Ok(Link {
         rounds: 0,
@@ -97,10 +97,10 @@ fn begin(
 #[tactic(auto, using(crate::proofs::SettledLemmas::unless_offered))]
 fn note_new(
     offers: &OfferIndex,
-    settled: NameSet,
+    settled: SettledNames,
     read: &LoadedList,
-) -> Result<NameSet, OutOfMemory>
-    ensures { IfOk result (λ new. (libs : LibraryGraph) (name : List ℕ) (id : FileId) → asked_by offers.now libs name ≡ Some id → working.lists new name ≡ (working.lists settled name || has_candidate read.now name)) }
+) -> Result<SettledNames, OutOfMemory>
+    ensures { IfOk result (λ new. (libs : LibraryGraph) → HaveNoted offers.now libs settled read.now new) }
 {
     if offers.is_empty() {
         return Ok(settled);
@@ -111,17 +111,22 @@ fn note_new(
 // What the names of new files ask for, and in the first round those of the command line.
 fn ask_new(
     alloc: Global,
-    offers: &OfferIndex,
-    libs: &Libraries,
-    settled: NameSet,
+    rules: &RoundRules,
+    settled: SettledNames,
     read: &LoadedList,
-    wanted: &NameList,
     rounds: usize,
 ) -> Result<Requests, OutOfMemory>
-    ensures { IfOk result (λ after. HaveAsked offers.now libs.now [] settled after.ids.items after.settled (flat_map undefined_in read.now ++ working.first_names wanted.now rounds)) }
+    ensures { IfOk result (HaveNewAsked rules.now settled read.now rounds) }
 {
-    let names = first_names(wanted, rounds);
-    ask_all(alloc, offers, libs, settled, read.as_slice(), names)
+    let names = first_names(rules.wanted, rounds);
+    ask_all(
+        alloc,
+        &rules.offers,
+        rules.libs,
+        settled,
+        read.as_slice(),
+        names,
+    )
 }
 
 // No fewer names than new files have, up to the limit of names.
@@ -147,17 +152,15 @@ fn take_new(
 // A link after one round more, whose files were read: they join all at once, and then their names ask.
 fn join_round(
     alloc: Global,
-    offers: &OfferIndex,
-    libs: &Libraries,
-    wanted: &NameList,
+    rules: &RoundRules,
     link: Link,
     read: LoadedList,
 ) -> Result<Link, LoadFault>
-    requires read { IsReadAt offers.now libs.now wanted.now link read }
+    requires read { IsReadBy rules.now link read }
     requires few { link.rounds < 2 ^ 63 }
     ensures rounds { IfOk result (λ next. next.rounds ≡ link.rounds + 1) }
-    ensures link { IfOk result (λ next. IsLinkAt offers.now libs.now wanted.now next) }
-    ensures fault { IfErr result (λ fault. IsLoadFault fault → loaded_of offers.now libs.now wanted.now ≡ Err fault) }
+    ensures link { IfOk result (IsLinkBy rules.now) }
+    ensures fault { IfErr result (λ fault. IsLoadFault fault → loaded_by rules.now ≡ Err fault) }
 {
     let Link {
         rounds,
@@ -167,11 +170,11 @@ fn join_round(
         new: _,
         spare,
     } = link;
-    let settled = note_new(offers, settled, &read)?;
-    let Requests { ids, settled } = ask_new(alloc, offers, libs, settled, &read, wanted, rounds)?;
+    let settled = note_new(&rules.offers, settled, &read)?;
+    let Requests { ids, settled } = ask_new(alloc, rules, settled, &read, rounds)?;
     let count = count_new(&read);
     let kept = with_files(kept, read)?;
-    let spare = match spare_names(alloc, spare, count, &kept, wanted) {
+    let spare = match spare_names(alloc, spare, count, &kept, rules.wanted) {
         Ok(spare) => spare,
         Err(fault) => return Err(fault),
     };
@@ -192,35 +195,24 @@ fn first_round<R: Threads + Sync, G: Gate + Sync>(
     alloc: Global,
     gate: &G,
     workers: u32,
-    sources: &[Source],
+    rules: &RoundRules,
     objects: LoadedList,
-    offers: &OfferIndex,
-    libs: &Libraries,
-    wanted: &NameList,
     link: Link,
 ) -> Result<Link, LoadFault>
-    requires order { AreInOrder (inputs_of sources.now) }
-    requires objects { AreObjects (inputs_of sources.now) objects }
-    requires offers { offers.now ≡ inputs_of sources.now }
-    requires link { IsLinkAt (inputs_of sources.now) libs.now wanted.now link }
+    requires objects { AreObjects rules.now.offers objects }
+    requires link { IsLinkBy rules.now link }
     requires first { link.rounds ≡ 0 }
     ensures rounds { IfOk result (λ next. next.rounds ≡ 1) }
-    ensures link { IfOk result (λ next. IsLinkAt (inputs_of sources.now) libs.now wanted.now next) }
-    ensures fault { IfErr result (λ fault. IsLoadFault fault → loaded_of (inputs_of sources.now) libs.now wanted.now ≡ Err fault) }
+    ensures link { IfOk result (IsLinkBy rules.now) }
+    ensures fault { IfErr result (λ fault. IsLoadFault fault → loaded_by rules.now ≡ Err fault) }
 {
-    let read = match read_first(
-        rt,
-        alloc,
-        gate,
-        workers,
-        sources,
-        objects,
-        link.new.as_slice(),
-    ) {
+    let sources = rules.offers.sources();
+    let ids = link.new.as_slice();
+    let read = match read_first(rt, alloc, gate, workers, sources, objects, ids) {
         Ok(read) => read,
         Err(fault) => return Err(fault),
     };
-    join_round(alloc, offers, libs, wanted, link, read)
+    join_round(alloc, rules, link, read)
 }
 
 // A link after one round more: its files are read, and join.
@@ -229,26 +221,22 @@ fn next_round<R: Threads + Sync, G: Gate + Sync>(
     alloc: Global,
     gate: &G,
     workers: u32,
-    sources: &[Source],
-    offers: &OfferIndex,
-    libs: &Libraries,
-    wanted: &NameList,
+    rules: &RoundRules,
     link: Link,
 ) -> Result<Link, LoadFault>
-    requires order { AreInOrder (inputs_of sources.now) }
-    requires offers { offers.now ≡ inputs_of sources.now }
-    requires link { IsLinkAt (inputs_of sources.now) libs.now wanted.now link }
-    requires rounds { link.rounds < length (files.all_ids (inputs_of sources.now)) + 1 }
+    requires link { IsLinkBy rules.now link }
+    requires rounds { link.rounds < length (files.all_ids rules.now.offers) + 1 }
     requires few { link.rounds < 2 ^ 63 }
     ensures rounds { IfOk result (λ next. next.rounds ≡ link.rounds + 1) }
-    ensures link { IfOk result (λ next. IsLinkAt (inputs_of sources.now) libs.now wanted.now next) }
-    ensures fault { IfErr result (λ fault. IsLoadFault fault → loaded_of (inputs_of sources.now) libs.now wanted.now ≡ Err fault) }
+    ensures link { IfOk result (IsLinkBy rules.now) }
+    ensures fault { IfErr result (λ fault. IsLoadFault fault → loaded_by rules.now ≡ Err fault) }
 {
+    let sources = rules.offers.sources();
     let read = match read_all(rt, alloc, gate, workers, sources, link.new.as_slice()) {
         Ok(read) => read,
         Err(fault) => return Err(fault),
     };
-    join_round(alloc, offers, libs, wanted, link, read)
+    join_round(alloc, rules, link, read)
 }
 
 // Whether the next round has no files.
@@ -268,23 +256,25 @@ pub fn load<R: Threads + Sync, G: Gate + Sync>(
     alloc: Global,
     gate: &G,
     workers: u32,
-    sources: &[Source],
-    objects: LoadedList,
+    inputs: Inputs,
     libs: &Libraries,
     wanted: &NameList,
 ) -> Result<Loaded, LoadFault>
-    requires order { AreInOrder (inputs_of sources.now) }
-    requires objects { AreObjects (inputs_of sources.now) objects }
-    ensures exact { Gives IsLoadFault result (loaded_of (inputs_of sources.now) libs.now wanted.now) }
+    ensures exact { Gives IsLoadFault result (loaded_of inputs.inputs libs.now wanted.now) }
     ensures whole { IfOk result IsWholeLoaded }
     ensures low { IfOk result (λ loaded. All HasLowAtoms loaded.files) }
 {
-    let offers = OfferIndex::new(alloc, sources)?;
+    let Inputs { sources, objects } = inputs;
+    let sources = sources.as_slice();
     let all = all_ids(alloc, sources)?;
     let link = begin(alloc, sources, all.as_slice(), wanted)?;
-    let mut link = match first_round(
-        rt, alloc, gate, workers, sources, objects, &offers, libs, wanted, link,
-    ) {
+    let offers = OfferIndex::new(alloc, sources)?;
+    let rules = RoundRules {
+        offers,
+        libs,
+        wanted,
+    };
+    let mut link = match first_round(rt, alloc, gate, workers, &rules, objects, link) {
         Ok(link) => link,
         Err(fault) => return Err(fault),
     };
@@ -292,9 +282,7 @@ pub fn load<R: Threads + Sync, G: Gate + Sync>(
         if brings_nothing(&link) {
             return Ok(in_order(link.kept));
         }
-        link = match next_round(
-            rt, alloc, gate, workers, sources, &offers, libs, wanted, link,
-        ) {
+        link = match next_round(rt, alloc, gate, workers, &rules, link) {
             Ok(next) => next,
             Err(fault) => return Err(fault),
         };

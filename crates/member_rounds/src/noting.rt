@@ -4,12 +4,16 @@ ghost use Rattle.std.specs.List.{list_any};
 ghost use Rattle.member_rounds.specs.Rounds.{has_candidate};
 ghost use Rattle.member_rounds.specs.inner.Working.{has_in, lists, names_it};
 
-use crate::name_set::NameSet;
+use crate::settled_names::SettledNames;
 use mo_types::{LoadedFile, OutOfMemory, Symbol};
 
 // Names, and that of a file's symbol where it is a candidate.
 #[tactic(auto, using(crate::proofs::NoteLemmas::one_noted))]
-fn note_symbol(names: NameSet, file: &LoadedFile, symbol: &Symbol) -> Result<NameSet, OutOfMemory>
+fn note_symbol(
+    names: SettledNames,
+    file: &LoadedFile,
+    symbol: &Symbol,
+) -> Result<SettledNames, OutOfMemory>
     ensures { IfOk result (λ new. (name : List ℕ) → lists new name ≡ (lists names name || names_it file.now name symbol.now)) }
 {
     if file.object.is_candidate(symbol) {
@@ -22,10 +26,10 @@ fn note_symbol(names: NameSet, file: &LoadedFile, symbol: &Symbol) -> Result<Nam
 // Names, and those of the candidates among a file's symbols.
 #[tactic(auto, using(crate::proofs::NoteLemmas::notes))]
 fn note_symbols(
-    before: NameSet,
+    before: SettledNames,
     file: &LoadedFile,
     symbols: &[Symbol],
-) -> Result<NameSet, OutOfMemory>
+) -> Result<SettledNames, OutOfMemory>
     ensures { IfOk result (λ new. (name : List ℕ) → lists new name ≡ (lists before name || list_any (names_it file.now name) symbols.now)) }
 {
     let mut names = before;
@@ -37,7 +41,7 @@ fn note_symbols(
 
 // Names, and those of a file's candidates.
 #[tactic(auto, unfolding(crate::specs::inner::Working::has_in))]
-fn note_file(names: NameSet, file: &LoadedFile) -> Result<NameSet, OutOfMemory>
+fn note_file(names: SettledNames, file: &LoadedFile) -> Result<SettledNames, OutOfMemory>
     ensures { IfOk result (λ new. (name : List ℕ) → lists new name ≡ (lists names name || has_in name file.now)) }
 {
     note_symbols(names, file, file.object.symbols.as_slice())
@@ -45,7 +49,10 @@ fn note_file(names: NameSet, file: &LoadedFile) -> Result<NameSet, OutOfMemory>
 
 /// Names, and those of the candidates of files.
 #[tactic(auto, using(crate::proofs::NoteLemmas::notes))]
-pub(crate) fn note_files(before: NameSet, files: &[LoadedFile]) -> Result<NameSet, OutOfMemory>
+pub(crate) fn note_files(
+    before: SettledNames,
+    files: &[LoadedFile],
+) -> Result<SettledNames, OutOfMemory>
     ensures { IfOk result (λ new. (name : List ℕ) → lists new name ≡ (lists before name || has_candidate files.now name)) }
 {
     let mut names = before;

@@ -1,10 +1,10 @@
 //! What the archives of a link offer, with an index by name.
-ghost use Rattle.std.specs.Prelude.{◌≡◌, ℕ, List, None, IfOk, IsTrue, if◌then◌else◌};
+ghost use Rattle.std.specs.Prelude.{◌≡◌, ℕ, List, None, IfOk, IsTrue};
 ghost use Rattle.std.specs.Str.{bytes_eq};
-ghost use Rattle.mo_types.specs.Scan.{first_some, option_or_else};
+ghost use Rattle.mo_types.specs.Scan.{first_some};
 ghost use Rattle.member_rounds.specs.Rounds as rounds;
 ghost use Rattle.input_files.specs.Sources.{inputs_of};
-ghost use Rattle.member_rounds.specs.inner.Offered.{IsIndexOf, file_named, is_offered};
+ghost use Rattle.member_rounds.specs.inner.Offered.{HasOffered, IsIndexOf, file_named, is_offered, named_or_offered};
 
 use crate::files_by_name::FilesByName;
 use input_files::Source;
@@ -37,7 +37,7 @@ fn with_name<'a>(
     source: &Source,
     name: &'a [u8],
 ) -> Result<FilesByName<'a>, OutOfMemory>
-    ensures { IfOk result (λ new. (other : List ℕ) → file_named new other ≡ (if bytes_eq name.now other then option_or_else (file_named before.entry other) (rounds.offer_in other source.now.input) else file_named before.entry other)) }
+    ensures { IfOk result (HasOffered (bytes_eq name.now) before.entry source.now.input) }
 {
     if before.get(name).is_some() {
         return Ok(before);
@@ -55,7 +55,7 @@ fn with_offers<'a>(
     source: &Source,
     offers: &'a OfferList,
 ) -> Result<FilesByName<'a>, OutOfMemory>
-    ensures { IfOk result (λ new. (name : List ℕ) → file_named new name ≡ (if is_offered name offers.now then option_or_else (file_named before.entry name) (rounds.offer_in name source.now.input) else file_named before.entry name)) }
+    ensures { IfOk result (HasOffered (λ name. is_offered name offers.now) before.entry source.now.input) }
 {
     let mut files = before;
     for at in 0..offers.len() {
@@ -73,7 +73,7 @@ fn with_source<'a>(
     before: FilesByName<'a>,
     source: &'a Source,
 ) -> Result<FilesByName<'a>, OutOfMemory>
-    ensures { IfOk result (λ new. (name : List ℕ) → file_named new name ≡ option_or_else (file_named before.entry name) (rounds.offer_in name source.now.input)) }
+    ensures { IfOk result (λ new. (name : List ℕ) → file_named new name ≡ named_or_offered before.entry source.now.input name) }
 {
     match &source.archive {
         Some(archive) => with_offers(before, source, &archive.offers),
@@ -120,6 +120,13 @@ impl<'a> OfferIndex<'a> {
     {
         let files = index_of(alloc, sources)?;
         Ok(OfferIndex { sources, files })
+    }
+
+    /// The inputs.
+    pub(crate) fn sources(&self) -> &'a [Source]
+        ensures { inputs_of result.now ≡ self.now }
+    {
+        self.sources
     }
 
     /// Whether no archive offers anything.

@@ -140,7 +140,8 @@ fn with_all_prefixed(
     names: Vec<Bytes>,
 ) -> Result<Vec<Bytes>, OutOfMemory>
     requires { All (IsNode events.now) places.now }
-    ensures { IfOk result (λ more. more.items ≡ names.items ++ flat_map (λ place. map (λ name. prefix.now ++ name) (text_list (tree_at events.now place))) places.now) }
+    ensures { IfOk result (λ more. more.items
+        ≡ names.items ++ flat_map (λ place. map (λ name. prefix.now ++ name) (text_list (tree_at events.now place))) places.now) }
 {
     let mut names = names;
     for place in places {
@@ -300,7 +301,8 @@ fn with_all_counted(
     names: Vec<Bytes>,
 ) -> Result<Vec<Bytes>, OutOfMemory>
     requires { All (IsNode events.now) places.now }
-    ensures { IfOk result (λ more. more.items ≡ names.items ++ flat_map (λ place. counted_names kind target.now (fields_of (tree_at events.now place))) places.now) }
+    ensures { IfOk result (λ more. more.items
+        ≡ names.items ++ flat_map (λ place. counted_names kind target.now (fields_of (tree_at events.now place))) places.now) }
 {
     let mut names = names;
     for place in places {
@@ -321,7 +323,8 @@ pub fn with_names_under(
     names: Vec<Bytes>,
 ) -> Result<Vec<Bytes>, OutOfMemory>
     requires { All (IsNode events.now) fields.now }
-    ensures { IfOk result (λ more. more.items ≡ names.items ++ flat_map (names_of kind) (spec.counted target.now key.now (map (field_at events.now) fields.now))) }
+    ensures { IfOk result (λ more. more.items
+        ≡ names.items ++ flat_map (names_of kind) (spec.counted target.now key.now (map (field_at events.now) fields.now))) }
 {
     let Some(at) = value(events, fields, key) else {
         return Ok(names);

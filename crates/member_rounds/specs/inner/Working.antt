@@ -1,10 +1,10 @@
 -- A link between two of its rounds.
-use Rattle.std.specs.Prelude.{◌≡◌, ℕ, zero, suc, ◌<◌, ◌&&◌, ◌||◌, ◌⊎◌, ◌++◌, Bool, true, false, not, List, [], ◌∷◌, map, filter, All, Some, None, Result, Ok, IfOk, length, slice_index_or, if◌then◌else◌}
+use Rattle.std.specs.Prelude.{◌≡◌, ℕ, zero, suc, ◌<◌, ◌&&◌, ◌||◌, ◌⊎◌, Bool, true, false, not, List, [], ◌∷◌, map, filter, All, Some, None, Result, Ok, IfOk, length, slice_index_or, if◌then◌else◌}
 use Rattle.std.specs.List.{filter_map, list_any}
 use Rattle.std.specs.List.Sorted.{IsPermutation}
 use Rattle.std.specs.Str.{bytes_eq}
-use Rattle.mo_types.specs.Candidates.{is_candidate}
-use Rattle.mo_types.specs.Gives.{◌>>=◌, Gives}
+use Rattle.mo_types.specs.Candidates.{is_candidate, is_undefined}
+use Rattle.mo_types.specs.Gives.{Gives}
 use Rattle.mo_types.specs.Loaded.{IsWholeFile}
 use Rattle.mo_types.specs.declared.key.FileId.{FileId}
 use Rattle.mo_types.specs.declared.loaded.LoadedFile.{LoadedFile}
@@ -13,7 +13,7 @@ use Rattle.lib_bind.specs.declared.library.LibraryGraph.{LibraryGraph}
 use Rattle.input_files.specs.Collected.{all_of}
 use Rattle.member_rounds.specs.Growth.{is_in}
 use Rattle.input_files.specs.Files.{IsLoadFault, all_ids, file_of}
-use Rattle.member_rounds.specs.Rounds.{asked_by, has_candidate, is_undefined, new_ids, round, round_fault}
+use Rattle.member_rounds.specs.Rounds.{asked_by, has_candidate, new_ids, round, round_fault}
 use Rattle.input_files.specs.declared.fault.LoadFault.{LoadFault}
 use Rattle.input_files.specs.declared.input.Input.{Input}
 
@@ -81,6 +81,11 @@ pub record HaveAsked (inputs : List Input) (libs : LibraryGraph) (before : List 
   pub kept : (id : FileId) → is_in before id ≡ true → is_in asked id ≡ true
   pub came : (id : FileId) → is_in asked id ≡ true → (is_in before id ≡ true) ⊎ ((name : List ℕ) × (lists names name ≡ true) × (lists settled name ≡ false) × (asked_by inputs libs name ≡ Some id))
   pub asks : (name : List ℕ) (id : FileId) → lists names name ≡ true → lists settled name ≡ false → asked_by inputs libs name ≡ Some id → is_in asked id ≡ true
+
+-- names, and those of the candidates of files; of names that ask for nothing nothing is said
+abbrev pub HaveNoted : List Input → LibraryGraph → List (List ℕ) → List LoadedFile → List (List ℕ) → Type 0
+HaveNoted inputs libs before files after =
+    (name : List ℕ) (id : FileId) → asked_by inputs libs name ≡ Some id → lists after name ≡ (lists before name || has_candidate files name)
 
 -- names that needn't ask: those that have a candidate, and others that ask for nothing that is left; of those that ask for
 -- nothing at all none has to be there

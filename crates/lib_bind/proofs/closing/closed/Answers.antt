@@ -1,6 +1,6 @@
 use Rattle.std.proofs.Common.{arith}
 use Rattle.lib_bind.proofs.AnsweredLemmas.{held_itself, held_then}
-use Rattle.lib_bind.proofs.StepLemmas.{after_all, after_ended, after_next, closing_starts}
+use Rattle.lib_bind.proofs.StepLemmas.{after_ended, after_next, closing_starts}
 use Rattle.lib_bind.proofs.closing.closed.Goals as goal
 
 pub loop-at-init : goal.loop-at-init
@@ -18,8 +18,5 @@ loop-at-preserved g c = record {
 pub returns-in_err-closing-clause-closing : goal.returns-in_err-closing-clause-closing
 returns-in_err-closing-clause-closing g c = after_ended g.F.Files.answers _ _ _ _ c.in_err-closing.field-0.0 _ c.loop-at.at _ _ _ c.loop-at.invariant.asking c.in_err-closing.ensures.asking c.from_residual.ensures.1
 
-pub returns-then-at-len-clause-closing : goal.returns-then-at-len-clause-closing
-returns-then-at-len-clause-closing g c = record { count = c.loop-at.at; asking = c.loop-at.invariant.asking; done = let e = c.len.ensures in let t = c.if-at-len.true in omega arith }
-
 pub returns-clause-closing : goal.returns-clause-closing
-returns-clause-closing g c = after_all g.F.Files.answers _ _ _ _ c.loop-at.at _ _ c.loop-at.invariant.asking
+returns-clause-closing g c = record { count = c.loop-at.at; asking = c.loop-at.invariant.asking; done = let e = c.len.ensures in let t = c.loop-at-test.false in omega arith }
