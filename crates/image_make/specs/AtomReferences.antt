@@ -17,7 +17,7 @@ pub record IsReady (meets : AtomReferences) : Type 0 where
   pub orders : AreOrders meets.files.now meets.orders
 
 abbrev pub scene_in : AtomReferences → Addressing
-scene_in meets = record { literals = meets.winners.now.literals; base = meets.base; placed = meets.layout.now.placed }
+scene_in meets = record { literals = meets.symbols.now.literals; base = meets.base; placed = meets.layout.now.placed }
 
 -- the references of a placed atom
 abbrev pub met_by : AtomReferences → PlacedWork → List Met

@@ -1,8 +1,9 @@
 -- The atoms that an image keeps, as they are placed.
-use Rattle.std.specs.Prelude.{ℕ, List, map, Option}
+use Rattle.std.specs.Prelude.{ℕ, ◌≤◌, All, List, map, Option}
 use Rattle.std.specs.List.{enumerate_from, filter, find, flat_map}
 use Rattle.std.specs.Option.{option_map_or}
-use Rattle.std.specs.Ordering.{is_eq}
+use Rattle.std.specs.List.Sorted.{IsStrictlySortedBy}
+use Rattle.std.specs.Ordering.{is_eq, on}
 use Rattle.mark_core.specs.Kept.{has}
 use Rattle.mo_types.specs.Keys.{compare_keys}
 use Rattle.mo_types.specs.declared.atom.Atom.{Atom}
@@ -34,6 +35,14 @@ kept_atoms literals keys files = flat_map (kept_in literals keys) (enumerate_fro
 
 abbrev pub atom_of : KeptAtom → Atom
 atom_of kept = kept.atom
+
+-- kept atoms rise by their keys
+abbrev pub AreRising : List KeptAtom → Type 0
+AreRising kept = IsStrictlySortedBy (on (λ (one : KeptAtom). one.atom.key) compare_keys) kept
+
+-- none is aligned to more than a page of 2^14 bytes
+abbrev pub AreLow : List KeptAtom → Type 0
+AreLow kept = All (λ one. one.atom.align ≤ 14) kept
 
 -- the kept atom with a key
 abbrev pub kept_at : List KeptAtom → AtomKey → Option KeptAtom

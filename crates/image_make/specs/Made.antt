@@ -74,9 +74,13 @@ pub record IsLaid (m : ImageInputs) (layout : Layout) : Type 0 where
   pub layout_of : IsLayoutOf m.command (plan_for m) layout
   pub small : image_size (plan_for m) < 2 ^ 32
 
--- the offset of the first instruction from the start of `__TEXT`
+-- the offset of a goal from the start of `__TEXT`
+abbrev pub offset_of : Command → Layout → Goal → ℕ
+offset_of command layout goal = goal_address (base_of command) layout.placed goal - base_of command
+
+-- that of the first instruction
 abbrev pub entry_offset : ImageInputs → Layout → ℕ
-entry_offset m layout = goal_address (base_of m.command) layout.placed m.entry - base_of m.command
+entry_offset m layout = offset_of m.command layout m.entry
 
 abbrev pub no_place : PartPlace
 no_place = record { offset = 0; size = 0 }

@@ -1,23 +1,23 @@
 //! Where the places stand to which references lead.
 ghost use Rattle.std.specs.Prelude.{◌≡◌, ◌+◌, [], ℕ, IfOk, map};
 ghost use Rattle.std.specs.Option.{option_map_or};
-ghost use Rattle.resolve.specs.Table.{AreWithin, goals_in};
+ghost use Rattle.resolve.specs.Table.{AreWithin};
 ghost use Rattle.mo_types.specs.declared.reference.Target.TheVariants as target;
 ghost use Rattle.image_make.specs.Addresses as spec;
-ghost use Rattle.image_make.specs.inner.Told.{AreTold, goal_told, scene_of, told};
+ghost use Rattle.image_make.specs.inner.Told.{AreTold, goal_told, goals_there, scene_of, target_told, told};
 ghost use Rattle.sect_place.specs.Addresses.{AreOnce, address_in};
 
 use mo_types::{AtomKey, Goal, OutOfMemory, Target};
 use resolve::GoalTable;
 use sect_place::{Layout, address, address_near};
 use std::alloc::Global;
-use symbol_winners::Winners;
+use symbol_winners::SymbolTable;
 
 /// What references are met with: what stands for each literal, where the atoms stand, where the image begins, and the
 /// goals of symbols with the address of each goal of their pool, where it has 64 bits.
 #[derive(Clone, Copy)]
 pub(crate) struct Addressing<'a> {
-    pub winners: &'a Winners<'a>,
+    pub symbols: &'a SymbolTable<'a>,
     pub layout: &'a Layout,
     pub base: u64,
     pub goals: &'a GoalTable,
@@ -102,7 +102,7 @@ pub(crate) fn addresses_of(
 fn name_address(setting: &Addressing, places: &[u32], index: u32) -> Option<u64>
     requires told { AreTold setting.now }
     requires within { AreWithin setting.now.goals.now.pool places.now }
-    ensures { result ≡ goal_told setting.now.base setting.now.layout.now.placed (spec.target_goal setting.now.winners.now.literals (goals_in setting.now.goals.now.pool places.now) (target.Name index)) }
+    ensures { result ≡ target_told setting.now places.now (target.Name index) }
 {
     match places.get(index as usize) {
         Some(place) => setting.addresses[*place as usize],
@@ -116,12 +116,12 @@ fn told_target(setting: &Addressing, places: &[u32], target: &Target) -> Option<
     requires once { AreOnce setting.now.layout.now.placed }
     requires told { AreTold setting.now }
     requires within { AreWithin setting.now.goals.now.pool places.now }
-    ensures { result ≡ goal_told setting.now.base setting.now.layout.now.placed (spec.target_goal setting.now.winners.now.literals (goals_in setting.now.goals.now.pool places.now) target.now) }
+    ensures { result ≡ target_told setting.now places.now target.now }
 {
     match *target {
         Target::Name(index) => name_address(setting, places, index),
         Target::Local(atom, offset) => {
-            place_address(setting.layout, setting.winners.representative(atom), offset)
+            place_address(setting.layout, setting.symbols.representative(atom), offset)
         }
     }
 }
@@ -137,7 +137,7 @@ pub(crate) fn target_address(
     requires once { AreOnce setting.now.layout.now.placed }
     requires told { AreTold setting.now }
     requires within { AreWithin setting.now.goals.now.pool places.now }
-    ensures { IfOk result (λ place. place ≡ spec.target_address (scene_of setting.now) (goals_in setting.now.goals.now.pool places.now) target.now) }
+    ensures { IfOk result (λ place. place ≡ spec.target_address (scene_of setting.now) (goals_there setting.now places.now) target.now) }
 {
     match told_target(setting, places, target) {
         Some(place) => Ok(place),

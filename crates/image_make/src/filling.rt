@@ -6,10 +6,10 @@ ghost use Rattle.image_make.specs.inner.Filled.{IsFilled};
 
 use crate::fault::MakeFault;
 use crate::meeting::AtomReferences;
-use image_join::{Part, PartList, Parts, fill, join};
+use image_join::{Part, PartList, Parts, PlacedAtoms, fill, join};
 use mo_outside::Gate;
-use mo_types::{Bytes, Loaded, OutOfMemory};
-use patch::{PatchFault, PlacedWork, work_stands};
+use mo_types::{Bytes, OutOfMemory};
+use patch::{PatchFault, work_stands};
 use sect_place::{Layout, Segment};
 use std::alloc::Global;
 use std::thread::Threads;
@@ -64,28 +64,17 @@ pub(crate) fn fill_image<R: Threads + Sync, G: Gate + Sync>(
     alloc: Global,
     gate: &G,
     workers: u32,
-    loaded: &Loaded,
-    work: &[PlacedWork],
-    meets: &AtomReferences,
+    atoms: &PlacedAtoms<AtomReferences>,
     blank: Vec<u8>,
 ) -> Result<Bytes, MakeFault>
-    requires ready { IsReady meets.now }
-    ensures { IsFilled loaded.now.files (met_by meets.now) work.now blank.items result }
+    requires ready { IsReady atoms.now.meeting.now }
+    ensures { IsFilled atoms.now.loaded.now.files (met_by atoms.now.meeting.now) atoms.now.work.now blank.items result }
 {
     let mut image = blank;
-    if !work_stands(work, loaded.files.as_slice(), 0, image.len()) {
+    if !work_stands(atoms.work, atoms.loaded.files.as_slice(), 0, image.len()) {
         return Err(MakeFault::OutOfMemory);
     }
-    match fill(
-        rt,
-        alloc,
-        gate,
-        workers,
-        image.as_mut_slice(),
-        work,
-        loaded,
-        meets,
-    ) {
+    match fill(rt, alloc, gate, workers, image.as_mut_slice(), atoms) {
         Ok(()) => {
             let image = Bytes::from_vec(image)?;
             are_bytes(image.as_slice());

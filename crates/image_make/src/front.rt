@@ -1,6 +1,5 @@
 //! The header of an image with its load commands.
-ghost use Rattle.std.specs.Prelude.{◌≡◌, ◌-◌, IfOk};
-ghost use Rattle.image_make.specs.Addresses.{goal_address};
+ghost use Rattle.std.specs.Prelude.{◌≡◌, IfOk};
 ghost use Rattle.sect_place.specs.Addresses.{AreOnce};
 ghost use Rattle.load_cmds.specs.Commands.{commands_of};
 ghost use Rattle.sect_place.specs.Layout.{base_of};
@@ -56,7 +55,8 @@ pub(crate) fn front_of(
 ) -> Result<Bytes, OutOfMemory>
     requires whole { IsWholeLayout layout.now }
     requires once { AreOnce layout.now.placed }
-    ensures { IfOk result (λ front. front ≡ commands_of layout.now (spec.parts_of flags (goal_address (base_of command.now) layout.now.placed entry.now - base_of command.now)) command.now libs.now) }
+    ensures { IfOk result (λ front. front
+        ≡ commands_of layout.now (spec.parts_of flags (spec.offset_of command.now layout.now entry.now)) command.now libs.now) }
 {
     let base = base_of(command);
     let start = goal_address(layout, base, entry)?;

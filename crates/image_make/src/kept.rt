@@ -10,7 +10,7 @@ use mark_core::is_kept_near;
 use mo_types::{Atom, AtomKey, AtomList, KeyList, Loaded, LoadedFile, OutOfMemory};
 use std::alloc::Global;
 use std::marker::Model;
-use symbol_winners::Winners;
+use symbol_winners::SymbolTable;
 
 /// An atom of the image, with the alignment with which it is placed.
 #[derive(Clone, Copy, Debug, PartialEq, Eq)]
@@ -83,13 +83,13 @@ impl KeptList {
 
 // An atom with the alignment with which it is placed.
 #[tactic(auto, unfolding(crate::specs::Atoms::raised))]
-fn raised(winners: &Winners, atom: Atom) -> Atom
-    ensures { result ≡ spec.raised winners.now.literals atom }
+fn raised(symbols: &SymbolTable, atom: Atom) -> Atom
+    ensures { result ≡ spec.raised symbols.now.literals atom }
 {
     Atom {
         key: atom.key,
         size: atom.size,
-        align: match winners.literal(atom.key) {
+        align: match symbols.literal(atom.key) {
             Some(literal) => literal.align,
             None => atom.align,
         },
@@ -99,16 +99,16 @@ fn raised(winners: &Winners, atom: Atom) -> Atom
 // Kept atoms, and one more, if it is kept.
 fn with_atom(
     before: Vec<Atom>,
-    winners: &Winners,
+    symbols: &SymbolTable,
     keys: &[AtomKey],
     atom: Atom,
 ) -> Result<Vec<Atom>, OutOfMemory>
     requires { IsStrictlySortedBy compare_keys keys.now }
-    ensures { IfOk result (λ new. new.items ≡ before.items ++ map (spec.raised winners.now.literals) (if has keys.now atom.key then atom ∷ [] else [])) }
+    ensures { IfOk result (λ new. new.items ≡ before.items ++ map (spec.raised symbols.now.literals) (if has keys.now atom.key then atom ∷ [] else [])) }
 {
     let mut kept = before;
     if is_kept_near(keys, kept.len(), atom.key) {
-        kept.push(raised(winners, atom))?;
+        kept.push(raised(symbols, atom))?;
     }
     Ok(kept)
 }
@@ -117,16 +117,16 @@ fn with_atom(
 #[tactic(auto, using(crate::proofs::KeptLemmas::atoms))]
 fn with_atoms(
     before: Vec<Atom>,
-    winners: &Winners,
+    symbols: &SymbolTable,
     keys: &[AtomKey],
     atoms: &[Atom],
 ) -> Result<Vec<Atom>, OutOfMemory>
     requires { IsStrictlySortedBy compare_keys keys.now }
-    ensures { IfOk result (λ new. new.items ≡ before.items ++ map (spec.raised winners.now.literals) (filter (λ atom. has keys.now atom.key) atoms.now)) }
+    ensures { IfOk result (λ new. new.items ≡ before.items ++ map (spec.raised symbols.now.literals) (filter (λ atom. has keys.now atom.key) atoms.now)) }
 {
     let mut kept = before;
     for atom in atoms {
-        kept = with_atom(kept, winners, keys, *atom)?;
+        kept = with_atom(kept, symbols, keys, *atom)?;
     }
     Ok(kept)
 }
@@ -134,19 +134,19 @@ fn with_atoms(
 // Kept atoms, and those among some of the file at a place.
 fn with_file(
     before: KeptList,
-    winners: &Winners,
+    symbols: &SymbolTable,
     keys: &[AtomKey],
     at: u32,
     atoms: &[Atom],
 ) -> Result<KeptList, OutOfMemory>
     requires { IsStrictlySortedBy compare_keys keys.now }
-    ensures { IfOk result (λ new. new ≡ before ++ map (spec.kept_as winners.now.literals at) (filter (λ atom. has keys.now atom.key) atoms.now)) }
+    ensures { IfOk result (λ new. new ≡ before ++ map (spec.kept_as symbols.now.literals at) (filter (λ atom. has keys.now atom.key) atoms.now)) }
 {
     let KeptList {
         atoms: kept,
         mut files,
     } = before;
-    let kept = with_atoms(kept.into_vec(), winners, keys, atoms)?;
+    let kept = with_atoms(kept.into_vec(), symbols, keys, atoms)?;
     files.resize(kept.len(), at)?;
     Ok(KeptList {
         atoms: AtomList::from_vec(kept),
@@ -159,18 +159,18 @@ fn with_file(
 fn kept_of(
     alloc: Global,
     files: &[LoadedFile],
-    winners: &Winners,
+    symbols: &SymbolTable,
     keys: &[AtomKey],
 ) -> Result<KeptList, OutOfMemory>
     requires { IsStrictlySortedBy compare_keys keys.now }
-    ensures { IfOk result (λ kept. kept ≡ spec.kept_atoms winners.now.literals keys.now files.now) }
+    ensures { IfOk result (λ kept. kept ≡ spec.kept_atoms symbols.now.literals keys.now files.now) }
 {
     let mut kept = KeptList::with_capacity(alloc, keys.len())?;
     for (at, file) in files.iter().enumerate() {
         let Ok(place) = u32::try_from(at) else {
             return Err(OutOfMemory);
         };
-        kept = with_file(kept, winners, keys, place, file.atoms.as_slice())?;
+        kept = with_file(kept, symbols, keys, place, file.atoms.as_slice())?;
     }
     Ok(kept)
 }
@@ -180,11 +180,11 @@ fn kept_of(
 pub fn kept_atoms(
     alloc: Global,
     loaded: &Loaded,
-    winners: &Winners,
+    symbols: &SymbolTable,
     keys: &KeyList,
 ) -> Result<KeptList, OutOfMemory>
     requires { IsStrictlySortedBy compare_keys keys.now }
-    ensures { IfOk result (λ kept. kept ≡ spec.kept_atoms winners.now.literals keys.now loaded.now.files) }
+    ensures { IfOk result (λ kept. kept ≡ spec.kept_atoms symbols.now.literals keys.now loaded.now.files) }
 {
-    kept_of(alloc, loaded.files.as_slice(), winners, keys.as_slice())
+    kept_of(alloc, loaded.files.as_slice(), symbols, keys.as_slice())
 }

@@ -1,11 +1,8 @@
 //! Where everything of an image stands.
-ghost use Rattle.std.specs.Prelude.{◌≡◌, ◌≤◌, ◌<◌, ◌^◌, All, IfErr, IfOk};
+ghost use Rattle.std.specs.Prelude.{◌≡◌, ◌<◌, ◌^◌, IfErr, IfOk};
 ghost use Rattle.std.specs.List.{AllPairs};
-ghost use Rattle.std.specs.List.Sorted.{IsStrictlySortedBy};
-ghost use Rattle.std.specs.Ordering.{on};
 ghost use Rattle.sect_place.specs.Addresses.{AreOnce};
-ghost use Rattle.image_make.specs.declared.kept.KeptAtom.{KeptAtom};
-ghost use Rattle.mo_types.specs.Keys.{compare_keys};
+ghost use Rattle.image_make.specs.Atoms.{AreLow, AreRising};
 ghost use Rattle.mo_types.specs.Loaded.{IsBefore};
 ghost use Rattle.mo_types.specs.declared.loaded.LoadedFile.{LoadedFile};
 ghost use Rattle.sect_place.specs.Layout.{IsLayoutOf, image_size};
@@ -43,9 +40,10 @@ pub(crate) fn lay_out(
     islands: &IslandPlan,
 ) -> Result<Layout, MakeFault>
     requires files { AllPairs (λ (a : LoadedFile) (b : LoadedFile). IsBefore a.id b.id) loaded.now.files }
-    requires rising { IsStrictlySortedBy (on (λ (one : KeptAtom). one.atom.key) compare_keys) kept.now }
-    requires low { All (λ one. one.atom.align ≤ 14) kept.now }
-    ensures layout_of { IfOk result (λ layout. IsLayoutOf command.now (spec.plan_with command.now libs.now loaded.now.files kept.now slots.now islands.now) layout) }
+    requires rising { AreRising kept.now }
+    requires low { AreLow kept.now }
+    ensures layout_of { IfOk result (λ layout.
+        IsLayoutOf command.now (spec.plan_with command.now libs.now loaded.now.files kept.now slots.now islands.now) layout) }
     ensures small { IfOk result (λ layout. image_size (spec.plan_with command.now libs.now loaded.now.files kept.now slots.now islands.now) < 2 ^ 32) }
     ensures whole { IfOk result IsWholeLayout }
     ensures once { IfOk result (λ layout. AreOnce layout.placed) }

@@ -1,4 +1,22 @@
-//! The image of the atoms that are kept: its layout, its header with the load commands, and its atoms with their fields.
+//! The image of the atoms that are kept: its layout, its header with the load commands, and its atoms with their
+//! fields.
+//!
+//! `make_image` answers the image of what `ImageInputs` has, or why there is none (`IsMade`, in `specs/Made.antt`):
+//! the header with the load commands, and each atom with bytes at its place with the fields of its references. It is
+//! written by as many workers as the command says, in one allocation. A `MakeFault` is that what stands before
+//! `__LINKEDIT` is too large, that a value doesn't fit its field, the first one of the atom with the least key, or
+//! want of memory. Kept atoms are to rise by their keys, files are to be whole, and alignments at most 2^14.
+//!
+//! `kept_atoms` answers the atoms whose keys are kept, file by file, a literal with the greatest alignment of those
+//! for which it stands (`specs/Atoms.antt`). `work_of` answers those with bytes in the file, in the order of the
+//! image, with their places (`specs/Rows.antt`). `AtomReferences` says what their references mean (`specs/Mets.antt`),
+//! and `goal_address` where one goal stands (`specs/Addresses.antt`). A place of 2^64 or more is want of memory.
+//!
+//! The module `laying` makes the layout, `front` the header, and `filling` puts the atoms into a blank image; `making`
+//! is the line of these three. What images mean to the loader is said in `loader_laws`.
+//!
+//! Their contracts refuse a body that leads to a merged literal itself, one that tells the entry as an address, and
+//! one that subtracts a reference's own target.
 #![tactic(auto)]
 
 mod addresses;

@@ -1,13 +1,10 @@
 //! The image of the atoms that are kept.
-ghost use Rattle.std.specs.Prelude.{◌≡◌, ◌≤◌, All};
 ghost use Rattle.std.specs.List.Sorted.{IsStrictlySortedBy};
-ghost use Rattle.std.specs.Ordering.{on};
-ghost use Rattle.image_make.specs.Atoms.{kept_atoms};
-ghost use Rattle.image_make.specs.declared.kept.KeptAtom.{KeptAtom};
-ghost use Rattle.resolve.specs.Table.{goals_of};
+ghost use Rattle.image_make.specs.Atoms.{AreLow, AreRising};
+ghost use Rattle.image_make.specs.Inputs.{inputs_of};
 ghost use Rattle.mo_types.specs.Keys.{compare_keys};
 ghost use Rattle.mo_types.specs.Loaded.{IsWholeLoaded};
-ghost use Rattle.image_make.specs.Made.{IsMade};
+ghost use Rattle.image_make.specs.Made.{IsMade, kept_of};
 
 use crate::fault::MakeFault;
 use crate::filling::{blank_image, fill_image};
@@ -17,6 +14,7 @@ use crate::laying::lay_out;
 use crate::meeting::AtomReferences;
 use crate::rows::work_of;
 use command_line::Command;
+use image_join::PlacedAtoms;
 use lib_bind::Libraries;
 use mo_outside::Gate;
 use mo_types::{Bytes, Goal, KeyList, Loaded};
@@ -25,7 +23,7 @@ use sect_place::IslandPlan;
 use slot_plan::Slots;
 use std::alloc::Global;
 use std::thread::Threads;
-use symbol_winners::Winners;
+use symbol_winners::SymbolTable;
 
 /// What an image is made of.
 #[derive(Clone, Copy)]
@@ -33,7 +31,7 @@ pub struct ImageInputs<'a> {
     pub command: &'a Command,
     pub libs: &'a Libraries,
     pub loaded: &'a Loaded,
-    pub winners: &'a Winners<'a>,
+    pub symbols: &'a SymbolTable<'a>,
     /// The goals of each file's symbols.
     pub goals: &'a GoalTable,
     /// The atoms that are kept, by rising key.
@@ -53,51 +51,47 @@ pub fn make_image<R: Threads + Sync, G: Gate + Sync>(
     rt: &R,
     alloc: Global,
     gate: &G,
-    scheme: &ImageInputs,
+    inputs: &ImageInputs,
 ) -> Result<Bytes, MakeFault>
-    requires whole { IsWholeLoaded scheme.now.loaded.now }
-    requires keys { IsStrictlySortedBy compare_keys scheme.now.keys.now }
-    requires rising { IsStrictlySortedBy (on (λ (one : KeptAtom). one.atom.key) compare_keys) (kept_atoms scheme.now.winners.now.literals scheme.now.keys.now scheme.now.loaded.now.files) }
-    requires low { All (λ one. one.atom.align ≤ 14) (kept_atoms scheme.now.winners.now.literals scheme.now.keys.now scheme.now.loaded.now.files) }
-    ensures { IsMade (record { command = scheme.now.command.now; libs = scheme.now.libs.now; files = scheme.now.loaded.now.files; goals = goals_of scheme.now.goals.now; literals = scheme.now.winners.now.literals; keys = scheme.now.keys.now; flags = scheme.now.flags; entry = scheme.now.entry.now; slots = scheme.now.slots.now; islands = scheme.now.islands.now }) result }
+    requires whole { IsWholeLoaded inputs.now.loaded.now }
+    requires keys { IsStrictlySortedBy compare_keys inputs.now.keys.now }
+    requires rising { AreRising (kept_of (inputs_of inputs.now)) }
+    requires low { AreLow (kept_of (inputs_of inputs.now)) }
+    ensures { IsMade (inputs_of inputs.now) result }
 {
-    let kept = kept_atoms(alloc, scheme.loaded, scheme.winners, scheme.keys)?;
+    let kept = kept_atoms(alloc, inputs.loaded, inputs.symbols, inputs.keys)?;
     let layout = lay_out(
         alloc,
-        scheme.command,
-        scheme.libs,
-        scheme.loaded,
+        inputs.command,
+        inputs.libs,
+        inputs.loaded,
         &kept,
-        scheme.slots,
-        scheme.islands,
+        inputs.slots,
+        inputs.islands,
     )?;
     let front = front_of(
         alloc,
-        scheme.command,
-        scheme.libs,
+        inputs.command,
+        inputs.libs,
         &layout,
-        scheme.flags,
-        scheme.entry,
+        inputs.flags,
+        inputs.entry,
     )?;
     let work = work_of(alloc, &kept, &layout)?;
     drop(kept);
     let blank = blank_image(alloc, &layout, front)?;
     let meets = AtomReferences::of(
         alloc,
-        scheme.loaded,
-        scheme.winners,
-        scheme.goals,
+        inputs.loaded,
+        inputs.symbols,
+        inputs.goals,
         &layout,
-        base_of(scheme.command),
+        base_of(inputs.command),
     )?;
-    fill_image(
-        rt,
-        alloc,
-        gate,
-        scheme.command.threads,
-        scheme.loaded,
-        work.as_slice(),
-        &meets,
-        blank,
-    )
+    let atoms = PlacedAtoms {
+        work: work.as_slice(),
+        loaded: inputs.loaded,
+        meeting: &meets,
+    };
+    fill_image(rt, alloc, gate, inputs.command.threads, &atoms, blank)
 }

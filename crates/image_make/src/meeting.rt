@@ -16,7 +16,7 @@ use patch::{Meeting, Met, PlacedWork};
 use resolve::GoalTable;
 use sect_place::Layout;
 use std::alloc::Global;
-use symbol_winners::Winners;
+use symbol_winners::SymbolTable;
 
 /// What the references of an image's atoms mean: the addresses to which they lead, by the goals of symbols and by what
 /// stands for each literal, in a layout. An image whose first address is `base` has the header there.
@@ -24,7 +24,7 @@ use symbol_winners::Winners;
 pub struct AtomReferences<'a> {
     files: &'a LoadedList,
     orders: Items<RefOrder>,
-    winners: &'a Winners<'a>,
+    symbols: &'a SymbolTable<'a>,
     layout: &'a Layout,
     base: u64,
     goals: &'a GoalTable,
@@ -65,21 +65,23 @@ impl<'a> AtomReferences<'a> {
     pub fn of(
         alloc: Global,
         loaded: &'a Loaded,
-        winners: &'a Winners<'a>,
+        symbols: &'a SymbolTable<'a>,
         goals: &'a GoalTable,
         layout: &'a Layout,
         base: u64,
     ) -> Result<AtomReferences<'a>, OutOfMemory>
         requires once { AreOnce layout.now.placed }
         ensures ready { IfOk result IsReady }
-        ensures mets { IfOk result (λ meets. met_by meets ≡ kept_mets (record { literals = winners.entry.now.literals; base = base; placed = layout.entry.now.placed }) loaded.entry.now.files (goals_of goals.entry.now)) }
+        ensures mets { IfOk result (λ meets. met_by meets
+            ≡ kept_mets (record { literals = symbols.entry.now.literals; base = base; placed = layout.entry.now.placed })
+            loaded.entry.now.files (goals_of goals.entry.now)) }
     {
         let orders = orders_of(alloc, loaded.files.as_slice())?;
         let addresses = addresses_of(alloc, layout, base, goals.pool())?;
         Ok(AtomReferences {
             files: &loaded.files,
             orders,
-            winners,
+            symbols,
             layout,
             base,
             goals,
@@ -100,7 +102,7 @@ impl<'a> Meeting for AtomReferences<'a> {
         mets: &mut Vec<Met>,
     ) -> Result<(), OutOfMemory> {
         let setting = Addressing {
-            winners: self.winners,
+            symbols: self.symbols,
             layout: self.layout,
             base: self.base,
             goals: self.goals,

@@ -2,13 +2,13 @@
 ghost use Rattle.std.specs.Prelude.{◌≡◌, ◌++◌, ◌∷◌, [], IfOk, OnOk, slice_get};
 ghost use Rattle.std.specs.List.{flat_map};
 ghost use Rattle.std.specs.Option.{option_map, option_map_or, option_to_list};
-ghost use Rattle.resolve.specs.Table.{AreWithin, goals_in};
+ghost use Rattle.resolve.specs.Table.{AreWithin};
 ghost use Rattle.liveness.specs.Order.{AreInOrder};
 ghost use Rattle.image_make.specs.Addresses.{target_address};
 ghost use Rattle.sect_place.specs.Addresses.{AreOnce};
 ghost use Rattle.image_make.specs.Mets as spec;
 ghost use Rattle.image_make.specs.inner.Listed.{mets_at};
-ghost use Rattle.image_make.specs.inner.Told.{AreTold, scene_of};
+ghost use Rattle.image_make.specs.inner.Told.{AreTold, goals_there, scene_of};
 
 use crate::addresses::{Addressing, target_address};
 use liveness::next_spots;
@@ -24,7 +24,7 @@ fn minus_address(
     requires once { AreOnce setting.now.layout.now.placed }
     requires told { AreTold setting.now }
     requires within { AreWithin setting.now.goals.now.pool places.now }
-    ensures { IfOk result (λ place. place ≡ option_map_or (target_address (scene_of setting.now) (goals_in setting.now.goals.now.pool places.now)) minus.now 0) }
+    ensures { IfOk result (λ place. place ≡ option_map_or (target_address (scene_of setting.now) (goals_there setting.now places.now)) minus.now 0) }
 {
     match minus {
         Some(target) => target_address(setting, places, target),
@@ -38,7 +38,7 @@ fn met_of(setting: &Addressing, places: &[u32], reference: &Ref) -> Result<Met, 
     requires once { AreOnce setting.now.layout.now.placed }
     requires told { AreTold setting.now }
     requires within { AreWithin setting.now.goals.now.pool places.now }
-    ensures { IfOk result (λ met. met ≡ spec.met_of (scene_of setting.now) (goals_in setting.now.goals.now.pool places.now) reference.now) }
+    ensures { IfOk result (λ met. met ≡ spec.met_of (scene_of setting.now) (goals_there setting.now places.now) reference.now) }
 {
     let value = target_address(setting, places, &reference.target)?;
     let minus = minus_address(setting, places, &reference.minus)?;
@@ -64,7 +64,7 @@ fn add_met(
     requires once { AreOnce setting.now.layout.now.placed }
     requires told { AreTold setting.now }
     requires within { AreWithin setting.now.goals.now.pool places.now }
-    ensures { OnOk result (mets.new.items ≡ mets.old.items ++ mets_at (scene_of setting.now) (goals_in setting.now.goals.now.pool places.now) refs.now index) }
+    ensures { OnOk result (mets.new.items ≡ mets.old.items ++ mets_at (scene_of setting.now) (goals_there setting.now places.now) refs.now index) }
 {
     match refs.get(index as usize) {
         Some(reference) => mets.push(met_of(setting, places, &reference)?)?,
@@ -85,7 +85,8 @@ fn add_each(
     requires once { AreOnce setting.now.layout.now.placed }
     requires told { AreTold setting.now }
     requires within { AreWithin setting.now.goals.now.pool places.now }
-    ensures { OnOk result (mets.new.items ≡ mets.old.items ++ flat_map (mets_at (scene_of setting.now) (goals_in setting.now.goals.now.pool places.now) refs.now) indices.now) }
+    ensures { OnOk result (mets.new.items
+        ≡ mets.old.items ++ flat_map (mets_at (scene_of setting.now) (goals_there setting.now places.now) refs.now) indices.now) }
 {
     for index in indices {
         add_met(mets, setting, places, refs, *index)?;
@@ -108,7 +109,7 @@ pub(crate) fn add_mets(
     requires told { AreTold setting.now }
     requires within { AreWithin setting.now.goals.now.pool places.now }
     requires order { AreInOrder refs.now order.now }
-    ensures { OnOk result (mets.new.items ≡ mets.old.items ++ spec.mets_of (scene_of setting.now) (goals_in setting.now.goals.now.pool places.now) refs.now key) }
+    ensures { OnOk result (mets.new.items ≡ mets.old.items ++ spec.mets_of (scene_of setting.now) (goals_there setting.now places.now) refs.now key) }
 {
     let indices = next_spots(refs, order, next, key.section, key.offset);
     add_each(mets, setting, places, refs, indices)

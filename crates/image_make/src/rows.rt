@@ -1,14 +1,10 @@
 //! The atoms that have bytes in the image, in its order, with their places.
 ghost use Rattle.std.specs.Prelude.{◌≡◌, ◌+◌, ◌-◌, ◌++◌, ◌∷◌, [], IfOk, IsTrue, slice_get};
 ghost use Rattle.std.specs.List.{filter_map};
-ghost use Rattle.std.specs.List.Sorted.{IsStrictlySortedBy};
 ghost use Rattle.std.specs.Option.{option_map, option_to_list};
-ghost use Rattle.std.specs.Ordering.{on};
-ghost use Rattle.mo_types.specs.Keys.{compare_keys};
 ghost use Rattle.sect_place.specs.Addresses.{AreOnce};
-ghost use Rattle.image_make.specs.Atoms.{kept_at};
+ghost use Rattle.image_make.specs.Atoms.{AreRising, kept_at};
 ghost use Rattle.image_make.specs.Rows as spec;
-ghost use Rattle.image_make.specs.declared.kept.KeptAtom.{KeptAtom};
 
 use crate::addresses::address_beside;
 use crate::kept::{KeptAtom, KeptList};
@@ -36,7 +32,7 @@ fn found_at(atoms: &KeptList, at: usize) -> Option<PlacedKept>
 
 // The kept atom with a key.
 fn find_kept(atoms: &KeptList, key: AtomKey) -> Option<PlacedKept>
-    requires { IsStrictlySortedBy (on (λ (kept : KeptAtom). kept.atom.key) compare_keys) atoms.now }
+    requires { AreRising atoms.now }
     ensures { option_map (λ found. found.kept) result ≡ kept_at atoms.now key }
 {
     let alone = atoms.atoms().as_slice();
@@ -56,7 +52,7 @@ fn has_key(kept: &KeptAtom, key: &AtomKey) -> bool
 // The kept atom with a key, which mostly stands at a place of the list.
 #[tactic(auto, using(crate::proofs::KeptListLemmas::near))]
 fn find_near(atoms: &KeptList, near: usize, key: AtomKey) -> Option<PlacedKept>
-    requires { IsStrictlySortedBy (on (λ (kept : KeptAtom). kept.atom.key) compare_keys) atoms.now }
+    requires { AreRising atoms.now }
     ensures { option_map (λ found. found.kept) result ≡ kept_at atoms.now key }
 {
     if let Some(kept) = atoms.get(near) {
@@ -110,7 +106,7 @@ fn with_key(
     next: &mut usize,
 ) -> Result<Vec<PlacedWork>, OutOfMemory>
     requires once { AreOnce layout.now.placed }
-    requires rising { IsStrictlySortedBy (on (λ (kept : KeptAtom). kept.atom.key) compare_keys) atoms.now }
+    requires rising { AreRising atoms.now }
     ensures { IfOk result (λ new. new.items ≡ before.items ++ option_to_list (spec.row_of layout.now.placed atoms.now section.now key)) }
 {
     let Some(found) = find_near(atoms, *next, key) else {
@@ -133,7 +129,7 @@ fn with_keys(
     keys: &[AtomKey],
 ) -> Result<Vec<PlacedWork>, OutOfMemory>
     requires once { AreOnce layout.now.placed }
-    requires rising { IsStrictlySortedBy (on (λ (kept : KeptAtom). kept.atom.key) compare_keys) atoms.now }
+    requires rising { AreRising atoms.now }
     ensures { IfOk result (λ new. new.items ≡ before.items ++ filter_map (spec.row_of layout.now.placed atoms.now section.now) keys.now) }
 {
     let mut items = before;
@@ -152,7 +148,7 @@ fn with_section(
     section: &PlacedSection,
 ) -> Result<Vec<PlacedWork>, OutOfMemory>
     requires once { AreOnce layout.now.placed }
-    requires rising { IsStrictlySortedBy (on (λ (kept : KeptAtom). kept.atom.key) compare_keys) atoms.now }
+    requires rising { AreRising atoms.now }
     ensures { IfOk result (λ new. new.items ≡ before.items ++ spec.section_rows layout.now.placed atoms.now section.now) }
 {
     with_keys(
@@ -179,7 +175,7 @@ fn with_sections(
     sections: &[PlacedSection],
 ) -> Result<Vec<PlacedWork>, OutOfMemory>
     requires once { AreOnce layout.now.placed }
-    requires rising { IsStrictlySortedBy (on (λ (kept : KeptAtom). kept.atom.key) compare_keys) atoms.now }
+    requires rising { AreRising atoms.now }
     ensures { IfOk result (λ new. new.items ≡ before.items ++ spec.rows layout.now.placed atoms.now sections.now) }
 {
     let mut items = before;
@@ -199,7 +195,7 @@ pub fn work_of(
     layout: &Layout,
 ) -> Result<Vec<PlacedWork>, OutOfMemory>
     requires once { AreOnce layout.now.placed }
-    requires rising { IsStrictlySortedBy (on (λ (one : KeptAtom). one.atom.key) compare_keys) kept.now }
+    requires rising { AreRising kept.now }
     ensures { IfOk result (λ work. work.items ≡ spec.rows layout.now.placed kept.now layout.now.sections) }
 {
     let none = Vec::with_capacity(alloc, kept.len())?;

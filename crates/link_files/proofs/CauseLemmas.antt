@@ -15,7 +15,7 @@ use Rattle.mo_types.specs.declared.goal.Goal.{Goal}
 use Rattle.mo_types.specs.declared.key.AtomKey.{AtomKey}
 use Rattle.mo_types.specs.declared.loaded.LoadedFile.{LoadedFile}
 use Rattle.resolve.specs.Goals.{goal_of_name, goal_table}
-use Rattle.symbol_winners.specs.Known.{Known}
+use Rattle.symbol_winners.specs.SymbolTable.{SymbolTable}
 use Rattle.sect_place.specs.declared.size.PlaceFault.TheVariants as place
 use Rattle.link_files.specs.Causes.{IsLookedUp, IsLost, IsUnfit, LinkCause}
 use Rattle.link_files.specs.Flags.{header_flags}
@@ -48,12 +48,12 @@ later_stop command files goals entry keys why = (to, (λ c. rw c.later (ap Some 
         by None f = absurd (let g : ◌≡◌ {A = Option Refusal} None (Some why) = rw f at e in cc)
         by (Some file) f = let g : Some (refusal.Unsupported file Later) ≡ Some why = rw f at e in record { file = file; later = f; told = sym (same_some g) }
 
-image_stop : (command : Command) (libs : LibraryGraph) (files : List LoadedFile) (known : Known) (keys : List AtomKey) → Stops (AsImage command libs files known keys) (IsUnfit (making command libs files (header_flags command libs known keys) keys))
+image_stop : (command : Command) (libs : LibraryGraph) (files : List LoadedFile) (symbols : SymbolTable) (keys : List AtomKey) → Stops (AsImage command libs files symbols keys) (IsUnfit (making command libs files (header_flags command libs symbols keys) keys))
 unfolding making
-image_stop command libs files known keys why = ((λ made. to made.made made.is_made made.answer made.told), from)
+image_stop command libs files symbols keys why = ((λ made. to made.made made.is_made made.answer made.told), from)
   where
     m : ImageInputs
-    m = making command libs files (header_flags command libs known keys) keys
+    m = making command libs files (header_flags command libs symbols keys) keys
 
     to : (r : Result (List ℕ) MakeFault) → IsMade m r → IsAnswer r → Err why ≡ told_as command files r → IsUnfit m why
     to (Ok image) is answer told = absurd (no_error told)
@@ -62,7 +62,7 @@ image_stop command libs files known keys why = ((λ made. to made.made made.is_m
     to (Err (make.Range key fault)) is answer told = inr (record { key = key; fault = fault; unfit = is; told = same_error told })
     to (Err make.OutOfMemory) is answer told = absurd answer
 
-    from : IsUnfit m why → AsImage command libs files known keys (Err why)
+    from : IsUnfit m why → AsImage command libs files symbols keys (Err why)
     from (inl long) = record { made = Err (make.Place (place.ImageSize long.value)); is_made = long.size; answer = tt; told = ap Err long.told }
     from (inr out) = record { made = Err (make.Range out.key out.fault); is_made = out.unfit; answer = tt; told = ap Err out.told }
 
@@ -73,8 +73,8 @@ link_stops command libs files =
     gives_stops _ _ _ _ _ (names_stop files (wanted command)) (names_are files (wanted command)) (λ names are.
     unless_stops _ _ _ _ (atoms_stop files) (λ few.
     checks_stops _ _ _ _ (λ why. ((λ twice. twice), (λ twice. twice))) (λ once.
-    some_stops _ _ _ (λ known is.
+    some_stops _ _ _ (λ symbols is.
     some_stops _ _ _ (λ keys kept.
     unless_stops _ _ _ _ (lost_stop command libs files goals keys) (λ found.
     unless_stops _ _ _ _ (later_stop command files goals entry keys) (λ inside.
-    image_stop command libs files known keys)))))))
+    image_stop command libs files symbols keys)))))))

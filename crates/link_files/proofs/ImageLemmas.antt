@@ -52,7 +52,7 @@ scheme_of r flags keys slots islands = record {
   libs = r.libs.now;
   files = files_of r;
   goals = table_of r;
-  literals = r.winners.now.literals;
+  literals = r.symbols.now.literals;
   keys = keys;
   flags = flags;
   entry = r.entry.now;
@@ -66,13 +66,13 @@ same_making : (command : Command) (libs : LibraryGraph) (files : List LoadedFile
 unfolding making
 same_making command libs files flags other keys goals literals entry slots islands g l e f s i = rw (g, l, e, f, s, i) refl
 
-same_scheme : (r : Resolved) (flags : ℕ) (keys : List AtomKey) (slots : Slots) (islands : IslandPlan) → IsResolved r → flags ≡ header_flags r.command.now r.libs.now r.winners.now keys → slots ≡ no_slots → islands ≡ no_islands
-    → scheme_of r flags keys slots islands ≡ making r.command.now r.libs.now (files_of r) (header_flags r.command.now r.libs.now r.winners.now keys) keys
+same_scheme : (r : Resolved) (flags : ℕ) (keys : List AtomKey) (slots : Slots) (islands : IslandPlan) → IsResolved r → flags ≡ header_flags r.command.now r.libs.now r.symbols.now keys → slots ≡ no_slots → islands ≡ no_islands
+    → scheme_of r flags keys slots islands ≡ making r.command.now r.libs.now (files_of r) (header_flags r.command.now r.libs.now r.symbols.now keys) keys
 same_scheme r flags keys slots islands is f s i =
-    same_making r.command.now r.libs.now (files_of r) flags (header_flags r.command.now r.libs.now r.winners.now keys) keys (table_of r) r.winners.now.literals r.entry.now slots islands is.goals is.known.literals is.entry f s i
+    same_making r.command.now r.libs.now (files_of r) flags (header_flags r.command.now r.libs.now r.symbols.now keys) keys (table_of r) r.symbols.now.literals r.entry.now slots islands is.goals is.symbols.literals is.entry f s i
 
-pub image_made : (r : Resolved) (flags : ℕ) (keys : List AtomKey) (slots : Slots) (islands : IslandPlan) (image : List ℕ) → IsResolved r → flags ≡ header_flags r.command.now r.libs.now r.winners.now keys → slots ≡ no_slots → islands ≡ no_islands
-    → IsMade (scheme_of r flags keys slots islands) (Ok image) → AsImage r.command.now r.libs.now (files_of r) r.winners.now keys (Ok image)
+pub image_made : (r : Resolved) (flags : ℕ) (keys : List AtomKey) (slots : Slots) (islands : IslandPlan) (image : List ℕ) → IsResolved r → flags ≡ header_flags r.command.now r.libs.now r.symbols.now keys → slots ≡ no_slots → islands ≡ no_islands
+    → IsMade (scheme_of r flags keys slots islands) (Ok image) → AsImage r.command.now r.libs.now (files_of r) r.symbols.now keys (Ok image)
 image_made r flags keys slots islands image is f s i made = record {
   made = Ok image;
   is_made = subst (λ (m : ImageInputs). IsMade m (Ok image)) (same_scheme r flags keys slots islands is f s i) made;
@@ -80,9 +80,9 @@ image_made r flags keys slots islands image is f s i made = record {
   told = refl;
 }
 
-pub fault_made : (r : Resolved) (flags : ℕ) (keys : List AtomKey) (slots : Slots) (islands : IslandPlan) (why : MakeFault) (refusal : Refusal) → IsResolved r → flags ≡ header_flags r.command.now r.libs.now r.winners.now keys → slots ≡ no_slots → islands ≡ no_islands
+pub fault_made : (r : Resolved) (flags : ℕ) (keys : List AtomKey) (slots : Slots) (islands : IslandPlan) (why : MakeFault) (refusal : Refusal) → IsResolved r → flags ≡ header_flags r.command.now r.libs.now r.symbols.now keys → slots ≡ no_slots → islands ≡ no_islands
     → IsMade (scheme_of r flags keys slots islands) (Err why) → IsAnswer {A = List ℕ} (Err why) → refusal ≡ refusal_of r.command.now (files_of r) why
-    → AsImage r.command.now r.libs.now (files_of r) r.winners.now keys (Err refusal)
+    → AsImage r.command.now r.libs.now (files_of r) r.symbols.now keys (Err refusal)
 fault_made r flags keys slots islands why refusal is f s i made real told = record {
   made = Err why;
   is_made = subst (λ (m : ImageInputs). IsMade m (Err why)) (same_scheme r flags keys slots islands is f s i) made;

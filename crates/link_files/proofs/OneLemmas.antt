@@ -30,7 +30,7 @@ use Rattle.patch.specs.declared.met.RangeFault.{RangeFault}
 use Rattle.symbol_winners.proofs.OneListLemmas.{one_duplicate, winners_are_one}
 use Rattle.liveness.specs.Edges.{edges_by, supports_by}
 use Rattle.resolve.specs.Goals.{goal_of_name, goal_table}
-use Rattle.symbol_winners.specs.Known.{AreKnown, Known}
+use Rattle.symbol_winners.specs.SymbolTable.{IsSymbolTable, SymbolTable}
 use Rattle.literal_merge.specs.Representatives.{representatives_of}
 use Rattle.liveness.specs.Roots.{exported_root, exported_roots, kept_roots, marked_root, name_root, plain_roots, roots, wanted_roots}
 use Rattle.literal_merge.specs.declared.representative.Representative.{Representative}
@@ -79,43 +79,43 @@ duplicates_same files names numbers (Some a) (Some b) p q = ap Some (twice_same 
 -- ---- the atoms that are kept
 
 -- what roots look at
-looked_at : Known → Known
-looked_at known = record { winners = known.winners; literals = known.literals; weak = []; flats = []; names = [] }
+looked_at : SymbolTable → SymbolTable
+looked_at symbols = record { winners = symbols.winners; literals = symbols.literals; weak = []; flats = []; names = [] }
 
 flat_same : {X Y : Type 0} (f g : X → List Y) → ((x : X) → f x ≡ g x) → (xs : List X) → flat_map f xs ≡ flat_map g xs
 flat_same f g same [] = refl
 flat_same {Y = Y} f g same (x ∷ xs) = ap₂ (λ (ys zs : List Y). ys ++ zs) (same x) (flat_same f g same xs)
 
-wanted_looked : (command : Command) (known : Known) → wanted_roots command known ≡ wanted_roots command (looked_at known)
+wanted_looked : (command : Command) (symbols : SymbolTable) → wanted_roots command symbols ≡ wanted_roots command (looked_at symbols)
 unfolding wanted_roots name_root looked_at
-wanted_looked command known = refl
+wanted_looked command symbols = refl
 
-exported_looked : (command : Command) (known : Known) → exported_roots command known ≡ exported_roots command (looked_at known)
+exported_looked : (command : Command) (symbols : SymbolTable) → exported_roots command symbols ≡ exported_roots command (looked_at symbols)
 unfolding exported_roots exported_root looked_at
-exported_looked command known = refl
+exported_looked command symbols = refl
 
-kept_looked : (known : Known) (file : LoadedFile) → kept_roots known file ≡ kept_roots (looked_at known) file
+kept_looked : (symbols : SymbolTable) (file : LoadedFile) → kept_roots symbols file ≡ kept_roots (looked_at symbols) file
 unfolding kept_roots marked_root looked_at
-kept_looked known file = refl
+kept_looked symbols file = refl
 
-plain_looked : (known : Known) (file : LoadedFile) → plain_roots known file ≡ plain_roots (looked_at known) file
+plain_looked : (symbols : SymbolTable) (file : LoadedFile) → plain_roots symbols file ≡ plain_roots (looked_at symbols) file
 unfolding plain_roots looked_at
-plain_looked known file = refl
+plain_looked symbols file = refl
 
 either_same : (b : Bool) (xs ys zs ws : List AtomKey) → xs ≡ ys → zs ≡ ws → (if b then xs else zs) ≡ (if b then ys else ws)
 either_same true xs ys zs ws first second = first
 either_same false xs ys zs ws first second = second
 
-roots_looked : (command : Command) (known : Known) (files : List LoadedFile) → roots command known files ≡ roots command (looked_at known) files
+roots_looked : (command : Command) (symbols : SymbolTable) (files : List LoadedFile) → roots command symbols files ≡ roots command (looked_at symbols) files
 unfolding roots
-roots_looked command known files =
+roots_looked command symbols files =
     either_same command.dead_strip _ _ _ _
     (ap₂ (λ (xs ys : List AtomKey). xs ++ ys)
-    (ap₂ (λ (xs ys : List AtomKey). xs ++ ys) (wanted_looked command known) (exported_looked command known))
-    (flat_same (kept_roots known) (kept_roots (looked_at known)) (kept_looked known) files))
-    (flat_same (plain_roots known) (plain_roots (looked_at known)) (plain_looked known) files)
+    (ap₂ (λ (xs ys : List AtomKey). xs ++ ys) (wanted_looked command symbols) (exported_looked command symbols))
+    (flat_same (kept_roots symbols) (kept_roots (looked_at symbols)) (kept_looked symbols) files))
+    (flat_same (plain_roots symbols) (plain_roots (looked_at symbols)) (plain_looked symbols) files)
 
-roots_same : (command : Command) (files : List LoadedFile) (a b : Known) → AreKnown command files a → AreKnown command files b → roots command a files ≡ roots command b files
+roots_same : (command : Command) (files : List LoadedFile) (a b : SymbolTable) → IsSymbolTable command files a → IsSymbolTable command files b → roots command a files ≡ roots command b files
 unfolding looked_at
 roots_same command files a b p q =
     roots_looked command a files
@@ -123,15 +123,15 @@ roots_same command files a b p q =
     ∙ ap (λ (literals : List Representative). roots command (record { winners = b.winners; literals = literals; weak = []; flats = []; names = [] }) files) (p.literals ∙ sym q.literals)
     ∙ sym (roots_looked command b files)
 
-keys_same : (command : Command) (files : List LoadedFile) (goals : List (List Goal)) (known other : Known) (a b : List AtomKey) → AreKnown command files known → AreKnown command files other → AreKept command files known goals a → AreKept command files other goals b → a ≡ b
-keys_same command files goals known other a b p q first second =
+keys_same : (command : Command) (files : List LoadedFile) (goals : List (List Goal)) (symbols other : SymbolTable) (a b : List AtomKey) → IsSymbolTable command files symbols → IsSymbolTable command files other → AreKept command files symbols goals a → AreKept command files other goals b → a ≡ b
+keys_same command files goals symbols other a b p q first second =
     kept_is_one (edges_by files goals) (supports_by files goals) (roots command other files) a b
-    (subst (λ (rs : List AtomKey). IsKept (edges_by files goals) (supports_by files goals) rs a) (roots_same command files known other p q) first) second
+    (subst (λ (rs : List AtomKey). IsKept (edges_by files goals) (supports_by files goals) rs a) (roots_same command files symbols other p q) first) second
 
-flags_same : (command : Command) (libs : LibraryGraph) (files : List LoadedFile) (known other : Known) (a b : List AtomKey) → AreKnown command files known → AreKnown command files other → a ≡ b → header_flags command libs known a ≡ header_flags command libs other b
+flags_same : (command : Command) (libs : LibraryGraph) (files : List LoadedFile) (symbols other : SymbolTable) (a b : List AtomKey) → IsSymbolTable command files symbols → IsSymbolTable command files other → a ≡ b → header_flags command libs symbols a ≡ header_flags command libs other b
 unfolding header_flags
-flags_same command libs files known other a b p q same =
-    ap₂ (λ (literals : List Representative) (winners : List Winner). flags literals winners a) (p.literals ∙ sym q.literals) (winners_are_one command files known.winners other.winners p.winners q.winners)
+flags_same command libs files symbols other a b p q same =
+    ap₂ (λ (literals : List Representative) (winners : List Winner). flags literals winners a) (p.literals ∙ sym q.literals) (winners_are_one command files symbols.winners other.winners p.winners q.winners)
     ∙ ap (flags other.literals other.winners) same
   where
     flags : List Representative → List Winner → List AtomKey → ℕ
@@ -195,23 +195,23 @@ made_same command libs files flags keys a b pairs cut p q =
     ∙ ap (told_as command files) (made_one (making command libs files flags keys) p.made q.made (rising_of command libs files flags keys pairs cut) p.answer q.answer p.is_made q.is_made)
     ∙ sym q.told
 
-image_same : (command : Command) (libs : LibraryGraph) (files : List LoadedFile) (known other : Known) (keys others : List AtomKey) → AllPairs (λ a b. IsBefore a.id b.id) files → All IsCut files → AreKnown command files known → AreKnown command files other → keys ≡ others
-    → Agree (AsImage command libs files known keys) (AsImage command libs files other others)
-image_same command libs files known other keys others pairs cut is also same a b p q =
+image_same : (command : Command) (libs : LibraryGraph) (files : List LoadedFile) (symbols other : SymbolTable) (keys others : List AtomKey) → AllPairs (λ a b. IsBefore a.id b.id) files → All IsCut files → IsSymbolTable command files symbols → IsSymbolTable command files other → keys ≡ others
+    → Agree (AsImage command libs files symbols keys) (AsImage command libs files other others)
+image_same command libs files symbols other keys others pairs cut is also same a b p q =
     made_same command libs files (header_flags command libs other others) others a b pairs cut
-    (subst (λ (n : ℕ). AsMade command libs files n others a) (flags_same command libs files known other keys others is also same)
-    (subst (λ (ks : List AtomKey). AsMade command libs files (header_flags command libs known keys) ks a) same p)) q
+    (subst (λ (n : ℕ). AsMade command libs files n others a) (flags_same command libs files symbols other keys others is also same)
+    (subst (λ (ks : List AtomKey). AsMade command libs files (header_flags command libs symbols keys) ks a) same p)) q
 
 pub link_one : (command : Command) (libs : LibraryGraph) (files : List LoadedFile) → AllPairs (λ a b. IsBefore a.id b.id) files → All IsCut files → Agree (IsLinked command libs files) (IsLinked command libs files)
 link_one command libs files pairs cut =
     gives_agree _ _ _ _ refl (λ names are.
     unless_agree _ _ _ _ refl (λ few.
     checks_agree _ _ _ _ (duplicates_same files names (are_numbering files (wanted command) names are)) (λ once.
-    some_agree _ _ _ _ (λ known other is also.
+    some_agree _ _ _ _ (λ symbols other is also.
     let goals : List (List Goal) = goal_table files libs command in
     let entry : Goal = goal_of_name files libs command command.entry in
     some_agree _ _ _ _ (λ keys others kept again.
-    let same : keys ≡ others = keys_same command files goals known other keys others is also kept again in
+    let same : keys ≡ others = keys_same command files goals symbols other keys others is also kept again in
     unless_agree _ _ _ _ (ap (undefined_refusal command libs files goals) same) (λ found.
     unless_agree _ _ _ _ (ap (later_refusal command files goals entry) same) (λ inside.
-    image_same command libs files known other keys others pairs cut is also same)))))))
+    image_same command libs files symbols other keys others pairs cut is also same)))))))

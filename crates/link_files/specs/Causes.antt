@@ -17,7 +17,7 @@ use Rattle.mo_types.specs.declared.loaded.LoadedFile.{LoadedFile}
 use Rattle.name_ids.specs.Names.{external_names, numbered}
 use Rattle.patch.specs.declared.met.RangeFault.{RangeFault}
 use Rattle.resolve.specs.Goals.{goal_of_name, goal_table}
-use Rattle.symbol_winners.specs.Known.{AreKnown, Known}
+use Rattle.symbol_winners.specs.SymbolTable.{IsSymbolTable, SymbolTable}
 use Rattle.sect_place.specs.declared.size.PlaceFault.TheVariants as place
 use Rattle.link_files.specs.Flags.{header_flags}
 use Rattle.link_files.specs.Later.{first_later}
@@ -80,13 +80,13 @@ LinkCause command libs files = do
   names ← stands (HaveManyNames files (wanted command)) (AreNames files (wanted command))
   refuses (HaveManyAtoms files)
   passes (IsTwice files names) (AreOnce files)
-  known ← taken (AreKnown command files)
+  symbols ← taken (IsSymbolTable command files)
   goals ← always (goal_table files libs command)
   entry ← always (goal_of_name files libs command command.entry)
-  keys ← taken (AreKept command files known goals)
+  keys ← taken (AreKept command files symbols goals)
   refuses (IsLost command libs files goals keys)
   refuses (IsLookedUp command files goals entry keys)
-  IsUnfit (making command libs files (header_flags command libs known keys) keys)
+  IsUnfit (making command libs files (header_flags command libs symbols keys) keys)
 
 -- ---- where nothing is refused
 
@@ -96,10 +96,10 @@ pub record AreInside (command : Command) (libs : LibraryGraph) (files : List Loa
   pub few_names : length (all_names files (wanted command)) < 2 ^ 24
   pub few_atoms : atoms_in files < 2 ^ 24
   pub once : AreOnce files
-  pub known : Known
-  pub are_known : AreKnown command files known
-  pub kept : AreKept command files known (goal_table files libs command) keys
-  pub flagged : flags ≡ header_flags command libs known keys
+  pub symbols : SymbolTable
+  pub symbols_are : IsSymbolTable command files symbols
+  pub kept : AreKept command files symbols (goal_table files libs command) keys
+  pub flagged : flags ≡ header_flags command libs symbols keys
   pub found : undefined keys files (goal_table files libs command) (lost_wanted command libs files) ≡ None
   pub none : first_later command files (goal_table files libs command) (goal_of_name files libs command command.entry) keys ≡ None
 

@@ -6,7 +6,7 @@ use Rattle.mark_core.specs.Kept.{has}
 use Rattle.command_line.specs.declared.command.Command.{Command}
 use Rattle.mo_format.specs.declared.loader.TheConstants.{MH_DYLDLINK, MH_NOUNDEFS, MH_NO_REEXPORTED_DYLIBS, MH_PIE, MH_TWOLEVEL, MH_WEAK_DEFINES}
 use Rattle.mo_types.specs.declared.key.AtomKey.{AtomKey}
-use Rattle.symbol_winners.specs.Known.{Known}
+use Rattle.symbol_winners.specs.SymbolTable.{SymbolTable}
 use Rattle.liveness.specs.Roots.{winner_atom}
 use Rattle.literal_merge.specs.declared.representative.Representative.{Representative}
 use Rattle.symbol_winners.specs.declared.winner.Winner.{Winner}
@@ -22,7 +22,7 @@ abbrev pub kind_flag : Bool → Bool → ℕ
 kind_flag dylib reexports = if dylib then (if reexports then 0 else MH_NO_REEXPORTED_DYLIBS) else MH_PIE
 
 -- Two-level names, all of which are defined; whether weak definitions are exported; and an executable may stand anywhere.
-unfoldable pub header_flags : Command → LibraryGraph → Known → List AtomKey → ℕ
-header_flags command libs known keys =
-    MH_NOUNDEFS + MH_DYLDLINK + MH_TWOLEVEL + weak_flag (list_any (is_weak_export known.literals keys) known.winners)
+unfoldable pub header_flags : Command → LibraryGraph → SymbolTable → List AtomKey → ℕ
+header_flags command libs symbols keys =
+    MH_NOUNDEFS + MH_DYLDLINK + MH_TWOLEVEL + weak_flag (list_any (is_weak_export symbols.literals keys) symbols.winners)
     + kind_flag command.dylib (list_any (λ library. library.reexport) libs.libraries)

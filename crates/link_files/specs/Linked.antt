@@ -13,7 +13,7 @@ use Rattle.mo_types.specs.declared.answer.Refusal.{Refusal}
 use Rattle.mo_types.specs.declared.key.AtomKey.{AtomKey}
 use Rattle.mo_types.specs.declared.loaded.LoadedFile.{LoadedFile}
 use Rattle.resolve.specs.Goals.{goal_of_name, goal_table}
-use Rattle.symbol_winners.specs.Known.{AreKnown, Known}
+use Rattle.symbol_winners.specs.SymbolTable.{IsSymbolTable, SymbolTable}
 use Rattle.literal_merge.specs.Representatives.{representatives_of}
 use Rattle.sect_place.specs.declared.island.IslandPlan.{IslandPlan}
 use Rattle.sect_place.specs.declared.size.PlaceFault.TheVariants as place
@@ -75,21 +75,21 @@ pub record AsMade (command : Command) (libs : LibraryGraph) (files : List Loaded
   pub told : given ≡ told_as command files made
 
 -- the same, with the flags that its header has
-abbrev pub AsImage : Command → LibraryGraph → List LoadedFile → Known → List AtomKey → Answer Refusal (List ℕ)
-AsImage command libs files known keys = AsMade command libs files (header_flags command libs known keys) keys
+abbrev pub AsImage : Command → LibraryGraph → List LoadedFile → SymbolTable → List AtomKey → Answer Refusal (List ℕ)
+AsImage command libs files symbols keys = AsMade command libs files (header_flags command libs symbols keys) keys
 
 -- with the names by their numbers
 abbrev pub AsNamed : Command → LibraryGraph → List LoadedFile → List (List ℕ) → Answer Refusal (List ℕ)
 AsNamed command libs files names = do
   unless (atoms_refusal files)
   checks (IsDuplicateTold files names)
-  known ← some (AreKnown command files)
+  symbols ← some (IsSymbolTable command files)
   goals ← always (goal_table files libs command)
   entry ← always (goal_of_name files libs command command.entry)
-  keys ← some (AreKept command files known goals)
+  keys ← some (AreKept command files symbols goals)
   unless (undefined_refusal command libs files goals keys)
   unless (later_refusal command files goals entry keys)
-  AsImage command libs files known keys
+  AsImage command libs files symbols keys
 
 -- What files link to. They have fewer than 2^24 names and atoms, and no name has two strong definitions. With the winners
 -- and the goals of all names come the atoms that are kept. None of the names to which these refer or that are wanted leads

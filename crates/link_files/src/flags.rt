@@ -12,23 +12,23 @@ use mo_format::loader::{
     MH_DYLDLINK, MH_NO_REEXPORTED_DYLIBS, MH_NOUNDEFS, MH_PIE, MH_TWOLEVEL, MH_WEAK_DEFINES,
 };
 use mo_types::AtomKey;
-use symbol_winners::{Winner, Winners};
+use symbol_winners::{SymbolTable, Winner};
 
 #[tactic(auto, unfolding(crate::specs::Flags::is_weak_export))]
-fn is_weak_export(winners: &Winners, keys: &[AtomKey], winner: &Winner) -> bool
+fn is_weak_export(symbols: &SymbolTable, keys: &[AtomKey], winner: &Winner) -> bool
     requires { IsStrictlySortedBy compare_keys keys.now }
-    ensures { result ≡ spec.is_weak_export winners.now.literals keys.now winner.now }
+    ensures { result ≡ spec.is_weak_export symbols.now.literals keys.now winner.now }
 {
-    winner.weak && winner.exported && is_kept(keys, winners.representative(winner.atom))
+    winner.weak && winner.exported && is_kept(keys, symbols.representative(winner.atom))
 }
 
 // Whether a weak definition is kept that other images see.
-fn any_weak_export(winners: &Winners, list: &[Winner], keys: &[AtomKey]) -> bool
+fn any_weak_export(symbols: &SymbolTable, list: &[Winner], keys: &[AtomKey]) -> bool
     requires { IsStrictlySortedBy compare_keys keys.now }
-    ensures { result ≡ list_any (spec.is_weak_export winners.now.literals keys.now) list.now }
+    ensures { result ≡ list_any (spec.is_weak_export symbols.now.literals keys.now) list.now }
 {
     list.iter()
-        .any(|winner| is_weak_export(winners, keys, winner))
+        .any(|winner| is_weak_export(symbols, keys, winner))
 }
 
 fn any_reexported(libraries: &[Library]) -> bool
@@ -41,15 +41,15 @@ fn any_reexported(libraries: &[Library]) -> bool
 #[tactic(auto, unfolding(crate::specs::Flags::header_flags))]
 pub(crate) fn header_flags(resolved: &Resolved, keys: &[AtomKey]) -> u32
     requires { IsStrictlySortedBy compare_keys keys.now }
-    ensures { result ≡ spec.header_flags resolved.now.command.now resolved.now.libs.now resolved.now.winners.now keys.now }
+    ensures { result ≡ spec.header_flags resolved.now.command.now resolved.now.libs.now resolved.now.symbols.now keys.now }
 {
     let Resolved {
         command,
         libs,
-        winners,
+        symbols,
         ..
     } = *resolved;
-    let weak = if any_weak_export(winners, winners.winners(), keys) {
+    let weak = if any_weak_export(symbols, symbols.winners(), keys) {
         MH_WEAK_DEFINES
     } else {
         0

@@ -73,13 +73,13 @@ pub(crate) fn image_of<R: Threads + Sync, G: Gate + Sync>(
     requires low { AreLow (files_of resolved.now) }
     requires resolved { IsResolved resolved.now }
     requires keys { IsStrictlySortedBy compare_keys keys.now }
-    ensures { Meets (AsImage resolved.now.command.now resolved.now.libs.now (files_of resolved.now) resolved.now.winners.now keys.now) result }
+    ensures { Meets (AsImage resolved.now.command.now resolved.now.libs.now (files_of resolved.now) resolved.now.symbols.now keys.now) result }
 {
     let Resolved {
         command,
         libs,
         loaded,
-        winners,
+        symbols,
         goals,
         entry,
     } = *resolved;
@@ -89,7 +89,7 @@ pub(crate) fn image_of<R: Threads + Sync, G: Gate + Sync>(
         command,
         libs,
         loaded,
-        winners,
+        symbols,
         goals,
         keys,
         flags: header_flags(resolved, keys.as_slice()),

@@ -19,18 +19,18 @@ pub(crate) fn kept_keys(
 ) -> Result<KeyList, OutOfMemory>
     requires whole { IsWholeLoaded resolved.now.loaded.now }
     requires resolved { IsResolved resolved.now }
-    requires numbers { numbers.now ≡ numbers_of resolved.now.winners.now.names resolved.now.loaded.now.files }
-    ensures { IfOk result (AreKept resolved.now.command.now (files_of resolved.now) resolved.now.winners.now (table_of resolved.now)) }
+    requires numbers { numbers.now ≡ numbers_of resolved.now.symbols.now.names resolved.now.loaded.now.files }
+    ensures { IfOk result (AreKept resolved.now.command.now (files_of resolved.now) resolved.now.symbols.now (table_of resolved.now)) }
 {
     let Resolved {
         command,
         loaded,
-        winners,
+        symbols,
         goals,
         ..
     } = *resolved;
-    let roots = roots(alloc, loaded, winners, numbers, command)?;
+    let roots = roots(alloc, loaded, symbols, numbers, command)?;
     let roots = KeySet::from_vec(alloc, roots.into_vec())?;
-    let (edges, supports) = edges(alloc, loaded, winners, goals, &roots)?;
+    let (edges, supports) = edges(alloc, loaded, symbols, goals, &roots)?;
     kept_from(alloc, edges, &supports, roots)
 }

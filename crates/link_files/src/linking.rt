@@ -83,15 +83,15 @@ fn link_named<R: Threads + Sync, G: Gate + Sync>(
     few_atoms(loaded.files.as_slice())?;
     defined_once(alloc, loaded, numbered)?;
     let words = raced_words(rt, alloc, gate, command, loaded, numbered)?;
-    let winners = winners(alloc, loaded, names, numbers, words.as_slice(), command)?;
-    let goals = goal_table(alloc, loaded, &winners, names, numbers, libs, command)?;
+    let symbols = winners(alloc, loaded, names, numbers, words.as_slice(), command)?;
+    let goals = goal_table(alloc, loaded, &symbols, numbers, libs, command)?;
     let start = command.entry.as_slice();
-    let entry = goal_of_name(alloc, &winners, libs, loaded, command, start)?;
+    let entry = goal_of_name(alloc, &symbols, libs, loaded, command, start)?;
     let resolved = Resolved {
         command,
         libs,
         loaded,
-        winners: &winners,
+        symbols: &symbols,
         goals: &goals,
         entry: &entry,
     };

@@ -25,10 +25,10 @@ fn is_lost(alloc: Global, resolved: &Resolved, name: &Bytes) -> Result<bool, Out
         command,
         libs,
         loaded,
-        winners,
+        symbols,
         ..
     } = *resolved;
-    let goal = goal_of_name(alloc, winners, libs, loaded, command, name.as_slice())?;
+    let goal = goal_of_name(alloc, symbols, libs, loaded, command, name.as_slice())?;
     Ok(matches!(goal, Goal::Nobody))
 }
 

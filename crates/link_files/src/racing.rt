@@ -31,19 +31,9 @@ pub(crate) fn raced_words<R: Threads + Sync, G: Gate + Sync>(
     requires numbers { numbered.now.numbers ≡ numbers_of numbered.now.names loaded.now.files }
     ensures { IfOk result (λ words. AreLeast loaded.now.files numbered.now.names words.items) }
 {
-    let Numbered { names, numbers } = numbered;
-    if names.len() == 0 {
+    if numbered.names.len() == 0 {
         return Ok(Vec::new(alloc));
     }
-    let start = vec![in alloc; NO_WORD; names.len() as usize]?;
-    race_words(
-        rt,
-        alloc,
-        gate,
-        command.threads,
-        start,
-        loaded,
-        names,
-        numbers,
-    )
+    let start = vec![in alloc; NO_WORD; numbered.names.len() as usize]?;
+    race_words(rt, alloc, gate, command.threads, start, loaded, numbered)
 }

@@ -3,7 +3,7 @@ use command_line::Command;
 use lib_bind::Libraries;
 use mo_types::{Goal, Loaded};
 use resolve::GoalTable;
-use symbol_winners::Winners;
+use symbol_winners::SymbolTable;
 
 /// Loaded files, with the command that links them and its libraries.
 #[derive(Clone, Copy)]
@@ -19,7 +19,7 @@ pub(crate) struct Resolved<'a> {
     pub command: &'a Command,
     pub libs: &'a Libraries,
     pub loaded: &'a Loaded,
-    pub winners: &'a Winners<'a>,
+    pub symbols: &'a SymbolTable<'a>,
     /// The goals of each file's symbols.
     pub goals: &'a GoalTable,
     /// Where the program begins.

@@ -74,7 +74,8 @@ fn list(
     groups: &HashMap<Content, Group>,
     literals: &[LiteralIn],
 ) -> Result<Vec<Representative>, OutOfMemory>
-    ensures { IfOk result (λ list. (all : List Literal) → AreGroups all groups.now → list.items ≡ map (spec.representative_of all) (held_literals literals.now)) }
+    ensures { IfOk result (λ list. (all : List Literal) → AreGroups all groups.now
+        → list.items ≡ map (spec.representative_of all) (held_literals literals.now)) }
 {
     let mut list = Vec::with_capacity(alloc, literals.len())?;
     for literal in literals {

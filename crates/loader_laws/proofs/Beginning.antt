@@ -7,7 +7,7 @@ use Rattle.std.proofs.lemmas.Bool.{and_from, eq-eqb, false≢true, or_right}
 use Rattle.list_lemmas.proofs.Members.{In, any_from_in, find_some, from_map, in_filter, in_map, from_filter_map, from_flat, in_filter_map, in_flat, in_left}
 use Rattle.mo_format.specs.declared.loader.TheConstants.{S_4BYTE_LITERALS, S_8BYTE_LITERALS, S_16BYTE_LITERALS, S_CSTRING_LITERALS}
 use Rattle.mo_types.specs.Atoms.{atoms_of}
-use Rattle.mo_types.specs.Candidates.{word_of}
+use Rattle.mo_types.specs.Candidates.{word_of, is_common}
 use Rattle.mo_types.specs.Keys.{compare_keys}
 use Rattle.mo_types.specs.Loaded.{IsWholeFile}
 use Rattle.mo_types.specs.RelocationRules.{section_numbered}
@@ -25,15 +25,15 @@ use Rattle.atom_cut.proofs.OwnBytes.{atoms_have_bytes}
 use Rattle.mo_obj.specs.Features.{is_unwind}
 use Rattle.liveness.specs.Undefined as undefined
 use Rattle.lib_bind.specs.declared.library.LibraryGraph.{LibraryGraph}
-use Rattle.mark_core.specs.Kept.{has}
-use Rattle.input_files.specs.Form.{is_common, is_later, is_later_kind, is_later_section, is_later_type}
+use Rattle.mark_core.specs.Kept.{has, same_atom}
+use Rattle.input_files.specs.Form.{is_later, is_later_kind, is_later_section, is_later_type}
 use Rattle.command_line.specs.declared.command.Command.{Command}
 use Rattle.liveness.specs.Edges.{goal_atom}
-use Rattle.resolve.specs.Goals.{goal_of_name, goal_table, is_flat, is_header, name_goal, outer_goal}
+use Rattle.resolve.specs.Goals.{goal_of_name, goal_table, is_flat, is_header_symbol, name_goal, outer_goal}
 use Rattle.literal_merge.specs.Standing.{literal_at, stands_for}
-use Rattle.symbol_winners.specs.Known.{AreKnown, Known, is_weak}
+use Rattle.symbol_winners.specs.SymbolTable.{IsSymbolTable, SymbolTable, is_weak}
 use Rattle.literal_merge.specs.Representatives.{Literal, is_literal, literal_at as as_literal, literals, literals_in, representative_of, representatives_of}
-use Rattle.liveness.specs.Roots.{external_atom, external_atoms, has_atom, is_plain, name_root, plain_root, plain_roots, roots, same_atom, wanted_roots, winning_atom, winning_atoms, wins}
+use Rattle.liveness.specs.Roots.{external_atom, external_atoms, has_atom, is_plain, name_root, plain_root, plain_roots, roots, wanted_roots, winning_atom, winning_atoms, wins}
 use Rattle.symbol_winners.specs.Winners.{winner_named, winner_of}
 use Rattle.literal_merge.specs.declared.representative.Representative.{Representative}
 use Rattle.symbol_winners.specs.declared.winner.Winner.{Winner}
@@ -109,44 +109,44 @@ same_itself : (atom : AtomKey) → same_atom atom atom ≡ true
 same_itself atom = rw (eq-eqb atom.file.position atom.file.position refl, eq-eqb atom.file.member atom.file.member refl, eq-eqb atom.section atom.section refl, eq-eqb atom.offset atom.offset refl) refl
 
 -- the atom of a winner is kept by itself, where nothing is stripped
-plain_there : (command : Command) (files : List LoadedFile) (known : Known) (name : List ℕ) (winner : Winner) → AreKnown command files known → AreWhole files → AreInForm files → winner_of command files name ≡ Some winner → In winner.atom (flat_map (plain_roots known) files)
+plain_there : (command : Command) (files : List LoadedFile) (symbols : SymbolTable) (name : List ℕ) (winner : Winner) → IsSymbolTable command files symbols → AreWhole files → AreInForm files → winner_of command files name ≡ Some winner → In winner.atom (flat_map (plain_roots symbols) files)
 unfolding plain_roots plain_root winning_atoms winning_atom external_atom wins
-plain_there command files known name winner are whole form e =
+plain_there command files symbols name winner are whole form e =
     let is : IsWinnerIn files name winner = winner_there command files name winner e in
     let file : LoadedFile = is.file in
     let symbol : Symbol = is.symbol in
     let solid : AreSolid files = are_solid files whole form in
     let there = place_in_file files file is.index symbol.kind is.place solid is.among (solid.uncommon file is.among symbol (in_slice file.object.symbols is.index symbol is.numbered)) is.stands in
     let atom : Atom = there.0 in
-    let won : winner_named known.winners symbol.name ≡ Some winner = are.winners.each symbol.name ∙ ap (winner_of command files) (sym is.named) ∙ e in
+    let won : winner_named symbols.winners symbol.name ≡ Some winner = are.winners.each symbol.name ∙ ap (winner_of command files) (sym is.named) ∙ e in
     let word : (winner.word == word_of file.id is.index symbol) ≡ true = eq-eqb winner.word (word_of file.id is.index symbol) (sym is.word) in
-    let chosen : winning_atom known.winners file (is.index, symbol) ≡ Some is.place.atom = rw (won, word, is.external, is.stands) refl in
-    let among : In is.place.atom (winning_atoms known.winners file) = in_filter_map (winning_atom known.winners file) (enumerate_from 0 file.object.symbols) (is.index, symbol) is.place.atom (in_all file.object.symbols is.index symbol is.numbered) chosen in
-    let wins_there : has_atom (winning_atoms known.winners file) atom.key ≡ true = any_from_in (same_atom atom.key) (winning_atoms known.winners file) is.place.atom among (ap (same_atom atom.key) (sym there.2) ∙ same_itself atom.key) in
-    let own : stands_for known.literals atom.key ≡ atom.key = ap (λ (ls : List Representative). stands_for ls atom.key) are.literals ∙ itself files atom.key whole form in
-    let plain : is_plain known.literals (external_atoms file) (winning_atoms known.winners file) atom.key ≡ true =
-    and_from (same_atom (stands_for known.literals atom.key) atom.key) (not (has_atom (external_atoms file) atom.key) || has_atom (winning_atoms known.winners file) atom.key)
-    (ap (λ (k : AtomKey). same_atom k atom.key) own ∙ same_itself atom.key) (or_right (not (has_atom (external_atoms file) atom.key)) (has_atom (winning_atoms known.winners file) atom.key) wins_there) in
-    let root : In atom.key (plain_roots known file) =
-    in_left (filter_map (plain_root known.literals (external_atoms file) (winning_atoms known.winners file)) file.atoms) _ atom.key
-    (in_filter_map (plain_root known.literals (external_atoms file) (winning_atoms known.winners file)) file.atoms atom atom.key there.1 (rw plain refl)) in
-    subst (λ (k : AtomKey). In k (flat_map (plain_roots known) files)) (there.2 ∙ is.atom) (in_flat (plain_roots known) files file atom.key is.among root)
+    let chosen : winning_atom symbols.winners file (is.index, symbol) ≡ Some is.place.atom = rw (won, word, is.external, is.stands) refl in
+    let among : In is.place.atom (winning_atoms symbols.winners file) = in_filter_map (winning_atom symbols.winners file) (enumerate_from 0 file.object.symbols) (is.index, symbol) is.place.atom (in_all file.object.symbols is.index symbol is.numbered) chosen in
+    let wins_there : has_atom (winning_atoms symbols.winners file) atom.key ≡ true = any_from_in (same_atom atom.key) (winning_atoms symbols.winners file) is.place.atom among (ap (same_atom atom.key) (sym there.2) ∙ same_itself atom.key) in
+    let own : stands_for symbols.literals atom.key ≡ atom.key = ap (λ (ls : List Representative). stands_for ls atom.key) are.literals ∙ itself files atom.key whole form in
+    let plain : is_plain symbols.literals (external_atoms file) (winning_atoms symbols.winners file) atom.key ≡ true =
+    and_from (same_atom (stands_for symbols.literals atom.key) atom.key) (not (has_atom (external_atoms file) atom.key) || has_atom (winning_atoms symbols.winners file) atom.key)
+    (ap (λ (k : AtomKey). same_atom k atom.key) own ∙ same_itself atom.key) (or_right (not (has_atom (external_atoms file) atom.key)) (has_atom (winning_atoms symbols.winners file) atom.key) wins_there) in
+    let root : In atom.key (plain_roots symbols file) =
+    in_left (filter_map (plain_root symbols.literals (external_atoms file) (winning_atoms symbols.winners file)) file.atoms) _ atom.key
+    (in_filter_map (plain_root symbols.literals (external_atoms file) (winning_atoms symbols.winners file)) file.atoms atom atom.key there.1 (rw plain refl)) in
+    subst (λ (k : AtomKey). In k (flat_map (plain_roots symbols) files)) (there.2 ∙ is.atom) (in_flat (plain_roots symbols) files file atom.key is.among root)
 
 -- that of the entry's winner is a root, where what isn't reached is stripped
-wanted_there : (command : Command) (files : List LoadedFile) (known : Known) (winner : Winner) → AreKnown command files known → command.dylib ≡ false → winner_of command files command.entry ≡ Some winner → In (stands_for known.literals winner.atom) (wanted_roots command known)
+wanted_there : (command : Command) (files : List LoadedFile) (symbols : SymbolTable) (winner : Winner) → IsSymbolTable command files symbols → command.dylib ≡ false → winner_of command files command.entry ≡ Some winner → In (stands_for symbols.literals winner.atom) (wanted_roots command symbols)
 unfolding wanted_roots name_root
-wanted_there command files known winner are program e =
-    let won : winner_named known.winners command.entry ≡ Some winner = are.winners.each command.entry ∙ e in
-    in_left (if command.dylib then [] else option_to_list (name_root known command.entry)) (filter_map (name_root known) command.roots) (stands_for known.literals winner.atom) (rw (program, won) (inl refl))
+wanted_there command files symbols winner are program e =
+    let won : winner_named symbols.winners command.entry ≡ Some winner = are.winners.each command.entry ∙ e in
+    in_left (if command.dylib then [] else option_to_list (name_root symbols command.entry)) (filter_map (name_root symbols) command.roots) (stands_for symbols.literals winner.atom) (rw (program, won) (inl refl))
 
-entry_root : (command : Command) (files : List LoadedFile) (known : Known) (winner : Winner) → AreKnown command files known → AreWhole files → AreInForm files → command.dylib ≡ false → winner_of command files command.entry ≡ Some winner → In (stands_for (representatives_of files) winner.atom) (roots command known files)
+entry_root : (command : Command) (files : List LoadedFile) (symbols : SymbolTable) (winner : Winner) → IsSymbolTable command files symbols → AreWhole files → AreInForm files → command.dylib ≡ false → winner_of command files command.entry ≡ Some winner → In (stands_for (representatives_of files) winner.atom) (roots command symbols files)
 unfolding roots wanted_roots
-entry_root command files known winner are whole form program e = by command.dead_strip refl
+entry_root command files symbols winner are whole form program e = by command.dead_strip refl
   where
-    by : (b : Bool) → command.dead_strip ≡ b → In (stands_for (representatives_of files) winner.atom) (roots command known files)
-    by true s = rw s (in_left _ _ (stands_for (representatives_of files) winner.atom) (in_left (wanted_roots command known) _ (stands_for (representatives_of files) winner.atom)
-        (subst (λ (ls : List Representative). In (stands_for ls winner.atom) (wanted_roots command known)) are.literals (wanted_there command files known winner are program e))))
-    by false s = rw s (subst (λ (k : AtomKey). In k (flat_map (plain_roots known) files)) (sym (itself files winner.atom whole form)) (plain_there command files known command.entry winner are whole form e))
+    by : (b : Bool) → command.dead_strip ≡ b → In (stands_for (representatives_of files) winner.atom) (roots command symbols files)
+    by true s = rw s (in_left _ _ (stands_for (representatives_of files) winner.atom) (in_left (wanted_roots command symbols) _ (stands_for (representatives_of files) winner.atom)
+        (subst (λ (ls : List Representative). In (stands_for ls winner.atom) (wanted_roots command symbols)) are.literals (wanted_there command files symbols winner are program e))))
+    by false s = rw s (subst (λ (k : AtomKey). In k (flat_map (plain_roots symbols) files)) (sym (itself files winner.atom whole form)) (plain_there command files symbols command.entry winner are whole form e))
 
 -- ---- the goal of the entry
 
@@ -157,8 +157,8 @@ entry_kept command libs files flags keys key inside whole form program = by (win
     kept : (winner : Winner) → winner_of command files command.entry ≡ Some winner → Some (stands_for (representatives_of files) winner.atom) ≡ Some key → has keys key ≡ true
     kept winner e to =
         ap (has keys) (sym (some_is (stands_for (representatives_of files) winner.atom) key to))
-        ∙ from_all (λ (atom : AtomKey). has keys atom ≡ true) (roots command inside.known files) (stands_for (representatives_of files) winner.atom) inside.kept.closed.rooted
-        (entry_root command files inside.known winner inside.are_known whole form program e)
+        ∙ from_all (λ (atom : AtomKey). has keys atom ≡ true) (roots command inside.symbols files) (stands_for (representatives_of files) winner.atom) inside.kept.closed.rooted
+        (entry_root command files inside.symbols winner inside.symbols_are whole form program e)
 
     outer : (flat weak : Bool) (provider : Option Provider) → goal_atom (outer_goal flat weak command.entry provider) ≡ Some key → has keys key ≡ true
     outer flat weak (Some provider) to = no_some key to
@@ -175,7 +175,7 @@ entry_kept command libs files flags keys key inside whole form program = by (win
         weakly : (b : Bool) → goal_atom (if b then goal.WeakSelf winner.name (stands_for (representatives_of files) winner.atom) winner.offset else goal.Def (stands_for (representatives_of files) winner.atom) winner.offset) ≡ Some key → has keys key ≡ true
         weakly true to = kept winner e to
         weakly false to = kept winner e to
-    by None e = nowhere (is_header command.dylib command.entry)
+    by None e = nowhere (is_header_symbol command.dylib command.entry)
 
 entry_found : (command : Command) (libs : LibraryGraph) (files : List LoadedFile) (flags : ℕ) (keys : List AtomKey) → AreInside command libs files flags keys → command.dylib ≡ false → undefined.is_nobody (goal_of_name files libs command command.entry) ≡ false
 unfolding undefined.undefined lost_wanted

@@ -41,7 +41,8 @@ use Rattle.loader_laws.specs.References.{IsDirect, IsDirectBy, IsReferenceOf, St
 use Rattle.loader_laws.proofs.Leading.{references_lead}
 use Rattle.loader_laws.proofs.Loading.{from_all}
 use Rattle.loader_laws.proofs.Rowed.{IsRowIn, row_in}
-use Rattle.input_files.specs.Form.{is_common, is_later, is_later_kind, is_later_section}
+use Rattle.input_files.specs.Form.{is_later, is_later_kind, is_later_section}
+use Rattle.mo_types.specs.Candidates.{is_common}
 use Rattle.link_files.specs.Linked.{AreOrdered, making}
 use Rattle.loader_laws.specs.Images.{IsImageOf}
 use Rattle.loader_laws.specs.Tellings.{AreInForm, AreWhole, made_of}

@@ -10,7 +10,7 @@ use Rattle.std.proofs.lemmas.Option.{slice_get-map}
 use Rattle.std.proofs.lemmas.Slice.Eq.{bytes_eq-Decides}
 use Rattle.list_lemmas.proofs.Members.{In, find_some, from_filter, from_map, from_filter_map, from_flat}
 use Rattle.mo_types.specs.Atoms.{atoms_of, cut_of}
-use Rattle.mo_types.specs.Candidates.{has_place, is_candidate, least, word_of}
+use Rattle.mo_types.specs.Candidates.{has_place, is_candidate, least, word_of, is_common}
 use Rattle.mo_types.specs.Keys.{compare_keys}
 use Rattle.mo_types.specs.RelocationRules.{section_numbered}
 use Rattle.mo_types.specs.Whole.{is_dropped}
@@ -29,16 +29,15 @@ use Rattle.lib_bind.specs.declared.library.LibraryGraph.{LibraryGraph}
 use Rattle.lib_bind.specs.declared.provider.Provider.{Provider}
 use Rattle.command_line.specs.declared.command.Command.{Command}
 use Rattle.symbol_winners.specs.Found.{FileCandidate, found, found_at, found_for, found_in}
-use Rattle.resolve.specs.Goals.{goal_at, goal_of_name, goal_of_symbol, goals_of_symbols, is_flat, is_header, local_goal, name_goal, outer_goal, winner_goal}
+use Rattle.resolve.specs.Goals.{goal_at, goal_of_name, goal_of_symbol, goals_of_symbols, is_flat, is_header_symbol, local_goal, name_goal, outer_goal, winner_goal}
 use Rattle.literal_merge.specs.Standing.{literal_at, stands_for}
-use Rattle.symbol_winners.specs.Known.{is_weak}
+use Rattle.symbol_winners.specs.SymbolTable.{is_weak}
 use Rattle.symbol_winners.specs.Places.{place_at, place_in, place_of}
 use Rattle.literal_merge.specs.Representatives.{Literal, is_literal, is_same, literal_at as as_literal, literals, literals_in, representative_among, representative_of, representatives_of}
 use Rattle.symbol_winners.specs.Winners.{found_word, winner_from, winner_of, winning}
 use Rattle.symbol_winners.specs.declared.places.Place.{Place}
 use Rattle.literal_merge.specs.declared.representative.Representative.{Representative}
 use Rattle.symbol_winners.specs.declared.winner.Winner.{Winner}
-use Rattle.input_files.specs.Form.{is_common}
 use Rattle.loader_laws.proofs.Cuts.{HasKey, atom_there, key_at}
 use Rattle.loader_laws.proofs.Lists.{from_mapped, from_numbered, from_then, from_when, in_slice, no_some, some_is}
 
@@ -202,7 +201,7 @@ name_atom files libs command name solid = by (winner_of command files name) refl
 
     by : (o : Option Winner) → winner_of command files name ≡ o → HasAtom files (name_goal (representatives_of files) command.dylib (is_flat command name) (is_weak files name) name (provider_of libs name) o)
     by (Some winner) e = winner_atom_in files winner (winner_in command files name winner solid e)
-    by None e = header (is_header command.dylib name)
+    by None e = header (is_header_symbol command.dylib name)
 
 pub symbol_atom : (files : List LoadedFile) (libs : LibraryGraph) (command : Command) (file : LoadedFile) (index : ℕ) (symbol : Symbol) → AreSolid files → In file files → slice_get file.object.symbols index ≡ Some symbol → HasAtom files (goal_of_symbol files libs command file (index, symbol))
 unfolding goal_of_symbol

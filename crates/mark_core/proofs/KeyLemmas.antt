@@ -3,7 +3,7 @@ use Rattle.std.proofs.Common.{◌≡◌, Bool, true, false, ◌==◌, ◌&&◌, 
 use Rattle.std.proofs.lemmas.Bool.{eqb-true, eq-eqb}
 use Rattle.mo_types.specs.declared.key.AtomKey.{AtomKey}
 use Rattle.atom_index.proofs.Keys.{key_of, same_fields}
-use Rattle.mark_core.specs.inner.Reached.{same_atom}
+use Rattle.mark_core.specs.Kept.{same_atom}
 
 -- any atom
 abbrev pub no_atom : AtomKey

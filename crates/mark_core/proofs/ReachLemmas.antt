@@ -8,7 +8,8 @@ use Rattle.list_lemmas.proofs.Members.{In, in_from_Contains, Contains_from_in, f
 use Rattle.mo_types.specs.declared.edge.Edge.{Edge}
 use Rattle.mo_types.specs.declared.key.AtomKey.{AtomKey}
 use Rattle.mark_core.specs.inner.Arrows.{AreFrom, end_of}
-use Rattle.mark_core.specs.inner.Reached.{IsReached, same_atom}
+use Rattle.mark_core.specs.Kept.{same_atom}
+use Rattle.mark_core.specs.inner.Reached.{IsReached}
 use Rattle.mark_core.proofs.KeyLemmas.{same_atoms}
 
 -- ---- atoms that are added, each once

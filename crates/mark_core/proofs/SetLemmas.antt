@@ -16,8 +16,7 @@ use Rattle.mo_types.specs.Keys.{compare_keys}
 use Rattle.mo_types.proofs.KeyOrder.{compare_keys_total}
 use Rattle.atom_index.specs.Stands.{StandsAt}
 use Rattle.atom_index.proofs.Keys.{is_equal, same_key}
-use Rattle.mark_core.specs.Kept.{has}
-use Rattle.mark_core.specs.inner.Reached.{same_atom}
+use Rattle.mark_core.specs.Kept.{has, same_atom}
 use Rattle.mark_core.proofs.KeyLemmas.{itself, same_atoms}
 
 pub in_from_has : (atoms : List AtomKey) (atom : AtomKey) → has atoms atom ≡ true → In atom atoms

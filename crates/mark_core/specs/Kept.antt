@@ -1,11 +1,15 @@
 -- Which atoms an image keeps: no more than follows from its roots.
-use Rattle.std.specs.Prelude.{◌≡◌, Bool, true, not, List, All}
+use Rattle.std.specs.Prelude.{◌≡◌, ◌==◌, ◌&&◌, Bool, true, not, List, All}
 use Rattle.std.specs.List.{list_any}
 use Rattle.std.specs.List.Sorted.{IsStrictlySortedBy}
 use Rattle.std.specs.Ordering.{is_eq}
 use Rattle.mo_types.specs.Keys.{compare_keys}
 use Rattle.mo_types.specs.declared.edge.Edge.{Edge}
 use Rattle.mo_types.specs.declared.key.AtomKey.{AtomKey}
+
+-- two keys are of one atom
+abbrev pub same_atom : AtomKey → AtomKey → Bool
+same_atom a b = (a.file.position == b.file.position && a.file.member == b.file.member) && (a.section == b.section && a.offset == b.offset)
 
 -- an atom is one of a list
 abbrev pub has : List AtomKey → AtomKey → Bool

@@ -12,5 +12,6 @@ pub fn kept_atoms_are_one_list()
 
 /// Edges that end in a root, and supports that begin in one, add nothing to what is kept.
 pub fn what_leads_to_roots_adds_nothing()
-    ensures { (edges supports : List Edge) (roots kept : List AtomKey) → IsKept (filter (leads_away roots) edges) (filter (begins_away roots) supports) roots kept → IsKept edges supports roots kept }
+    ensures { (edges supports : List Edge) (roots kept : List AtomKey)
+        → IsKept (filter (leads_away roots) edges) (filter (begins_away roots) supports) roots kept → IsKept edges supports roots kept }
 {}

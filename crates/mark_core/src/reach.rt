@@ -2,7 +2,8 @@
 ghost use Rattle.std.specs.Prelude.{◌≡◌, ◌<◌, IfOk, length, map, slice_get, Some};
 ghost use Rattle.indexmap.specs.IndexSet.{insert_all};
 ghost use Rattle.mark_core.specs.inner.Arrows.{AreSorted, end_of};
-ghost use Rattle.mark_core.specs.inner.Reached.{IsReached, same_atom};
+ghost use Rattle.mark_core.specs.Kept.{same_atom};
+ghost use Rattle.mark_core.specs.inner.Reached.{IsReached};
 
 use crate::arrows::arrows_from;
 use indexmap::IndexSet;

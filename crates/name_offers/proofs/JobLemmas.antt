@@ -9,7 +9,8 @@ use Rattle.mo_types.specs.declared.loaded.LoadedFile.{LoadedFile}
 use Rattle.par_work.specs.Fan.{IsFanned, WasRun}
 use Rattle.name_race.specs.Race.{Holding, Race}
 use Rattle.name_offers.specs.inner.Offering.{AreOffered, HasOffered, HaveOffered, offers_in, offers_of_job}
-use Rattle.name_offers.specs.Offers.{AreNamed, bids_of}
+use Rattle.name_offers.specs.Offers.{bids_of}
+use Rattle.symbol_winners.specs.Found.{AreNamed}
 use Rattle.name_offers.proofs.OfferLemmas.{named_offers}
 use Rattle.name_offers.proofs.RacerLemmas.{fanned, more_offered, none_offered}
 

@@ -13,7 +13,8 @@ use Rattle.mo_types.specs.declared.loaded.LoadedFile.{LoadedFile}
 use Rattle.mo_types.specs.declared.object.Symbol.{Symbol}
 use Rattle.name_ids.specs.Names.{number_of, numbers_in, numbers_of}
 use Rattle.name_race.specs.Race.{Holding, Race}
-use Rattle.name_offers.specs.Offers.{AreNamed, bid_of, bids_of}
+use Rattle.name_offers.specs.Offers.{bid_of, bids_of}
+use Rattle.symbol_winners.specs.Found.{AreNamed}
 use Rattle.name_offers.specs.inner.Offering.{AreOffered, HasOffered, offer_by, offers_at, offers_in}
 
 -- ---- one symbol

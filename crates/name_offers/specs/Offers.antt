@@ -1,5 +1,5 @@
 -- What files offer in a race of names: one offer for each candidate.
-use Rattle.std.specs.Prelude.{ℕ, ◌++◌, List, map, All, Contains}
+use Rattle.std.specs.Prelude.{ℕ, ◌++◌, List, map}
 use Rattle.std.specs.List.{flat_map, position_or_len}
 use Rattle.std.specs.List.Sorted.{IsPermutation}
 use Rattle.std.specs.Str.{bytes_eq}
@@ -14,10 +14,6 @@ bid_of names candidate = (position_or_len (bytes_eq candidate.symbol.name) names
 -- the offers of files, one for each of their candidates
 unfoldable pub bids_of : List (List ℕ) → List LoadedFile → List (ℕ × ℕ)
 bids_of names files = map (bid_of names) (candidates files)
-
--- each candidate's name is among the names
-abbrev pub AreNamed : List (List ℕ) → List LoadedFile → Type 0
-AreNamed names files = All (λ candidate. Contains names candidate.symbol.name) (candidates files)
 
 -- the offers that racers made or took over
 abbrev pub offers_of : List Holding → List (ℕ × ℕ)

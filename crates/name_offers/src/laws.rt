@@ -10,5 +10,6 @@ ghost use Rattle.name_offers.specs.Offers.{bids_of};
 /// candidates' words, and none where it has no candidate.
 #[tactic(auto, using(crate::proofs::LeastLemmas::races))]
 pub fn words_are_the_least()
-    ensures { (files : List LoadedFile) (names : List (List ℕ)) (id : ℕ) (name : List ℕ) → slice_get (numbered names) id ≡ Some name → slice_index (run (replicate (length (numbered names)) no_word) (bids_of (numbered names) files)) id ≡ least files name }
+    ensures { (files : List LoadedFile) (names : List (List ℕ)) (id : ℕ) (name : List ℕ) → slice_get (numbered names) id ≡ Some name
+        → slice_index (run (replicate (length (numbered names)) no_word) (bids_of (numbered names) files)) id ≡ least files name }
 {}

@@ -1,4 +1,22 @@
 //! What files offer in the race of names, by workers: the word of each candidate, for its name's number.
+//!
+//! `race_words` runs a whole race: it answers the words of names after a race of so many workers, exactly those of
+//! `run` of `race_core` over the offers of all candidates of the files (`bids_of`, in `specs/Offers.antt`). So each is
+//! the least of the word at the start and of those of the name's candidates, whichever worker offers them. No workers
+//! count as one.
+//!
+//! `offer_all` is its middle: racers, one for each worker, offer the word of each candidate, one job a file. Their
+//! offers together grew by those of all candidates, once each (`GrewBy`), and each racer has the race and the passes
+//! that it had. On want of memory, which is the one error of both calls, the racers are given up. Files are to be
+//! whole, names are to have all candidates' names, and numbers are to be those of the files' symbols (`numbers_of`);
+//! there are at least as many words as names.
+//!
+//! The module `offering` has the workers' jobs, and `racing` begins and ends the race. The law `words_are_the_least`
+//! says that where no name has a word at the start, a race leaves for each the least of its candidates' words, if it
+//! has any.
+//!
+//! A body that offers a word only where it is less than what the race then holds isn't proved, nor one that begins the
+//! race without the words that the names had.
 #![tactic(auto)]
 
 mod laws;

@@ -4,12 +4,13 @@ ghost use Rattle.std.specs.List.{flat_map};
 ghost use Rattle.mo_types.specs.Loaded.{IsWholeLoaded};
 ghost use Rattle.name_ids.specs.Names.{number_of, numbers_in, numbers_of};
 ghost use Rattle.name_ids.specs.declared.numbered.TheConstants.{NO_NUMBER as NO_NAME};
-ghost use Rattle.name_offers.specs.Offers.{AreNamed, GrewBy, bids_of};
+ghost use Rattle.name_offers.specs.Offers.{GrewBy, bids_of};
+ghost use Rattle.symbol_winners.specs.Found.{AreNamed};
 ghost use Rattle.name_offers.specs.inner.Offering.{AreOffered, HasOffered, HaveOffered, offers_at, offers_in};
 
 use mo_outside::Gate;
-use mo_types::{Items, Loaded, LoadedFile, OutOfMemory, Symbol};
-use name_ids::{NO_NUMBER, NameTable, NumberList};
+use mo_types::{Loaded, LoadedFile, OutOfMemory, Symbol};
+use name_ids::{NO_NUMBER, NameTable, NumberList, Numbered};
 use name_race::{NameRace, Racer};
 use par_work::{Task, fan};
 use std::alloc::Global;
@@ -144,26 +145,18 @@ fn offer_run<R: Threads + Sync, G: Gate + Sync>(
     rt: &R,
     alloc: Global,
     gate: &G,
-    race: &NameRace,
     racers: Vec<Racer>,
-    files: &[LoadedFile],
-    names: &NameTable,
-    numbers: &[NumberList],
+    offering: &Offering,
 ) -> Result<Vec<Racer>, OutOfMemory>
     requires racers { (0 < vec_len racers) × (vec_len racers < 2 ^ 32) }
-    requires race { All (λ racer. racer.race ≡ race.now) racers.items }
-    requires jobs { length files.now < 2 ^ 32 }
-    requires files { AreOffered race.now names.now numbers.now files.now }
-    ensures offered { IfOk result (λ after. HaveOffered (flat_map (offers_in names.now) files.now) racers.items after.items) }
-    ensures race { IfOk result (λ after. All (λ racer. racer.race ≡ race.now) after.items) }
+    requires race { All (λ racer. racer.race ≡ offering.now.race.now) racers.items }
+    requires jobs { length offering.now.files.now < 2 ^ 32 }
+    requires files { AreOffered offering.now.race.now offering.now.names.now offering.now.numbers.now offering.now.files.now }
+    ensures offered { IfOk result (λ after. HaveOffered (flat_map (offers_in offering.now.names.now) offering.now.files.now) racers.items after.items) }
+    ensures race { IfOk result (λ after. All (λ racer. racer.race ≡ offering.now.race.now) after.items) }
 {
-    let task = Offering {
-        race,
-        names,
-        files,
-        numbers,
-    };
-    let (racers, _) = fan(rt, alloc, gate, racers, &task, files.len() as u32)?;
+    let jobs = offering.files.len() as u32;
+    let (racers, _) = fan(rt, alloc, gate, racers, offering, jobs)?;
     Ok(racers)
 }
 
@@ -177,27 +170,32 @@ pub fn offer_all<R: Threads + Sync, G: Gate + Sync>(
     race: &NameRace,
     racers: Vec<Racer>,
     files: &Loaded,
-    names: &NameTable,
-    numbers: &Items<NumberList>,
+    numbered: &Numbered,
 ) -> Result<Vec<Racer>, OutOfMemory>
     requires racers { (0 < vec_len racers) × (vec_len racers < 2 ^ 32) }
     requires race { All (λ racer. racer.race ≡ race.now) racers.items }
     requires whole { IsWholeLoaded files.now }
-    requires named { AreNamed names.now files.now.files }
-    requires numbers { numbers.now ≡ numbers_of names.now files.now.files }
-    requires words { length names.now ≤ length race.now.start }
+    requires named { AreNamed numbered.now.names files.now.files }
+    requires numbers { numbered.now.numbers ≡ numbers_of numbered.now.names files.now.files }
+    requires words { length numbered.now.names ≤ length race.now.start }
     ensures race { IfOk result (λ after. map (λ racer. racer.race) after.items ≡ map (λ racer. racer.race) racers.items) }
     ensures passes { IfOk result (λ after. map (λ racer. racer.passes) after.items ≡ map (λ racer. racer.passes) racers.items) }
-    ensures offers { IfOk result (λ after. GrewBy (bids_of names.now files.now.files) racers.items after.items) }
+    ensures offers { IfOk result (λ after. GrewBy (bids_of numbered.now.names files.now.files) racers.items after.items) }
 {
     let files = files.files.as_slice();
-    let numbers = numbers.as_slice();
+    let numbers = numbered.numbers.as_slice();
     let mut racers = racers;
     for run in 0..files.len().div_ceil(MOST_JOBS) {
         let rest = &files[run * MOST_JOBS..];
         let some = &rest[..rest.len().min(MOST_JOBS)];
         let their = part(numbers, run * MOST_JOBS, some.len());
-        racers = offer_run(rt, alloc, gate, race, racers, some, names, their)?;
+        let offering = Offering {
+            race,
+            names: &numbered.names,
+            files: some,
+            numbers: their,
+        };
+        racers = offer_run(rt, alloc, gate, racers, &offering)?;
     }
     Ok(racers)
 }

@@ -4,13 +4,14 @@ ghost use Rattle.std.specs.List.Sorted.{IsPermutation};
 ghost use Rattle.mo_types.specs.Loaded.{IsWholeLoaded};
 ghost use Rattle.name_ids.specs.Names.{numbers_of};
 ghost use Rattle.race_core.specs.Run.{run};
-ghost use Rattle.name_offers.specs.Offers.{AreNamed, bids_of, offers_of};
+ghost use Rattle.name_offers.specs.Offers.{bids_of, offers_of};
+ghost use Rattle.symbol_winners.specs.Found.{AreNamed};
 ghost use Rattle.name_offers.specs.inner.Offering.{AreRacers};
 
 use crate::offering::offer_all;
 use mo_outside::Gate;
-use mo_types::{Items, Loaded, OutOfMemory};
-use name_ids::{NameTable, NumberList};
+use mo_types::{Loaded, OutOfMemory};
+use name_ids::Numbered;
 use name_race::{NameRace, Racer};
 use std::alloc::Global;
 use std::thread::Threads;
@@ -63,21 +64,20 @@ pub fn race_words<R: Threads + Sync, G: Gate + Sync>(
     workers: u32,
     start: Vec<u64>,
     files: &Loaded,
-    names: &NameTable,
-    numbers: &Items<NumberList>,
+    numbered: &Numbered,
 ) -> Result<Vec<u64>, OutOfMemory>
     requires some { 0 < length start.items }
     requires whole { IsWholeLoaded files.now }
-    requires named { AreNamed names.now files.now.files }
-    requires numbers { numbers.now ≡ numbers_of names.now files.now.files }
-    requires words { length names.now ≤ length start.items }
-    ensures { IfOk result (λ words. words.items ≡ run start.items (bids_of names.now files.now.files)) }
+    requires named { AreNamed numbered.now.names files.now.files }
+    requires numbers { numbered.now.numbers ≡ numbers_of numbered.now.names files.now.files }
+    requires words { length numbered.now.names ≤ length start.items }
+    ensures { IfOk result (λ words. words.items ≡ run start.items (bids_of numbered.now.names files.now.files)) }
 {
     let workers = workers.max(1);
     let mut words = vec![in alloc; 0u64; start.len()]?;
     let (race, racer) = NameRace::begin(alloc, start, u64::from(workers))?;
     let racers = racers_of(alloc, &race, racer, workers)?;
-    let racers = offer_all(rt, alloc, gate, &race, racers, files, names, numbers)?;
+    let racers = offer_all(rt, alloc, gate, &race, racers, files, numbered)?;
     let racer = joined(&race, racers);
     race.settle(racer, words.as_mut_slice());
     Ok(words)

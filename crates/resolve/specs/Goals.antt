@@ -16,7 +16,7 @@ use Rattle.mo_types.specs.declared.loaded.LoadedFile.{LoadedFile}
 use Rattle.mo_types.specs.declared.object.Symbol.{Symbol}
 use Rattle.mo_types.specs.declared.reference.Target.{Target}
 use Rattle.mo_types.specs.declared.reference.Target.TheVariants as target
-use Rattle.symbol_winners.specs.Known.{is_weak}
+use Rattle.symbol_winners.specs.SymbolTable.{is_weak}
 use Rattle.symbol_winners.specs.Places.{place_of}
 use Rattle.literal_merge.specs.Representatives.{representatives_of}
 use Rattle.literal_merge.specs.Standing.{stands_for}
@@ -36,8 +36,8 @@ winner_goal literals winner =
     else goal_at literals winner.atom winner.offset
 
 -- a name of the image's header
-abbrev pub is_header : Bool → List ℕ → Bool
-is_header dylib name =
+abbrev pub is_header_symbol : Bool → List ℕ → Bool
+is_header_symbol dylib name =
     bytes_eq name (codes "___dso_handle") || bytes_eq name (if dylib then codes "__mh_dylib_header" else codes "__mh_execute_header")
 
 -- a name without a winner that isn't the header's, by the library that provides it and whether it may be missing
@@ -48,7 +48,7 @@ outer_goal flat weak name None = if flat then Flat name else Nobody
 -- a name, by its winner and its provider
 abbrev pub name_goal : List Representative → Bool → Bool → Bool → List ℕ → Option Provider → Option Winner → Goal
 name_goal literals dylib flat weak name provider (Some winner) = winner_goal literals winner
-name_goal literals dylib flat weak name provider None = if is_header dylib name then Header else outer_goal flat weak name provider
+name_goal literals dylib flat weak name provider None = if is_header_symbol dylib name then Header else outer_goal flat weak name provider
 
 -- whether a name that nothing provides is looked up in all images
 abbrev pub is_flat : Command → List ℕ → Bool

@@ -24,6 +24,10 @@ goal_in pool place = unwrap_or (slice_get pool place) Nobody
 unfoldable pub goals_in : List Goal → List ℕ → List Goal
 goals_in pool places = map (goal_in pool) places
 
+-- the goals of a file's symbols, in order
+abbrev pub file_goals : Pooled → List Goal
+file_goals goals = goals_in goals.pool goals.places
+
 -- the goals of each file's symbols
 unfoldable pub goals_of : Tabled → List (List Goal)
 goals_of table = map (goals_in table.pool) table.places

@@ -4,7 +4,7 @@ ghost use Rattle.std.specs.Prelude.{◌≡◌, ◌<◌, IfOk, IfSome, length};
 ghost use Rattle.mo_types.specs.Loaded.{IsWholeLoaded};
 ghost use Rattle.name_ids.specs.Names.{numbers_of};
 ghost use Rattle.symbol_winners.specs.Found.{AreNamed};
-ghost use Rattle.symbol_winners.specs.Known.{AreKnown};
+ghost use Rattle.symbol_winners.specs.SymbolTable.{IsSymbolTable};
 
 use crate::clang_names::{NAMES, OBJECT, Told};
 use crate::given::{Is, Row, Section1, add, id_of, literal_section, loaded, object, risen};
@@ -21,7 +21,7 @@ use name_ids::{NameTable, NumberList, gather};
 use resolve::{FileGoals, goal_of_name, goal_table};
 use std::alloc::Global;
 use std::test::Fail;
-use symbol_winners::{Winner, Winners, least_words, winners};
+use symbol_winners::{SymbolTable, Winner, least_words, winners};
 
 // The command of some words behind those of the image's path.
 fn command_of(alloc: Global, words: &str) -> Result<Option<Command>, OutOfMemory> {
@@ -64,8 +64,8 @@ fn is_won(winner: &Winner, row: &Won) -> bool {
         && (winner.weak, winner.exported) == row.5
 }
 
-fn are_won(known: &Winners, wanted: &[Won]) -> bool {
-    let list = known.winners();
+fn are_won(symbols: &SymbolTable, wanted: &[Won]) -> bool {
+    let list = symbols.winners();
     list.len() == wanted.len()
         && list
             .iter()
@@ -361,13 +361,13 @@ fn all_lead(
     libs: &Libraries,
     loaded: &Loaded,
     command: &Command,
-    known: &Winners,
+    symbols: &SymbolTable,
     names: Names,
 ) -> Result<bool, OutOfMemory>
-    requires { AreKnown command.now loaded.now.files known.now }
+    requires { IsSymbolTable command.now loaded.now.files symbols.now }
 {
     for (name, leads) in names {
-        if goal_of_name(alloc, known, libs, loaded, command, *name)? != goal_to(*name, *leads) {
+        if goal_of_name(alloc, symbols, libs, loaded, command, *name)? != goal_to(*name, *leads) {
             return Ok(false);
         }
     }
@@ -435,19 +435,19 @@ fn leading_to(row: Option<((u16, u32), u64, u64)>) -> Goal {
 }
 
 // Whether a target of a file leads where it is to, by the goals of the file's symbols.
-fn target_leads(known: &Winners, goals: &FileGoals, target: &Target, wanted: &Goal) -> bool {
+fn target_leads(symbols: &SymbolTable, goals: &FileGoals, target: &Target, wanted: &Goal) -> bool {
     match *target {
         Target::Name(index) => match goals.get(index as usize) {
             Some(goal) => goal == wanted,
             None => *wanted == Goal::Nobody,
         },
-        Target::Local(atom, offset) => *wanted == Goal::Def(known.representative(atom), offset),
+        Target::Local(atom, offset) => *wanted == Goal::Def(symbols.representative(atom), offset),
     }
 }
 
-fn targets_of_file_lead(known: &Winners, goals: &FileGoals) -> bool {
+fn targets_of_file_lead(symbols: &SymbolTable, goals: &FileGoals) -> bool {
     goals.places().len() == 4
-        && leading_rows().iter().all(|row| target_leads(known, goals, &row.0, &leading_to(row.1)))
+        && leading_rows().iter().all(|row| target_leads(symbols, goals, &row.0, &leading_to(row.1)))
 }
 
 fn targets_lead(
@@ -455,18 +455,16 @@ fn targets_lead(
     libs: &Libraries,
     loaded: &Loaded,
     command: &Command,
-    names: &NameTable,
     numbers: &Items<NumberList>,
-    known: &Winners,
+    symbols: &SymbolTable,
 ) -> Result<bool, OutOfMemory>
     requires whole { IsWholeLoaded loaded.now }
-    requires numbers { numbers.now ≡ numbers_of names.now loaded.now.files }
-    requires known { AreKnown command.now loaded.now.files known.now }
-    requires names { known.now.names ≡ names.now }
+    requires numbers { numbers.now ≡ numbers_of symbols.now.names loaded.now.files }
+    requires symbols { IsSymbolTable command.now loaded.now.files symbols.now }
 {
-    let table = goal_table(alloc, loaded, known, names, numbers, libs, command)?;
+    let table = goal_table(alloc, loaded, symbols, numbers, libs, command)?;
     match table.file(1) {
-        Some(goals) => Ok(loaded.files.len() == 2 && targets_of_file_lead(known, &goals)),
+        Some(goals) => Ok(loaded.files.len() == 2 && targets_of_file_lead(symbols, &goals)),
         None => Ok(false),
     }
 }
@@ -531,29 +529,27 @@ fn is_answered(
     alloc: Global,
     loaded: &Loaded,
     command: &Command,
-    names: &NameTable,
     numbers: &Items<NumberList>,
-    known: &Winners,
+    symbols: &SymbolTable,
     ask: &Ask,
 ) -> Result<bool, OutOfMemory>
     requires whole { IsWholeLoaded loaded.now }
-    requires numbers { numbers.now ≡ numbers_of names.now loaded.now.files }
-    requires known { AreKnown command.now loaded.now.files known.now }
-    requires names { known.now.names ≡ names.now }
+    requires numbers { numbers.now ≡ numbers_of symbols.now.names loaded.now.files }
+    requires symbols { IsSymbolTable command.now loaded.now.files symbols.now }
 {
     match ask {
-        Ask::Winners(rows) => Ok(are_won(known, *rows)),
+        Ask::Winners(rows) => Ok(are_won(symbols, *rows)),
         Ask::Seen(name, seen) => Ok(
-            known
+            symbols
                 .winner(*name)
                 .is_some_and(|winner| winner.exported == *seen),
         ),
-        Ask::Names(libs, names) => all_lead(alloc, *libs, loaded, command, known, *names),
-        Ask::Targets(libs) => targets_lead(alloc, *libs, loaded, command, names, numbers, known),
+        Ask::Names(libs, names) => all_lead(alloc, *libs, loaded, command, symbols, *names),
+        Ask::Targets(libs) => targets_lead(alloc, *libs, loaded, command, numbers, symbols),
         Ask::Told => Ok(
             NAMES
                 .iter()
-                .all(|(name, told)| is_told(known.winner(*name), told)),
+                .all(|(name, told)| is_told(symbols.winner(*name), told)),
         ),
     }
 }
@@ -572,8 +568,8 @@ fn is_known(
     requires numbers { numbers.now ≡ numbers_of names.now loaded.now.files }
 {
     let words = least_words(alloc, loaded, names, numbers)?;
-    let known = winners(alloc, loaded, names, numbers, words.as_slice(), command)?;
-    is_answered(alloc, loaded, command, names, numbers, &known, ask)
+    let symbols = winners(alloc, loaded, names, numbers, words.as_slice(), command)?;
+    is_answered(alloc, loaded, command, numbers, &symbols, ask)
 }
 
 // The same of files whose names have no numbers yet.

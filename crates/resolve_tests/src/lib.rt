@@ -1,8 +1,8 @@
-//! Tests of what loads files and resolves their names, outside of the crates: the check of a crate's tests proves the crate
-//! once more, and here it needn't.
+//! Tests of what loads files and resolves their names, outside of the crates: the check of a crate's tests proves the
+//! crate once more, and here it needn't.
 //!
-//! `inputs` tests what inputs are, `loading` the rounds and the race of names, `numbers` the numbers of names, `resolving`
-//! duplicates, places and literals, `goals` winners and where names lead, and `referring` what is lost.
+//! `inputs` tests what inputs are, `loading` the rounds and the race of names, `numbers` the numbers of names,
+//! `resolving` duplicates, places and literals, `goals` winners and where names lead, and `referring` what is lost.
 #![tactic(auto)]
 
 #[cfg(test)]

@@ -5,7 +5,7 @@ ghost use Rattle.mo_types.specs.Loaded.{IsWholeLoaded};
 use crate::files;
 use crate::libraries::library_at;
 use crate::racing::word_of;
-use input_files::{Input, LoadFault};
+use input_files::{Input, Inputs, LoadFault};
 use input_read::{Opened, are_in_order, open_inputs};
 use member_rounds::load;
 use mo_outside::{FreeGate, MeetGate};
@@ -94,16 +94,8 @@ fn loaded_of<R: Threads + Sync>(
         Ok(opened) => opened,
         Err(fault) => return Err(fault),
     };
-    match load(
-        rt,
-        alloc,
-        &FreeGate,
-        workers,
-        sources.as_slice(),
-        objects,
-        &libs,
-        &wanted,
-    ) {
+    let inputs = Inputs { sources, objects };
+    match load(rt, alloc, &FreeGate, workers, inputs, &libs, &wanted) {
         Ok(loaded) => Ok(Some(loaded)),
         Err(fault) => Err(fault),
     }

@@ -2,7 +2,7 @@
 ghost use Rattle.std.specs.Prelude.{◌≡◌, ◌<◌, length};
 ghost use Rattle.mo_types.specs.Loaded.{IsWholeLoaded};
 ghost use Rattle.name_ids.specs.Names.{numbers_of};
-ghost use Rattle.name_offers.specs.Offers.{AreNamed};
+ghost use Rattle.symbol_winners.specs.Found.{AreNamed};
 
 use mo_outside::Gate;
 use mo_types::{Loaded, NameList, OutOfMemory};
@@ -29,7 +29,7 @@ fn words_of<R: Threads + Sync, G: Gate + Sync>(
     requires some { 0 < length all.now.names }
 {
     let start = vec![in alloc; NO_WORD; all.names.len() as usize]?;
-    race_words(rt, alloc, gate, 2, start, loaded, &all.names, &all.numbers)
+    race_words(rt, alloc, gate, 2, start, loaded, all)
 }
 
 /// The word of a name after a race of the candidates of files, in which the workers pass a gate; `None` where no external

@@ -6,7 +6,7 @@ pub mod FirstLemmas
 pub mod FoundLemmas
 pub mod FrontLemmas
 pub mod IndexSteps
-pub mod KnownLemmas
+pub mod WinnersLemmas
 pub mod LeastLemmas
 pub mod ListSteps
 pub mod NamedLemmas

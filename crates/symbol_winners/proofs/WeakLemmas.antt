@@ -6,7 +6,7 @@ use Rattle.std.specs.Str.{bytes_eq}
 use Rattle.std.proofs.lemmas.List.Folds.{list_any_more}
 use Rattle.mo_types.specs.declared.loaded.LoadedFile.{LoadedFile}
 use Rattle.mo_types.specs.declared.object.Symbol.{Symbol}
-use Rattle.symbol_winners.specs.Known.{any_symbol, is_strong_to, is_weak, is_weak_to, refers_strongly, refers_weakly}
+use Rattle.symbol_winners.specs.SymbolTable.{any_symbol, is_strong_to, is_weak, is_weak_to, refers_strongly, refers_weakly}
 use Rattle.symbol_winners.specs.Winners.{lists}
 use Rattle.symbol_winners.proofs.SetLemmas.{either, turned}
 

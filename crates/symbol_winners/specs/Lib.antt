@@ -1,6 +1,6 @@
 pub mod Duplicates
 pub mod Found
-pub mod Known
+pub mod SymbolTable
 pub mod Laws
 pub mod Places
 pub mod Winners

@@ -1,5 +1,5 @@
 -- Winners: of the candidates of a name the one with the least word (`nlist.h`: N_PEXT, N_WEAK_DEF, common symbols).
-use Rattle.std.specs.Prelude.{ℕ, ◌≡◌, ◌==◌, ◌&&◌, ◌||◌, nat_eq, Bool, false, not, max, List, map, fold, codes, Option, if◌then◌else◌}
+use Rattle.std.specs.Prelude.{ℕ, ◌≡◌, ◌==◌, ◌&&◌, ◌||◌, nat_eq, Bool, not, max, List, map, fold, codes, Option, if◌then◌else◌}
 use Rattle.std.specs.List.{AllPairs, find, list_any, starts_with}
 use Rattle.std.specs.Option.{option_map, option_and_then}
 use Rattle.std.specs.Ordering.{nat_cmp}
@@ -7,7 +7,7 @@ use Rattle.std.specs.declared.cmp.Ordering.TheVariants.{Less}
 use Rattle.std.specs.Cmp.Lexicographic.{slice_cmp}
 use Rattle.std.specs.Str.{bytes_eq}
 use Rattle.command_line.specs.declared.command.Command.{Command}
-use Rattle.mo_types.specs.Candidates.{least, strength, word_of}
+use Rattle.mo_types.specs.Candidates.{is_common, least, strength, word_of}
 use Rattle.mo_types.specs.declared.loaded.LoadedFile.{LoadedFile}
 use Rattle.mo_types.specs.declared.object.Symbol.{Symbol}
 use Rattle.mo_types.specs.declared.object.SymbolKind.{SymbolKind}
@@ -47,10 +47,6 @@ size_in _ = 0
 abbrev pub align_in : SymbolKind → ℕ
 align_in (Common align size) = align
 align_in _ = 0
-
-abbrev pub is_common : SymbolKind → Bool
-is_common (Common align size) = 1 == 1
-is_common _ = false
 
 -- the greatest size, and the greatest alignment, of the common symbols among some candidates
 unfoldable pub greatest_size : List FileCandidate → ℕ

@@ -64,7 +64,8 @@ impl<'a> Best<'a> {
     /// With a candidate more, which has the name's word or hasn't.
     #[tactic(auto, using(crate::proofs::BestLemmas::bests))]
     pub(crate) fn with(self, candidate: FoundIn<'a>, wins: bool) -> Best<'a>
-        ensures { (files : List LoadedFile) (fs : List Held) → self.entry ≡ bests.best_of files fs → wins ≡ bests.candidate_wins files candidate.entry → result ≡ bests.best_of files (fs ++ candidate.entry ∷ []) }
+        ensures { (files : List LoadedFile) (fs : List Held) → self.entry ≡ bests.best_of files fs
+            → wins ≡ bests.candidate_wins files candidate.entry → result ≡ bests.best_of files (fs ++ candidate.entry ∷ []) }
     {
         Best {
             winner: or_this(self.winner, candidate, wins),

@@ -23,7 +23,7 @@ use crate::found::{FoundIn, number_at, numbers_at};
 use crate::name_index::NameIndex;
 use crate::places::{Place, place_of};
 use crate::winner::Winner;
-use mo_types::{AtomKey, Items, LoadedFile, OutOfMemory, SymbolKind};
+use mo_types::{AtomKey, Items, LoadedFile, OutOfMemory};
 use name_ids::{NameTable, NumberList};
 use std::alloc::Global;
 
@@ -32,7 +32,8 @@ use std::alloc::Global;
 fn wins(words: &[u64], id: u32, candidate: FoundIn) -> bool
     requires words { id < length words.now }
     requires candidate { IsCandidateOf (found_of candidate) }
-    ensures { (files : List Loads) (names : List (List ℕ)) → AreLeast files names words.now → position (bytes_eq candidate.entry.symbol.now.name) names ≡ Some id → result ≡ candidate_wins files candidate.entry }
+    ensures { (files : List Loads) (names : List (List ℕ)) → AreLeast files names words.now
+        → position (bytes_eq candidate.entry.symbol.now.name) names ≡ Some id → result ≡ candidate_wins files candidate.entry }
 {
     candidate.file.id.word_of(candidate.index, candidate.symbol) == words[id as usize]
 }
@@ -45,7 +46,8 @@ fn note<'a>(table: &mut Vec<Best<'a>>, names: &NameTable, words: &[u64], candida
     requires candidate { IsCandidateOf (found_of candidate) }
     requires numbered { IsNumbered names.now candidate }
     ensures size { length table.new.items ≡ length table.old.items }
-    ensures bests { (files : List Loads) (fs : List Held) → AreLeast files names.now words.now → AreBests files names.now fs table.old.items → AreBests files names.now (fs ++ candidate.entry ∷ []) table.new.items }
+    ensures bests { (files : List Loads) (fs : List Held) → AreLeast files names.now words.now
+        → AreBests files names.now fs table.old.items → AreBests files names.now (fs ++ candidate.entry ∷ []) table.new.items }
 {
     if let Some(id) = names.id_of_number(candidate.number) {
         let wins = wins(words, id, candidate);
@@ -69,7 +71,8 @@ fn note_file<'a>(
     requires words { length words.now ≡ length names.now }
     requires numbers { numbers.now ≡ numbers_in names.now file.now }
     ensures size { length table.new.items ≡ length table.old.items }
-    ensures bests { (files : List Loads) (all : List FileCandidate) → AreLeast files names.now words.now → HasBests files names.now all table.old.items → HasBests files names.now (all ++ found_in file.now) table.new.items }
+    ensures bests { (files : List Loads) (all : List FileCandidate) → AreLeast files names.now words.now
+        → HasBests files names.now all table.old.items → HasBests files names.now (all ++ found_in file.now) table.new.items }
 {
     for (i, symbol) in file.object.symbols.as_slice().iter().enumerate() {
         if file.object.is_candidate(symbol) {
@@ -96,7 +99,8 @@ pub(crate) fn bests_of<'a>(
     requires whole { All IsWholeFile files.now }
     requires words { length words.now ≡ length names.now }
     requires numbers { numbers.now ≡ numbers_of names.now files.now }
-    ensures bests { IfOk result (λ table. (loaded : List Loads) → AreLeast loaded names.now words.now → HasBests loaded names.now (found files.now) table.items) }
+    ensures bests { IfOk result (λ table. (loaded : List Loads) → AreLeast loaded names.now words.now
+        → HasBests loaded names.now (found files.now) table.items) }
     ensures numbering { IsNumbering names.now }
 {
     let lists = numbers.as_slice();
@@ -125,12 +129,6 @@ fn place(found: FoundIn) -> Place
     }
 }
 
-fn is_common(kind: SymbolKind) -> bool
-    ensures { result ≡ winners.is_common kind }
-{
-    matches!(kind, SymbolKind::Common { .. })
-}
-
 // A candidate as the winner.
 fn winner(chosen: &Chosen, rules: &ExportRules) -> Result<Winner, OutOfMemory>
     requires { IsCandidateOf (found_of chosen.now.found) }
@@ -142,7 +140,7 @@ fn winner(chosen: &Chosen, rules: &ExportRules) -> Result<Winner, OutOfMemory>
         symbol,
         ..
     } = chosen.found;
-    let common = is_common(symbol.kind);
+    let common = symbol.kind.is_common();
     let place = place(chosen.found);
     Ok(Winner {
         name: symbol.name.clone()?,

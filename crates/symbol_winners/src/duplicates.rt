@@ -21,7 +21,8 @@ fn note(table: &mut Vec<Firsts>, names: &NameTable, number: u32, file: FileId)
     requires numbering { IsNumbering names.now }
     requires table { length table.old.items ≡ length names.now }
     ensures size { length table.new.items ≡ length table.old.items }
-    ensures firsts { (cs : List Candidate) (c : Candidate) → c.file ≡ file → c.symbol.external ≡ true → number ≡ number_of names.now c.symbol → AreFirsts names.now cs table.old.items → AreFirsts names.now (cs ++ c ∷ []) table.new.items }
+    ensures firsts { (cs : List Candidate) (c : Candidate) → c.file ≡ file → c.symbol.external ≡ true
+        → number ≡ number_of names.now c.symbol → AreFirsts names.now cs table.old.items → AreFirsts names.now (cs ++ c ∷ []) table.new.items }
 {
     if let Some(id) = names.id_of_number(number) {
         let place = &mut table[id as usize];
@@ -43,7 +44,8 @@ fn note_file(table: &mut Vec<Firsts>, names: &NameTable, file: &LoadedFile, numb
     requires table { length table.old.items ≡ length names.now }
     requires numbers { numbers.now ≡ numbers_in names.now file.now }
     ensures size { length table.new.items ≡ length table.old.items }
-    ensures firsts { (all : List FileCandidate) → AreFirsts names.now (strong_among all) table.old.items → AreFirsts names.now (strong_among (all ++ found_in file.now)) table.new.items }
+    ensures firsts { (all : List FileCandidate) → AreFirsts names.now (strong_among all) table.old.items
+        → AreFirsts names.now (strong_among (all ++ found_in file.now)) table.new.items }
 {
     for (i, symbol) in file.object.symbols.as_slice().iter().enumerate() {
         if is_strong(file, symbol) {

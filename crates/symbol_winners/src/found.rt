@@ -50,7 +50,8 @@ fn add_file<'a>(
 ) -> Result<Vec<FoundIn<'a>>, OutOfMemory>
     requires { length file.now.object.symbols < 2 ^ 24 }
     ensures found { IfOk result (λ new. held new.items ≡ held before.entry.items ++ spec.found_in file.now) }
-    ensures numbered { IfOk result (λ new. (names : List (List ℕ)) → AreNumbered names before.entry.items → numbers.now ≡ numbers_in names file.now → AreNumbered names new.items) }
+    ensures numbered { IfOk result (λ new. (names : List (List ℕ)) → AreNumbered names before.entry.items
+        → numbers.now ≡ numbers_in names file.now → AreNumbered names new.items) }
 {
     let mut found = before;
     for (i, symbol) in file.object.symbols.as_slice().iter().enumerate() {

@@ -25,7 +25,8 @@ pub fn the_stronger_wins()
 /// earlier symbol.
 #[tactic(auto, using(crate::proofs::WordLemmas::words))]
 pub fn the_earlier_wins()
-    ensures file { (a b : Candidate) → HasRoom a → HasRoom b → strength a.symbol ≡ strength b.symbol → compare_files a.file b.file ≡ Less → candidate_word a < candidate_word b }
+    ensures file { (a b : Candidate) → HasRoom a → HasRoom b → strength a.symbol ≡ strength b.symbol
+        → compare_files a.file b.file ≡ Less → candidate_word a < candidate_word b }
     ensures symbol { (a b : Candidate) → strength a.symbol ≡ strength b.symbol → a.file ≡ b.file → a.index < b.index → candidate_word a < candidate_word b }
 {}
 
@@ -37,7 +38,8 @@ pub fn candidates_have_numbers()
 
 /// No two winners have one name.
 pub fn a_name_has_one_winner()
-    ensures { (command : Command) (files : List LoadedFile) (winners : List Winner) → AreWinners command files winners → (a b : Winner) → Contains winners a → Contains winners b → a.name ≡ b.name → a ≡ b }
+    ensures { (command : Command) (files : List LoadedFile) (winners : List Winner) → AreWinners command files winners
+        → (a b : Winner) → Contains winners a → Contains winners b → a.name ≡ b.name → a ≡ b }
 {}
 
 /// The same files and command have one list of winners.
@@ -47,7 +49,8 @@ pub fn winners_are_one_list()
 
 /// The same files have one answer as to which least name two strong definitions have, by the numbers of distinct names.
 pub fn duplicates_are_one()
-    ensures { (files : List LoadedFile) (names : List (List ℕ)) (a b : Option (ℕ × FileId × FileId)) → IsNumbering names → IsDuplicate files names a → IsDuplicate files names b → a ≡ b }
+    ensures { (files : List LoadedFile) (names : List (List ℕ)) (a b : Option (ℕ × FileId × FileId))
+        → IsNumbering names → IsDuplicate files names a → IsDuplicate files names b → a ≡ b }
 {}
 
 /// The order in which files were read is nothing: whole ones of the same files are one, and so is all that they mean.

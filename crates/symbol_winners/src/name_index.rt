@@ -31,6 +31,13 @@ impl<'a> NameIndex<'a> {
         })
     }
 
+    /// The names of the table.
+    pub(crate) fn names(&self) -> &NameTable<'a>
+        ensures { result.now ≡ self.now.names.now }
+    {
+        self.names
+    }
+
     // What stands under a number.
     fn at(&self, id: u32) -> Option<usize>
         ensures { result ≡ get_or self.now.places.items id None }
@@ -68,7 +75,8 @@ impl<'a> NameIndex<'a> {
     pub(crate) fn put(&mut self, id: u32, place: usize) -> Result<(), OutOfMemory>
         requires numbering { IsNumbering self.old.names.now }
         requires id { id < length self.old.places.items }
-        ensures places { OnOk result ((name other : List ℕ) → slice_get self.old.names.now id ≡ Some name → known self.new other ≡ (if bytes_eq name other then Some place else known self.old other)) }
+        ensures places { OnOk result ((name other : List ℕ) → slice_get self.old.names.now id ≡ Some name
+            → known self.new other ≡ (if bytes_eq name other then Some place else known self.old other)) }
         ensures names { self.new.names.now ≡ self.old.names.now }
         ensures len { length self.new.places.items ≡ length self.old.places.items }
     {

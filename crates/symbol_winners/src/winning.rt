@@ -3,14 +3,14 @@ ghost use Rattle.std.specs.Prelude.{◌≡◌, IfOk};
 ghost use Rattle.mo_types.specs.Loaded.{IsWholeLoaded};
 ghost use Rattle.name_ids.specs.Names.{numbers_of};
 ghost use Rattle.symbol_winners.specs.Found.{AreNamed};
-ghost use Rattle.symbol_winners.specs.Known.{AreKnown};
+ghost use Rattle.symbol_winners.specs.SymbolTable.{IsSymbolTable};
 ghost use Rattle.symbol_winners.specs.Winners.{AreLeast};
 
 use crate::choosing::{bests_of, index_of, winners_of};
 use crate::chosen::chosen_by_name;
 use crate::exports::rules_of;
-use crate::known::Winners;
 use crate::name_set::set_of;
+use crate::symbol_table::SymbolTable;
 use crate::weak::weak_of;
 use command_line::Command;
 use literal_merge::representatives;
@@ -27,13 +27,13 @@ pub fn winners<'a>(
     numbers: &Items<NumberList>,
     words: &[u64],
     command: &'a Command,
-) -> Result<Winners<'a>, OutOfMemory>
+) -> Result<SymbolTable<'a>, OutOfMemory>
     requires whole { IsWholeLoaded loaded.now }
     requires named { AreNamed names.now loaded.now.files }
     requires numbers { numbers.now ≡ numbers_of names.now loaded.now.files }
     requires words { AreLeast loaded.now.files names.now words.now }
-    ensures known { IfOk result (AreKnown command.now loaded.now.files) }
-    ensures names { IfOk result (λ winners. winners.names ≡ names.entry.now) }
+    ensures symbols { IfOk result (IsSymbolTable command.now loaded.now.files) }
+    ensures names { IfOk result (λ symbols. symbols.names ≡ names.entry.now) }
 {
     let files = loaded.files.as_slice();
     let table = bests_of(alloc, names, words, files, numbers)?;
@@ -44,5 +44,5 @@ pub fn winners<'a>(
     let literals = representatives(alloc, loaded)?;
     let weak = weak_of(alloc, files)?;
     let flats = set_of(alloc, command.flats.as_slice())?;
-    Ok(Winners::of_lists(Items::from_vec(list), literals, weak, flats, index))
+    Ok(SymbolTable::of_lists(Items::from_vec(list), literals, weak, flats, index))
 }

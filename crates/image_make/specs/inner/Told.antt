@@ -1,8 +1,10 @@
 -- The addresses of goals, as far as they have 64 bits.
 use Rattle.std.specs.Prelude.{ℕ, ◌≡◌, ◌^◌, List, Option, Some, None, map, nat_lt, if◌then◌else◌}
 use Rattle.mo_types.specs.declared.goal.Goal.{Goal}
+use Rattle.mo_types.specs.declared.reference.Target.{Target}
+use Rattle.resolve.specs.Table.{goals_in}
 use Rattle.sect_place.specs.declared.layout.Placed.{Placed}
-use Rattle.image_make.specs.Addresses.{Addressing, goal_address}
+use Rattle.image_make.specs.Addresses.{Addressing, goal_address, target_goal}
 use Rattle.image_make.specs.declared.addresses.Addressing as code
 
 -- an address, if it has 64 bits
@@ -15,7 +17,16 @@ goal_told base placed goal = told (goal_address base placed goal)
 
 -- what references are met with, as definitions have it
 abbrev pub scene_of : code.Addressing → Addressing
-scene_of setting = record { literals = setting.winners.now.literals; base = setting.base; placed = setting.layout.now.placed }
+scene_of setting = record { literals = setting.symbols.now.literals; base = setting.base; placed = setting.layout.now.placed }
+
+-- the goals of a file's symbols, by the places that these have in the pool
+abbrev pub goals_there : code.Addressing → List ℕ → List Goal
+goals_there setting places = goals_in setting.goals.now.pool places
+
+-- the address to which a target leads, if it has 64 bits
+abbrev pub target_told : code.Addressing → List ℕ → Target → Option ℕ
+target_told setting places target =
+    goal_told setting.base setting.layout.now.placed (target_goal setting.symbols.now.literals (goals_there setting places) target)
 
 -- the addresses are those of the pool's goals
 abbrev pub AreTold : code.Addressing → Type 0

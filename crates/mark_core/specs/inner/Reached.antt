@@ -1,10 +1,7 @@
 -- What arrows lead to from some atoms.
-use Rattle.std.specs.Prelude.{◌≡◌, ◌==◌, ◌&&◌, Bool, true, List, Contains}
+use Rattle.std.specs.Prelude.{◌≡◌, Bool, true, List, Contains}
 use Rattle.mo_types.specs.declared.edge.Edge.{Edge}
 use Rattle.mo_types.specs.declared.key.AtomKey.{AtomKey}
-
-abbrev pub same_atom : AtomKey → AtomKey → Bool
-same_atom a b = (a.file.position == b.file.position && a.file.member == b.file.member) && (a.section == b.section && a.offset == b.offset)
 
 -- the least list that has the roots and is closed by arrows
 pub record IsReached (all : List Edge) (roots found : List AtomKey) : Type 0 where

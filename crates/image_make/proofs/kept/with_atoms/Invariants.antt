@@ -3,4 +3,4 @@ use Rattle.image_make.proofs.KeptLemmas.{kept_if}
 use Rattle.image_make.proofs.kept.with_atoms.Given as goal
 
 abbrev pub invariant-loop-atom : goal.invariant-loop-atom
-invariant-loop-atom l = IsGrowing (kept_if l.winners.literals l.keys) l.fn.before.items l.kept.items l.atoms l.atom-index
+invariant-loop-atom l = IsGrowing (kept_if l.symbols.literals l.keys) l.fn.before.items l.kept.items l.atoms l.atom-index

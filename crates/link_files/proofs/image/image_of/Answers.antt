@@ -6,10 +6,10 @@ use Rattle.link_files.proofs.image.image_of.Goals as goal
 pub make_image-requires-clause-rising : goal.make_image-requires-clause-rising
 make_image-requires-clause-rising g c κs within =
     let r = c.args.resolved.now in
-    kept_rise r.winners.now.literals c.args.keys.now (files_of r) c.requires.whole.rises (are_cut r.loaded.now c.requires.whole)
+    kept_rise r.symbols.now.literals c.args.keys.now (files_of r) c.requires.whole.rises (are_cut r.loaded.now c.requires.whole)
 
 pub make_image-requires-clause-low : goal.make_image-requires-clause-low
-make_image-requires-clause-low g c κs within = let r = c.args.resolved.now in kept_low r.winners.now.literals c.args.keys.now (files_of r) c.requires.low c.requires.resolved.known.literals
+make_image-requires-clause-low g c κs within = let r = c.args.resolved.now in kept_low r.symbols.now.literals c.args.keys.now (files_of r) c.requires.low c.requires.resolved.symbols.literals
 
 pub returns-in-Ok : goal.returns-in-Ok
 returns-in-Ok g c =

@@ -10,7 +10,7 @@ pub returns-in_err-all_defined : goal.returns-in_err-all_defined
 returns-in_err-all_defined g c =
     unless_on _ _ _ (rw c.as_slice.ensures at c.in_ok-few_atoms.ensures)
     (checks_on _ _ _ c.in_ok-defined_once.ensures
-    (some_on _ _ _ _ c.in_ok-winners.ensures.known
+    (some_on _ _ _ _ c.in_ok-symbols.ensures.symbols
     (some_on _ _ _ _ (rw c.in_ok-goals.ensures at c.in_ok-keys.ensures)
     (unless_ends _ _ _ _ (rw c.in_ok-goals.ensures at c.in_err-all_defined.ensures) c.from_residual-in_err-all_defined.ensures.1))))
 
@@ -19,7 +19,7 @@ returns-in_err-all_inside g c =
     let entry = rw c.as_slice-start.ensures at c.in_ok-entry.ensures in
     unless_on _ _ _ (rw c.as_slice.ensures at c.in_ok-few_atoms.ensures)
     (checks_on _ _ _ c.in_ok-defined_once.ensures
-    (some_on _ _ _ _ c.in_ok-winners.ensures.known
+    (some_on _ _ _ _ c.in_ok-symbols.ensures.symbols
     (some_on _ _ _ _ (rw c.in_ok-goals.ensures at c.in_ok-keys.ensures)
     (unless_on _ _ _ (rw c.in_ok-goals.ensures at c.in_ok-all_defined.ensures)
     (unless_ends _ _ _ _ (rw (c.in_ok-goals.ensures, entry) at c.in_err-all_inside.ensures) c.from_residual-in_err-all_inside.ensures.1)))))
@@ -29,7 +29,7 @@ returns g c =
     let entry = rw c.as_slice-start.ensures at c.in_ok-entry.ensures in
     unless_on _ _ _ (rw c.as_slice.ensures at c.in_ok-few_atoms.ensures)
     (checks_on _ _ _ c.in_ok-defined_once.ensures
-    (some_on _ _ _ _ c.in_ok-winners.ensures.known
+    (some_on _ _ _ _ c.in_ok-symbols.ensures.symbols
     (some_on _ _ _ _ (rw c.in_ok-goals.ensures at c.in_ok-keys.ensures)
     (unless_on _ _ _ (rw c.in_ok-goals.ensures at c.in_ok-all_defined.ensures)
     (unless_on _ _ _ (rw (c.in_ok-goals.ensures, entry) at c.in_ok-all_inside.ensures)

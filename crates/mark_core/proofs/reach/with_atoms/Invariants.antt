@@ -1,6 +1,6 @@
 use Rattle.std.proofs.Common.{◌≡◌, take}
 use Rattle.indexmap.specs.IndexSet.{insert_all}
-use Rattle.mark_core.specs.inner.Reached.{same_atom}
+use Rattle.mark_core.specs.Kept.{same_atom}
 use Rattle.mark_core.proofs.reach.with_atoms.Given as goal
 
 abbrev pub invariant-loop-atom : goal.invariant-loop-atom

@@ -1,7 +1,7 @@
 use Rattle.std.proofs.Common.{◌≡◌, map, take}
 use Rattle.indexmap.specs.IndexSet.{insert_all}
 use Rattle.mark_core.specs.inner.Arrows.{end_of}
-use Rattle.mark_core.specs.inner.Reached.{same_atom}
+use Rattle.mark_core.specs.Kept.{same_atom}
 use Rattle.mark_core.proofs.reach.with_ends.Given as goal
 
 abbrev pub invariant-loop-arrow : goal.invariant-loop-arrow

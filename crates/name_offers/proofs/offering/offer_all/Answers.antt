@@ -21,13 +21,13 @@ all_past len runs run m some is past = le_trans (div_ceil_times len m some).0 (s
 
 pub offer_run-requires-clause-files : goal.offer_run-requires-clause-files
 offer_run-requires-clause-files g c κs within =
-    let are : c.as_slice-numbers.result.now ≡ numbers_of c.args.names.now c.as_slice-files.result.now = c.as_slice-numbers.ensures ∙ c.requires.numbers ∙ ap (numbers_of c.args.names.now) (sym c.as_slice-files.ensures) in
+    let are : c.as_slice-numbers.result.now ≡ numbers_of c.args.numbered.now.names c.as_slice-files.result.now = c.as_slice-numbers.ensures ∙ c.requires.numbers ∙ ap (numbers_of c.args.numbered.now.names) (sym c.as_slice-files.ensures) in
     let all_whole : All IsWholeFile c.as_slice-files.result.now = subst (λ (files : List LoadedFile). All IsWholeFile files) (sym c.as_slice-files.ensures) c.requires.whole.files in
     record {
       words = c.requires.words;
       whole = All-take IsWholeFile c.min.result (take (length c.as_slice-files.result.now - c.loop-run.run * 2 ^ 30) (drop (c.loop-run.run * 2 ^ 30) c.as_slice-files.result.now))
           (All-take IsWholeFile (length c.as_slice-files.result.now - c.loop-run.run * 2 ^ 30) (drop (c.loop-run.run * 2 ^ 30) c.as_slice-files.result.now) (All-drop IsWholeFile (c.loop-run.run * 2 ^ 30) c.as_slice-files.result.now all_whole));
-      numbers = run_numbers c.args.names.now c.as_slice-numbers.result.now c.part-their.result.now c.as_slice-files.result.now
+      numbers = run_numbers c.args.numbered.now.names c.as_slice-numbers.result.now c.part-their.result.now c.as_slice-files.result.now
           (take c.min.result (take (length c.as_slice-files.result.now - c.loop-run.run * 2 ^ 30) (drop (c.loop-run.run * 2 ^ 30) c.as_slice-files.result.now))) (c.loop-run.run * 2 ^ 30) c.min.result are refl c.part-their.ensures;
     }
 
@@ -35,11 +35,11 @@ pub loop-run-preserved : goal.loop-run-preserved
 loop-run-preserved g c =
     let next : c.loop-run.run * 2 ^ 30 + 2 ^ 30 ≡ (c.loop-run.run + 1) * 2 ^ 30 = omega arith in
     let least : c.min.result ≡ min (length c.as_slice-files.result.now - c.loop-run.run * 2 ^ 30) (2 ^ 30) = omega (arith, c.min.ensures, length-take (length c.as_slice-files.result.now - c.loop-run.run * 2 ^ 30) (drop (c.loop-run.run * 2 ^ 30) c.as_slice-files.result.now), length-drop (c.loop-run.run * 2 ^ 30) c.as_slice-files.result.now) in
-    subst (λ n. IsOfferedTo c.args.race.now c.args.names.now c.as_slice-files.result.now n c.args.racers.items c.in_ok-racers.racers.items) next
-    (runs_more c.args.race.now c.args.names.now c.as_slice-files.result.now _ (c.loop-run.run * 2 ^ 30) (2 ^ 30) c.args.racers.items c.loop-run.racers.items c.in_ok-racers.racers.items c.loop-run.invariant
+    subst (λ n. IsOfferedTo c.args.race.now c.args.numbered.now.names c.as_slice-files.result.now n c.args.racers.items c.in_ok-racers.racers.items) next
+    (runs_more c.args.race.now c.args.numbered.now.names c.as_slice-files.result.now _ (c.loop-run.run * 2 ^ 30) (2 ^ 30) c.args.racers.items c.loop-run.racers.items c.in_ok-racers.racers.items c.loop-run.invariant
     (part_is c.as_slice-files.result.now (c.loop-run.run * 2 ^ 30) (2 ^ 30) c.min.result least) c.in_ok-racers.ensures.offered c.in_ok-racers.ensures.race)
 
 pub returns-clause-offers : goal.returns-clause-offers
 returns-clause-offers g c =
     let past : length c.as_slice-files.result.now ≤ c.loop-run.run * 2 ^ 30 = all_past (length c.as_slice-files.result.now) c.div_ceil-run-end.result c.loop-run.run (2 ^ 30) (lit< tt) c.div_ceil-run-end.ensures c.loop-run-test.false in
-    (runs_end c.args.race.now c.args.names.now c.args.files.now.files (c.loop-run.run * 2 ^ 30) c.args.racers.items c.loop-run.racers.items (rw c.as_slice-files.ensures at c.loop-run.invariant) c.requires.named (rw c.as_slice-files.ensures at past)).offers
+    (runs_end c.args.race.now c.args.numbered.now.names c.args.files.now.files (c.loop-run.run * 2 ^ 30) c.args.racers.items c.loop-run.racers.items (rw c.as_slice-files.ensures at c.loop-run.invariant) c.requires.named (rw c.as_slice-files.ensures at past)).offers

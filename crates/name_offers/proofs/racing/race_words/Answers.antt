@@ -21,8 +21,8 @@ settle-requires-clause-passes g c = omega (
 
 pub returns : goal.returns
 returns g c =
-    let words : c.settle.new.into ≡ run c.args.start.items (bids_of c.args.names.now c.args.files.now.files) =
-    words_are c.args.start.items c.settle.new.into (bids_of c.args.names.now c.args.files.now.files) c.joined-racer.result.offers c.in_ok-racers.racers.items c.in_ok-racers-2.racers.items c.in_ok-racers.ensures.racers.nothing c.in_ok-racers-2.ensures.offers c.joined-racer.ensures.offers
+    let words : c.settle.new.into ≡ run c.args.start.items (bids_of c.args.numbered.now.names c.args.files.now.files) =
+    words_are c.args.start.items c.settle.new.into (bids_of c.args.numbered.now.names c.args.files.now.files) c.joined-racer.result.offers c.in_ok-racers.racers.items c.in_ok-racers-2.racers.items c.in_ok-racers.ensures.racers.nothing c.in_ok-racers-2.ensures.offers c.joined-racer.ensures.offers
     (c.settle.ensures.words ∙ ap (λ start. run start c.joined-racer.result.offers) c.in_ok-race.ensures.race.0) in
-    let long : c.in_ok-words.words.len ≡ length c.settle.new.into = grind (arith, common_steps, ap length words, length-run c.args.start.items (bids_of c.args.names.now c.args.files.now.files), c.in_ok-words.ensures.len, c.len.ensures) in
+    let long : c.in_ok-words.words.len ≡ length c.settle.new.into = grind (arith, common_steps, ap length words, length-run c.args.start.items (bids_of c.args.numbered.now.names c.args.files.now.files), c.in_ok-words.ensures.len, c.len.ensures) in
     front_is c.in_ok-words.words.len c.settle.new.into _ long ∙ words

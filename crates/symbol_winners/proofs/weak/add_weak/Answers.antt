@@ -1,4 +1,4 @@
-use Rattle.symbol_winners.specs.Known.{is_weak_to}
+use Rattle.symbol_winners.specs.SymbolTable.{is_weak_to}
 use Rattle.symbol_winners.specs.Winners.{lists}
 use Rattle.symbol_winners.proofs.WeakLemmas.{or_step}
 use Rattle.symbol_winners.proofs.weak.add_weak.Goals as goal

@@ -1,7 +1,7 @@
 use Rattle.std.proofs.Common.{sym, ap, ◌∙◌, ◌&&◌, not}
 use Rattle.std.specs.List.{list_any}
 use Rattle.std.proofs.lemmas.List.{take_all}
-use Rattle.symbol_winners.specs.Known.{is_strong_to}
+use Rattle.symbol_winners.specs.SymbolTable.{is_strong_to}
 use Rattle.symbol_winners.specs.Winners.{lists}
 use Rattle.symbol_winners.proofs.WeakLemmas.{of_file, some_symbol}
 use Rattle.symbol_winners.proofs.weak.drop_all_strong.Goals as goal

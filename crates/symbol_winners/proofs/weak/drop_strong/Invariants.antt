@@ -1,6 +1,6 @@
 use Rattle.std.proofs.Common.{◌≡◌, ℕ, ◌&&◌, not, List, take}
 use Rattle.std.specs.List.{list_any}
-use Rattle.symbol_winners.specs.Known.{is_strong_to}
+use Rattle.symbol_winners.specs.SymbolTable.{is_strong_to}
 use Rattle.symbol_winners.specs.Winners.{lists}
 use Rattle.symbol_winners.proofs.weak.drop_strong.Given as goal
 

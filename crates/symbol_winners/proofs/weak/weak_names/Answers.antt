@@ -1,7 +1,7 @@
 use Rattle.std.proofs.Common.{sym, ap, ◌∙◌, ◌||◌}
 use Rattle.std.specs.List.{list_any}
 use Rattle.std.proofs.lemmas.List.{take_all}
-use Rattle.symbol_winners.specs.Known.{is_weak_to}
+use Rattle.symbol_winners.specs.SymbolTable.{is_weak_to}
 use Rattle.symbol_winners.specs.Winners.{lists}
 use Rattle.symbol_winners.proofs.SetLemmas.{any_step}
 use Rattle.symbol_winners.proofs.WeakLemmas.{of_file, some_symbol}

@@ -1,10 +1,10 @@
 use Rattle.std.proofs.Common.{ap, ◌∙◌, map}
 use Rattle.symbol_winners.specs.Found.{found}
-use Rattle.symbol_winners.specs.Known.{is_weak}
+use Rattle.symbol_winners.specs.SymbolTable.{is_weak}
 use Rattle.symbol_winners.specs.Winners.{lists}
 use Rattle.symbol_winners.specs.inner.Best.{winner_chosen}
 use Rattle.symbol_winners.proofs.CandidateLemmas.{candidates_are}
-use Rattle.symbol_winners.proofs.KnownLemmas.{all_those, winners_are}
+use Rattle.symbol_winners.proofs.WinnersLemmas.{all_those, winners_are}
 use Rattle.literal_merge.proofs.RepresentativeLemmas.{in_order}
 use Rattle.symbol_winners.proofs.WinnerLemmas.{chosen_listed, chosen_stand, indexed}
 use Rattle.symbol_winners.proofs.winning.winners.Goals as goal
@@ -37,8 +37,8 @@ of_lists-requires c =
           (rw c.as_slice-2.ensures.value at c.in_ok-index.ensures.index);
     }
 
-pub returns-clause-known : goal.returns-clause-known
-returns-clause-known c =
+pub returns-clause-symbols : goal.returns-clause-symbols
+returns-clause-symbols c =
     let has = c.in_ok-table.ensures.bests c.args.loaded.now.files c.requires.words in
     rw c.of_lists.ensures
     record {
