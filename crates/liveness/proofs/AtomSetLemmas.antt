@@ -11,8 +11,9 @@ use Rattle.mo_types.specs.declared.atom.Atom.{Atom}
 use Rattle.mo_types.specs.Rows.{when}
 use Rattle.mo_types.specs.declared.loaded.LoadedFile.{LoadedFile}
 use Rattle.mo_types.specs.declared.object.Symbol.{Symbol}
-use Rattle.symbol_winners.specs.Known.{Known}
-use Rattle.liveness.specs.Roots.{common_root, external_atom, external_atoms, has_atom, plain_root, plain_roots, same_atom, winning_atom, winning_atoms, wins}
+use Rattle.symbol_winners.specs.SymbolTable.{SymbolTable}
+use Rattle.mark_core.specs.Kept.{same_atom}
+use Rattle.liveness.specs.Roots.{common_root, external_atom, external_atoms, has_atom, plain_root, plain_roots, winning_atom, winning_atoms, wins}
 use Rattle.literal_merge.specs.declared.representative.Representative.{Representative}
 use Rattle.symbol_winners.proofs.PickLemmas.{picked_alike}
 use Rattle.symbol_winners.proofs.SetLemmas.{either}
@@ -97,35 +98,35 @@ same_length {Y = Y} f g w is (x ∷ xs) e =
         let rest = shorter f g w is xs in
         omega (arith, long, short, rest, e)
 
-wins_or_not : (known : Known) (file : LoadedFile) (p : ℕ × Symbol) → winning_atom known.winners file p ≡ option_and_then (when (wins known.winners file p)) (external_atom file p)
+wins_or_not : (symbols : SymbolTable) (file : LoadedFile) (p : ℕ × Symbol) → winning_atom symbols.winners file p ≡ option_and_then (when (wins symbols.winners file p)) (external_atom file p)
 unfolding winning_atom
-wins_or_not known file p = refl
+wins_or_not symbols file p = refl
 
 -- where as many symbols win as there are, the atoms are the same ones
-pub all_win : (known : Known) (file : LoadedFile) (external winning : List AtomKey) → external ≡ external_atoms file → winning ≡ winning_atoms known.winners file → length external ≡ length winning → external ≡ winning
+pub all_win : (symbols : SymbolTable) (file : LoadedFile) (external winning : List AtomKey) → external ≡ external_atoms file → winning ≡ winning_atoms symbols.winners file → length external ≡ length winning → external ≡ winning
 unfolding external_atoms winning_atoms
-all_win known file external winning e w long =
-    e ∙ same_length (external_atom file) (winning_atom known.winners file) (wins known.winners file) (wins_or_not known file) (enumerate_from 0 file.object.symbols)
+all_win symbols file external winning e w long =
+    e ∙ same_length (external_atom file) (winning_atom symbols.winners file) (wins symbols.winners file) (wins_or_not symbols file) (enumerate_from 0 file.object.symbols)
     (sym (ap length e) ∙ long ∙ ap length w)
     ∙ sym w
 
 -- what sets of atoms pick is what their lists pick
-pub plain_are : (known : Known) (file : LoadedFile) (before roots new external set winning set' commons : List AtomKey) (atoms : List Atom) → external ≡ external_atoms file → winning ≡ winning_atoms known.winners file → commons ≡ winning_atoms known.winners file
+pub plain_are : (symbols : SymbolTable) (file : LoadedFile) (before roots new external set winning set' commons : List AtomKey) (atoms : List Atom) → external ≡ external_atoms file → winning ≡ winning_atoms symbols.winners file → commons ≡ winning_atoms symbols.winners file
     → ((literals : List Representative) (atom : Atom) → plain_root literals set set' atom ≡ plain_root literals external winning atom) → atoms ≡ file.atoms
-    → roots ≡ before ++ filter_map (plain_root known.literals set set') atoms → new ≡ roots ++ filter_map common_root commons → new ≡ before ++ plain_roots known file
+    → roots ≡ before ++ filter_map (plain_root symbols.literals set set') atoms → new ≡ roots ++ filter_map common_root commons → new ≡ before ++ plain_roots symbols file
 unfolding plain_roots
-plain_are known file before roots new external set winning set' commons atoms e w v alike a first second =
+plain_are symbols file before roots new external set winning set' commons atoms e w v alike a first second =
     second
     ∙ ap (λ (ks : List AtomKey). ks ++ filter_map common_root commons) (first ∙ ap (λ (ks : List AtomKey). before ++ ks) picked)
-    ∙ ap (λ (ks : List AtomKey). (before ++ filter_map (plain_root known.literals (external_atoms file) (winning_atoms known.winners file)) file.atoms) ++ filter_map common_root ks) v
-    ∙ append_assoc before (filter_map (plain_root known.literals (external_atoms file) (winning_atoms known.winners file)) file.atoms) (filter_map common_root (winning_atoms known.winners file))
+    ∙ ap (λ (ks : List AtomKey). (before ++ filter_map (plain_root symbols.literals (external_atoms file) (winning_atoms symbols.winners file)) file.atoms) ++ filter_map common_root ks) v
+    ∙ append_assoc before (filter_map (plain_root symbols.literals (external_atoms file) (winning_atoms symbols.winners file)) file.atoms) (filter_map common_root (winning_atoms symbols.winners file))
   where
-    of_lists : (atom : Atom) → plain_root known.literals set set' atom ≡ plain_root known.literals (external_atoms file) (winning_atoms known.winners file) atom
-    of_lists atom = alike known.literals atom ∙ ap (λ (ks : List AtomKey). plain_root known.literals ks winning atom) e ∙ ap (λ (ks : List AtomKey). plain_root known.literals (external_atoms file) ks atom) w
+    of_lists : (atom : Atom) → plain_root symbols.literals set set' atom ≡ plain_root symbols.literals (external_atoms file) (winning_atoms symbols.winners file) atom
+    of_lists atom = alike symbols.literals atom ∙ ap (λ (ks : List AtomKey). plain_root symbols.literals ks winning atom) e ∙ ap (λ (ks : List AtomKey). plain_root symbols.literals (external_atoms file) ks atom) w
 
-    picked : filter_map (plain_root known.literals set set') atoms ≡ filter_map (plain_root known.literals (external_atoms file) (winning_atoms known.winners file)) file.atoms
+    picked : filter_map (plain_root symbols.literals set set') atoms ≡ filter_map (plain_root symbols.literals (external_atoms file) (winning_atoms symbols.winners file)) file.atoms
     picked =
-        ap (filter_map (plain_root known.literals set set')) a
-        ∙ picked_alike (plain_root known.literals set set') (plain_root known.literals (external_atoms file) (winning_atoms known.winners file)) of_lists file.atoms
+        ap (filter_map (plain_root symbols.literals set set')) a
+        ∙ picked_alike (plain_root symbols.literals set set') (plain_root symbols.literals (external_atoms file) (winning_atoms symbols.winners file)) of_lists file.atoms
 
 pub ruleset sets = (none_alike, sets_alike)

@@ -1,10 +1,10 @@
 -- The edges that lead away from some atoms are those of all edges that do.
-use Rattle.std.proofs.Common.{◌≡◌, ◌++◌, ℕ, zero, suc, ◌==◌, Bool, true, false, List, [], ◌∷◌, length, map, slice_get, Some, None, inl, inr, refl, sym, ap, ap₂, ◌-◌, ◌∙◌, if◌then◌else◌}
+use Rattle.std.proofs.Common.{◌≡◌, ◌++◌, ℕ, zero, suc, ◌==◌, Bool, true, false, List, [], ◌∷◌, length, map, slice_get, take, get_or, replicate, Some, None, inl, inr, refl, sym, ap, ap₂, arith, ◌+◌, ◌-◌, ◌<◌, ◌≤◌, ◌∙◌, if◌then◌else◌}
 use Rattle.std.specs.Prelude.{IfOk, Option, Result, Ok, Err}
 use Rattle.std.specs.List.{filter, flat_map, list_any}
-use Rattle.std.specs.Option.{is_some, option_and_then, option_map, option_map_or}
+use Rattle.std.specs.Option.{option_and_then, option_map, option_map_or}
 use Rattle.std.proofs.lemmas.Bool.{cases_Bool, eqb-true, false≢true, or_parts}
-use Rattle.std.proofs.lemmas.List.{append-nil, nil_from_length}
+use Rattle.std.proofs.lemmas.List.{append-nil, length-append, length-map, length-replicate, length-take-le, map-append, nil_from_length, take_all, take_more}
 use Rattle.std.proofs.lemmas.List.Elements.{filter-append}
 use Rattle.std.proofs.lemmas.Option.{get_or_from_slice_get, slice_get-map, slice_get_within}
 use Rattle.resolve.specs.Table.{AreWithin, Tabled, goals_in, goals_of}
@@ -26,7 +26,7 @@ use Rattle.mo_types.specs.declared.unwind.Unwind.{Unwind}
 use Rattle.liveness.specs.Edges.{edge_from, edges_at, file_edges, file_supports, goal_atom, is_live_support, ref_edges, ref_supports, supports_at, supports_live, target_atom, unwind_edges}
 use Rattle.literal_merge.specs.declared.representative.Representative.{Representative}
 use Rattle.liveness.proofs.PlacedLemmas.{ends_told}
-use Rattle.liveness.specs.inner.Away.{AreAway, AreNone, away, end_in, ends_in, file_away, goal_away, ref_away, target_away, unwind_away}
+use Rattle.liveness.specs.inner.Away.{AreAway, AreNone, away, end_in, ended, ends_in, file_away, goal_away, ref_away, target_away, unwind_away}
 
 -- ---- lists
 
@@ -106,28 +106,75 @@ file_filtered literals roots goals ends file is =
 
 -- ---- the ends of a pool's goals
 
-no_ends : (f : Goal → Option AtomKey) (pool : List Goal) (place : ℕ) → list_any (λ goal. is_some (f goal)) pool ≡ false → None ≡ end_in (map f pool) place
-no_ends f [] place none = refl
-no_ends f (goal ∷ pool) place none = by (f goal) refl (λ k rest. no_ends f pool k rest)
+-- a list with one more at its end, beside one that has the same ends and may be shorter
+put_alike : (ends others : List (Option AtomKey)) (gap : ℕ) (end : Option AtomKey) → length ends + gap ≡ length others → ((place : ℕ) → end_in ends place ≡ end_in others place) → (place : ℕ) → end_in (ends ++ replicate gap None ++ end ∷ []) place ≡ end_in (others ++ end ∷ []) place
+put_alike [] [] zero end long same place = refl
+put_alike [] [] (suc gap) end long same place = absurd (omega (arith, long))
+put_alike [] (other ∷ others) zero end long same place = absurd (omega (arith, long))
+put_alike [] (other ∷ others) (suc gap) end long same zero = same zero
+put_alike [] (other ∷ others) (suc gap) end long same (suc place) = let rest : 0 + gap ≡ length others = omega (arith, long) in put_alike [] others gap end rest (λ k. same (suc k)) place
+put_alike (mine ∷ ends) [] gap end long same place = absurd (omega (arith, long))
+put_alike (mine ∷ ends) (other ∷ others) gap end long same zero = same zero
+put_alike (mine ∷ ends) (other ∷ others) gap end long same (suc place) = let rest : length ends + gap ≡ length others = omega (arith, long) in put_alike ends others gap end rest (λ k. same (suc k)) place
+
+-- one that leads nowhere at the end of a list adds nothing
+none_more : (others : List (Option AtomKey)) (place : ℕ) → end_in others place ≡ end_in (others ++ None ∷ []) place
+none_more [] zero = refl
+none_more [] (suc place) = refl
+none_more (other ∷ others) zero = refl
+none_more (other ∷ others) (suc place) = none_more others place
+
+ended_alike : (ends others : List (Option AtomKey)) (at : ℕ) (end : Option AtomKey) → length ends ≤ at → length others ≡ at → ((place : ℕ) → end_in ends place ≡ end_in others place) → (place : ℕ) → end_in (ended ends at end) place ≡ end_in (others ++ end ∷ []) place
+ended_alike ends others at None low long same place = same place ∙ none_more others place
+ended_alike ends others at (Some atom) low long same place = let whole : length ends + (at - length ends) ≡ length others = omega (arith, low, long) in put_alike ends others (at - length ends) (Some atom) whole same place
+
+ended_low : (ends : List (Option AtomKey)) (at : ℕ) (end : Option AtomKey) → length ends ≤ at → length (ended ends at end) ≤ at + 1
+ended_low ends at None low = omega (arith, low)
+ended_low ends at (Some atom) low =
+    let long : length (ends ++ replicate (at - length ends) None ++ Some atom ∷ []) ≡ length ends + (at - length ends) + 1 =
+    length-append (ends ++ replicate (at - length ends) None) (Some atom ∷ [])
+    ∙ ap (λ (n : ℕ). n + 1) (length-append ends (replicate (at - length ends) None) ∙ ap (λ (n : ℕ). length ends + n) (length-replicate (at - length ends) None)) in
+    rw long (omega (arith, low))
+
+-- the ends of the goals of a pool before a place
+pub record AreEndsTo (roots : List AtomKey) (pool : List Goal) (at : ℕ) (ends : List (Option AtomKey)) : Type 0 where
+  pub low : length ends ≤ at
+  pub each : (place : ℕ) → end_in ends place ≡ end_in (map (goal_away roots) (take at pool)) place
+
+pub ends_start : (roots : List AtomKey) (pool : List Goal) → AreEndsTo roots pool 0 []
+ends_start roots pool = record { low = omega arith; each = λ place. refl }
+
+pub ends_more : (roots : List AtomKey) (pool : List Goal) (at : ℕ) (other : Goal) (end : Option AtomKey) (ends new : List (Option AtomKey)) → AreEndsTo roots pool at ends → at < length pool → end ≡ goal_away roots (get_or pool at other) → new ≡ ended ends at end → AreEndsTo roots pool (at + 1) new
+ends_more roots pool at other end ends new are within is put = record {
+  low = rw put (ended_low ends at end are.low);
+  each = λ place.
+      ap (λ (es : List (Option AtomKey)). end_in es place) put
+      ∙ ended_alike ends (map (goal_away roots) (take at pool)) at end are.low long are.each place
+      ∙ ap (λ (es : List (Option AtomKey)). end_in es place) (sym taken);
+}
   where
-    by : (end : Option AtomKey) → f goal ≡ end → ((k : ℕ) → list_any (λ goal. is_some (f goal)) pool ≡ false → None ≡ end_in (map f pool) k) → None ≡ end_in (map f (goal ∷ pool)) place
-    by (Some atom) e more = absurd (let some : list_any (λ goal. is_some (f goal)) (goal ∷ pool) ≡ true = rw e refl in let no : true ≡ false = sym some ∙ none in cc)
-    by None e more = here place
-      where
-        rest : list_any (λ goal. is_some (f goal)) pool ≡ false
-        rest = let same : list_any (λ goal. is_some (f goal)) (goal ∷ pool) ≡ list_any (λ goal. is_some (f goal)) pool = rw e refl in sym same ∙ none
+    long : length (map (goal_away roots) (take at pool)) ≡ at
+    long = let low : at ≤ length pool = omega (arith, within) in length-map (take at pool) (goal_away roots) ∙ length-take-le at pool low
 
-        here : (k : ℕ) → None ≡ end_in (map f (goal ∷ pool)) k
-        here zero = sym e
-        here (suc k) = more k rest
+    taken : map (goal_away roots) (take (at + 1) pool) ≡ map (goal_away roots) (take at pool) ++ end ∷ []
+    taken =
+        ap (map (goal_away roots)) (take_more pool at other within)
+        ∙ map-append (goal_away roots) (take at pool) (get_or pool at other ∷ [])
+        ∙ ap (λ (o : Option AtomKey). map (goal_away roots) (take at pool) ++ o ∷ []) (sym is)
 
-pub nothing_away : (roots : List AtomKey) (pool : List Goal) (ends : List (Option AtomKey)) (any : Bool) → any ≡ list_any (λ goal. is_some (goal_away roots goal)) pool → any ≡ false → ends ≡ [] → AreAway roots pool ends
-nothing_away roots pool ends any is none empty = record { each = λ place. ap (λ (es : List (Option AtomKey)). end_in es place) empty ∙ no_ends (goal_away roots) pool place (sym is ∙ none) }
+pub ends_all : (roots : List AtomKey) (pool : List Goal) (at : ℕ) (ends : List (Option AtomKey)) → AreEndsTo roots pool at ends → length pool ≤ at → AreAway roots pool ends
+ends_all roots pool at ends are past = record { each = λ place. are.each place ∙ ap (λ (goals : List Goal). end_in (map (goal_away roots) goals) place) (take_all at pool past) }
 
-pub each_away : (roots : List AtomKey) (pool : List Goal) (ends : List (Option AtomKey)) → ends ≡ map (goal_away roots) pool → AreAway roots pool ends
-each_away roots pool ends is = record { each = λ place. ap (λ (es : List (Option AtomKey)). end_in es place) is }
+pub ruleset aways = (ends_start, ends_more, ends_all)
 
-pub ruleset aways = (nothing_away, each_away)
+-- one that leads somewhere is put at its place
+pub put_end : (before all new : List (Option AtomKey)) (at count : ℕ) (atom : AtomKey) → length before ≤ at → count ≡ length before → all ≡ take at before ++ replicate (at - count) None → new ≡ all ++ Some atom ∷ [] → new ≡ before ++ replicate (at - length before) None ++ Some atom ∷ []
+put_end before all new at count atom low is resized pushed =
+    pushed
+    ∙ ap (λ (es : List (Option AtomKey)). es ++ Some atom ∷ [])
+    (resized ∙ ap (λ (es : List (Option AtomKey)). es ++ replicate (at - count) None) (take_all at before low) ∙ ap (λ (n : ℕ). before ++ replicate (at - n) None) is)
+
+pub ruleset puts = (put_end)
 
 pub none_in : (pool ends : List (Option AtomKey)) (places : List ℕ) (empty : Bool) → empty ≡ (length pool == 0) → empty ≡ true → ends ≡ ends_in pool places → AreNone ends
 unfolding ends_in

@@ -3,6 +3,7 @@
 use Rattle.std.specs.Prelude.{ℕ, ◌==◌, ◌&&◌, ◌||◌, ◌++◌, bit_and, Bool, false, not, List, [], Option, None, if◌then◌else◌}
 use Rattle.std.specs.List.{enumerate_from, filter_map, flat_map, list_any}
 use Rattle.std.specs.Option.{option_and_then, option_map, option_map_or, option_to_list}
+use Rattle.mark_core.specs.Kept.{same_atom}
 use Rattle.command_line.specs.declared.command.Command.{Command}
 use Rattle.mo_format.specs.declared.loader.TheConstants.{S_ATTR_NO_DEAD_STRIP, S_MOD_INIT_FUNC_POINTERS}
 use Rattle.mo_types.specs.Candidates.{word_of}
@@ -16,15 +17,11 @@ use Rattle.mo_types.specs.declared.object.Section.{Section}
 use Rattle.mo_types.specs.declared.object.Symbol.{Symbol}
 use Rattle.mo_types.specs.RelocationRules.{section_numbered}
 use Rattle.literal_merge.specs.Standing.{stands_for}
-use Rattle.symbol_winners.specs.Known.{Known}
+use Rattle.symbol_winners.specs.SymbolTable.{SymbolTable}
 use Rattle.symbol_winners.specs.Places.{place_of}
 use Rattle.symbol_winners.specs.Winners.{winner_named}
 use Rattle.literal_merge.specs.declared.representative.Representative.{Representative}
 use Rattle.symbol_winners.specs.declared.winner.Winner.{Winner}
-
--- two keys are of one atom
-abbrev pub same_atom : AtomKey → AtomKey → Bool
-same_atom a b = (a.file.position == b.file.position && a.file.member == b.file.member) && (a.section == b.section && a.offset == b.offset)
 
 abbrev pub has_atom : List AtomKey → AtomKey → Bool
 has_atom atoms atom = list_any (same_atom atom) atoms
@@ -69,10 +66,10 @@ unfoldable pub common_root : AtomKey → Option AtomKey
 common_root atom = when (atom.section == COMMON_SECTION) atom
 
 -- those of a file, and the common symbols of the file that win
-unfoldable pub plain_roots : Known → LoadedFile → List AtomKey
-plain_roots known file =
-    filter_map (plain_root known.literals (external_atoms file) (winning_atoms known.winners file)) file.atoms
-    ++ filter_map common_root (winning_atoms known.winners file)
+unfoldable pub plain_roots : SymbolTable → LoadedFile → List AtomKey
+plain_roots symbols file =
+    filter_map (plain_root symbols.literals (external_atoms file) (winning_atoms symbols.winners file)) file.atoms
+    ++ filter_map common_root (winning_atoms symbols.winners file)
 
 -- ---- with -dead_strip
 
@@ -84,42 +81,44 @@ is_kept_section section = section.kind == S_MOD_INIT_FUNC_POINTERS || not (bit_a
 unfoldable pub section_root : Object → Atom → Option AtomKey
 section_root object atom = when (option_map_or is_kept_section (section_numbered object.sections atom.key.section) false) atom.key
 
--- The atom of a symbol that is marked as kept (N_NO_DEAD_STRIP): that of an external one where it wins, in the literal
--- that stands for its own.
-unfoldable pub marked_root : Known → LoadedFile → ℕ × Symbol → Option AtomKey
-marked_root known file p =
-    if p.1.no_strip then (if p.1.external then option_map (stands_for known.literals) (winning_atom known.winners file p) else symbol_atom file p)
-    else None
+-- the atom of an external symbol, where it wins, in the literal that stands for its own
+abbrev pub winning_root : SymbolTable → LoadedFile → ℕ × Symbol → Option AtomKey
+winning_root symbols file p = option_map (stands_for symbols.literals) (winning_atom symbols.winners file p)
 
-unfoldable pub kept_roots : Known → LoadedFile → List AtomKey
-kept_roots known file =
+-- the atom of a symbol that is marked as kept (N_NO_DEAD_STRIP)
+unfoldable pub marked_root : SymbolTable → LoadedFile → ℕ × Symbol → Option AtomKey
+marked_root symbols file p =
+    if p.1.no_strip then (if p.1.external then winning_root symbols file p else symbol_atom file p) else None
+
+unfoldable pub kept_roots : SymbolTable → LoadedFile → List AtomKey
+kept_roots symbols file =
     filter_map (section_root file.object) file.atoms
-    ++ filter_map (marked_root known file) (enumerate_from 0 file.object.symbols)
+    ++ filter_map (marked_root symbols file) (enumerate_from 0 file.object.symbols)
 
 -- the atom in which a winner stands
 abbrev pub winner_atom : List Representative → Winner → AtomKey
 winner_atom literals winner = stands_for literals winner.atom
 
 -- that of a name's winner
-unfoldable pub name_root : Known → List ℕ → Option AtomKey
-name_root known name = option_map (winner_atom known.literals) (winner_named known.winners name)
+unfoldable pub name_root : SymbolTable → List ℕ → Option AtomKey
+name_root symbols name = option_map (winner_atom symbols.literals) (winner_named symbols.winners name)
 
 -- those of the entry of an executable, and of the names that the command wants
-unfoldable pub wanted_roots : Command → Known → List AtomKey
-wanted_roots command known =
-    (if command.dylib then [] else option_to_list (name_root known command.entry)) ++ filter_map (name_root known) command.roots
+unfoldable pub wanted_roots : Command → SymbolTable → List AtomKey
+wanted_roots command symbols =
+    (if command.dylib then [] else option_to_list (name_root symbols command.entry)) ++ filter_map (name_root symbols) command.roots
 
 -- the winners that other images see, of a library or where the command lists what is exported
-unfoldable pub exported_root : Known → Winner → Option AtomKey
-exported_root known winner = when winner.exported (winner_atom known.literals winner)
+unfoldable pub exported_root : SymbolTable → Winner → Option AtomKey
+exported_root symbols winner = when winner.exported (winner_atom symbols.literals winner)
 
-unfoldable pub exported_roots : Command → Known → List AtomKey
-exported_roots command known = if command.dylib || command.export_given then filter_map (exported_root known) known.winners else []
+unfoldable pub exported_roots : Command → SymbolTable → List AtomKey
+exported_roots command symbols = if command.dylib || command.export_given then filter_map (exported_root symbols) symbols.winners else []
 
 -- ---- all
 
-unfoldable pub roots : Command → Known → List LoadedFile → List AtomKey
-roots command known files =
+unfoldable pub roots : Command → SymbolTable → List LoadedFile → List AtomKey
+roots command symbols files =
     if command.dead_strip then
-    wanted_roots command known ++ exported_roots command known ++ flat_map (kept_roots known) files
-    else flat_map (plain_roots known) files
+    wanted_roots command symbols ++ exported_roots command symbols ++ flat_map (kept_roots symbols) files
+    else flat_map (plain_roots symbols) files

@@ -1,7 +1,8 @@
 //! Sets of atoms.
 ghost use Rattle.std.specs.Prelude.{◌≡◌, true, [], IfOk, if◌then◌else◌};
 ghost use Rattle.mo_types.specs.declared.key.AtomKey.{AtomKey as Key};
-ghost use Rattle.liveness.specs.Roots.{has_atom, same_atom};
+ghost use Rattle.mark_core.specs.Kept.{same_atom};
+ghost use Rattle.liveness.specs.Roots.{has_atom};
 
 use mo_types::{AtomKey, OutOfMemory};
 use std::alloc::Global;

@@ -1,12 +1,13 @@
 //! Where the symbols of a file lead, by the places of their goals in a pool.
-ghost use Rattle.std.specs.Prelude.{◌≡◌, slice_get, true};
+ghost use Rattle.std.specs.Prelude.{◌≡◌, ◌≤◌, IfOk, length, slice_get, true};
 ghost use Rattle.std.specs.Option.{option_and_then};
-ghost use Rattle.liveness.specs.inner.Away.{AreNone, ends_in};
+ghost use Rattle.liveness.specs.inner.Away.{AreNone, ended, ends_in};
 
-use mo_types::AtomKey;
+use mo_types::{AtomKey, OutOfMemory};
 use std::marker::Model;
 
-/// For each symbol of a file the atom to which it leads, where there is one that counts. Contracts see the list of these.
+/// For each symbol of a file the atom to which it leads, where there is one that counts. Contracts see the list of these. The
+/// pool may have fewer ends than goals: a place past its end leads nowhere.
 #[derive(Drop)]
 pub struct Ends<'a> {
     pool: &'a [Option<AtomKey>],
@@ -46,4 +47,24 @@ impl<'a> Ends<'a> {
         let place = self.places.get(index)?;
         *self.pool.get(*place as usize)?
     }
+}
+
+/// Ends of the goals of a pool before a place, and that of the goal there. Only one that leads somewhere is put; those that are
+/// missing before it lead nowhere.
+#[tactic(auto, using(crate::proofs::AwayLemmas::puts))]
+pub(crate) fn with_end(
+    before: Vec<Option<AtomKey>>,
+    at: usize,
+    end: Option<AtomKey>,
+) -> Result<Vec<Option<AtomKey>>, OutOfMemory>
+    requires { length before.items ≤ at }
+    ensures { IfOk result (λ new. new.items ≡ ended before.items at end) }
+{
+    let Some(atom) = end else {
+        return Ok(before);
+    };
+    let mut ends = before;
+    ends.resize(at, None)?;
+    ends.push(Some(atom))?;
+    Ok(ends)
 }

@@ -13,13 +13,16 @@ ghost use Rattle.liveness.specs.Undefined.{IsFirstLeast, least};
 /// An edge leads to the atom of its reference's goal: what the goals of a file's symbols give for a target is where the
 /// target leads.
 pub fn edges_lead_to_goals()
-    ensures { (files : List LoadedFile) (graph : LibraryGraph) (command : Command) (file : LoadedFile) (target : Target) → target_atom (representatives_of files) (goals_of_symbols files graph command file) target ≡ goal_atom (goal_of files graph command file target) }
+    ensures { (files : List LoadedFile) (graph : LibraryGraph) (command : Command) (file : LoadedFile) (target : Target)
+        → target_atom (representatives_of files) (goals_of_symbols files graph command file) target ≡ goal_atom (goal_of files graph command file target) }
 {}
 
 /// Edges and supports are those of each file, by the goals of its own symbols, file by file.
 pub fn edges_are_file_by_file()
-    ensures edges { (files : List LoadedFile) (graph : LibraryGraph) (command : Command) → edges files graph command ≡ flat_map (λ file. file_edges (representatives_of files) (goals_of_symbols files graph command file) file) files }
-    ensures supports { (files : List LoadedFile) (graph : LibraryGraph) (command : Command) → supports files graph command ≡ flat_map (λ file. file_supports (representatives_of files) (goals_of_symbols files graph command file) file) files }
+    ensures edges { (files : List LoadedFile) (graph : LibraryGraph) (command : Command)
+        → edges files graph command ≡ flat_map (λ file. file_edges (representatives_of files) (goals_of_symbols files graph command file) file) files }
+    ensures supports { (files : List LoadedFile) (graph : LibraryGraph) (command : Command)
+        → supports files graph command ≡ flat_map (λ file. file_supports (representatives_of files) (goals_of_symbols files graph command file) file) files }
 {}
 
 /// The name that is told is the first of the least ones, and none is told exactly where there is no name.

@@ -4,7 +4,7 @@ ghost use Rattle.std.specs.Prelude.{◌≡◌, ◌<◌, ◌++◌, fold, length};
 ghost use Rattle.std.specs.List.{list_any};
 ghost use Rattle.std.specs.List.Sorted.{IsStrictlySortedBy};
 ghost use Rattle.std.specs.Option.{option_copied, option_map};
-ghost use Rattle.resolve.specs.Table.{goals_in, goals_of};
+ghost use Rattle.resolve.specs.Table.{file_goals, goals_of};
 ghost use Rattle.mo_types.specs.Keys.{compare_keys};
 ghost use Rattle.liveness.specs.Undefined as spec;
 ghost use Rattle.liveness.specs.inner.Lost.{held, labelled, pairs_of};
@@ -38,7 +38,7 @@ fn has_nobody(goals: &[Goal]) -> bool
 // Whether the goal of a file's symbol is nowhere.
 #[tactic(auto, using(crate::proofs::NobodyLemmas::finds))]
 fn leads_nowhere(goals: &FileGoals) -> bool
-    ensures { result ≡ list_any spec.is_nobody (goals_in goals.now.pool goals.now.places) }
+    ensures { result ≡ list_any spec.is_nobody (file_goals goals.now) }
 {
     for index in 0..goals.places().len() {
         match goals.get(index) {
@@ -55,7 +55,7 @@ fn leads_nowhere(goals: &FileGoals) -> bool
 
 // The name to which a target goes, where it leads nowhere.
 fn lost_name<'a>(symbols: &'a [Symbol], goals: &FileGoals, target: Target) -> Option<&'a Bytes>
-    ensures { option_copied result ≡ spec.lost_name symbols.now (goals_in goals.now.pool goals.now.places) target }
+    ensures { option_copied result ≡ spec.lost_name symbols.now (file_goals goals.now) target }
 {
     let Target::Name(index) = target else {
         return None;
@@ -101,7 +101,8 @@ fn note_ref<'a>(
     goals: &FileGoals,
     reference: &Ref,
 ) -> Option<Lost<'a>>
-    ensures { option_map held result ≡ fold spec.lesser (option_map held least.entry) (labelled file.now (spec.lost_names file.now.object.symbols (goals_in goals.now.pool goals.now.places) reference.now)) }
+    ensures { option_map held result
+        ≡ fold spec.lesser (option_map held least.entry) (labelled file.now (spec.lost_names file.now.object.symbols (file_goals goals.now) reference.now)) }
 {
     let symbols = file.object.symbols.as_slice();
     let label = file.label.as_slice();
@@ -130,7 +131,7 @@ fn note_file<'a>(
     keys: &[AtomKey],
 ) -> Option<Lost<'a>>
     requires { IsStrictlySortedBy compare_keys keys.now }
-    ensures { option_map held result ≡ fold spec.lesser (option_map held least.entry) (spec.lost_in keys.now file.now (goals_in goals.now.pool goals.now.places)) }
+    ensures { option_map held result ≡ fold spec.lesser (option_map held least.entry) (spec.lost_in keys.now file.now (file_goals goals.now)) }
 {
     let mut found = least;
     let mut last = LastKept {
@@ -160,7 +161,7 @@ fn note_if_any<'a>(
     keys: &[AtomKey],
 ) -> Option<Lost<'a>>
     requires { IsStrictlySortedBy compare_keys keys.now }
-    ensures { option_map held result ≡ fold spec.lesser (option_map held least.entry) (spec.lost_in keys.now file.now (goals_in goals.now.pool goals.now.places)) }
+    ensures { option_map held result ≡ fold spec.lesser (option_map held least.entry) (spec.lost_in keys.now file.now (file_goals goals.now)) }
 {
     if leads_nowhere(goals) {
         note_file(least, file, goals, keys)

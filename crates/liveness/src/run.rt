@@ -1,9 +1,9 @@
 //! The references of one atom.
 
-ghost use Rattle.std.specs.Prelude.{◌≡◌, ◌≤◌, IsTrue, true, false, length, nat_le, nat_lt};
-ghost use Rattle.std.specs.List.Sorted.{IsPartitionPoint, IsSorted};
+ghost use Rattle.std.specs.Prelude.{◌≡◌, ◌≤◌, IsTrue, length};
+ghost use Rattle.std.specs.List.Sorted.{IsSorted};
 ghost use Rattle.liveness.specs.Order as spec;
-ghost use Rattle.liveness.specs.inner.Parted.{BeginsAt, EndsBefore};
+ghost use Rattle.liveness.specs.inner.Parted.{AreBefore, AreUpTo, BeginsAt, EndsBefore};
 
 use crate::order::place_of;
 use mo_types::RefList;
@@ -23,7 +23,7 @@ fn place_at(refs: &RefList, index: u32) -> u128
 fn count_before(refs: &RefList, order: &[u32], at: u128) -> usize
     requires { IsSorted (spec.compare_at refs.now) order.now }
     ensures bound { result ≤ length order.now }
-    ensures point { IsPartitionPoint (λ index. nat_lt (spec.place_at refs.now index) at ≡ true) (λ index. nat_lt (spec.place_at refs.now index) at ≡ false) order.now result }
+    ensures point { AreBefore refs.now order.now at result }
 {
     order.partition_point(|index| place_at(refs, *index) < at)
 }
@@ -53,7 +53,7 @@ fn begins_at(refs: &RefList, order: &[u32], near: usize, at: u128) -> bool
 fn count_before_near(refs: &RefList, order: &[u32], near: usize, at: u128) -> usize
     requires { IsSorted (spec.compare_at refs.now) order.now }
     ensures bound { result ≤ length order.now }
-    ensures point { IsPartitionPoint (λ index. nat_lt (spec.place_at refs.now index) at ≡ true) (λ index. nat_lt (spec.place_at refs.now index) at ≡ false) order.now result }
+    ensures point { AreBefore refs.now order.now at result }
 {
     if near <= order.len()
         && ends_before(refs, order, near, at)
@@ -68,10 +68,10 @@ fn count_before_near(refs: &RefList, order: &[u32], near: usize, at: u128) -> us
 fn end_of_run(refs: &RefList, order: &[u32], from: usize, at: u128) -> usize
     requires sorted { IsSorted (spec.compare_at refs.now) order.now }
     requires bound { from ≤ length order.now }
-    requires point { IsPartitionPoint (λ index. nat_lt (spec.place_at refs.now index) at ≡ true) (λ index. nat_lt (spec.place_at refs.now index) at ≡ false) order.now from }
+    requires point { AreBefore refs.now order.now at from }
     ensures from { from ≤ result }
     ensures bound { result ≤ length order.now }
-    ensures point { IsPartitionPoint (λ index. nat_le (spec.place_at refs.now index) at ≡ true) (λ index. nat_le (spec.place_at refs.now index) at ≡ false) order.now result }
+    ensures point { AreUpTo refs.now order.now at result }
 {
     for to in from..order.len() {
         if place_at(refs, order[to]) > at {

@@ -8,7 +8,7 @@ ghost use Rattle.liveness.specs.Roots as spec;
 
 use mo_types::{AtomKey, LoadedFile, OutOfMemory};
 use std::alloc::Global;
-use symbol_winners::{Winners, place_of};
+use symbol_winners::{SymbolTable, place_of};
 
 /// Atoms, and one more where there is one.
 pub(crate) fn with_atom(
@@ -38,14 +38,15 @@ pub(crate) fn symbol_atom(file: &LoadedFile, index: u32) -> Option<AtomKey>
 
 // Whether a file's external symbol of an index is the winner of its name, which has this number.
 #[tactic(auto, unfolding(crate::specs::Roots::wins))]
-fn wins(winners: &Winners, file: &LoadedFile, index: u32, number: u32) -> bool
+fn wins(symbols: &SymbolTable, file: &LoadedFile, index: u32, number: u32) -> bool
     requires whole { IsWholeFile file.now }
     requires index { index < length file.now.object.symbols }
-    requires number { (d : Declared) → number ≡ number_of winners.now.names (slice_index_or file.now.object.symbols index d) }
-    ensures { (d : Declared) → (slice_index_or file.now.object.symbols index d).external ≡ true → result ≡ spec.wins winners.now.winners file.now (index, slice_index_or file.now.object.symbols index d) }
+    requires number { (d : Declared) → number ≡ number_of symbols.now.names (slice_index_or file.now.object.symbols index d) }
+    ensures { (d : Declared) → (slice_index_or file.now.object.symbols index d).external ≡ true
+        → result ≡ spec.wins symbols.now.winners file.now (index, slice_index_or file.now.object.symbols index d) }
 {
     let symbol = &file.object.symbols.as_slice()[index as usize];
-    match winners.winner_numbered(number) {
+    match symbols.winner_numbered(number) {
         Some(winner) => winner.word == file.id.word_of(index, symbol),
         None => false,
     }
@@ -67,7 +68,7 @@ fn external_atom(file: &LoadedFile, index: u32) -> Option<AtomKey>
 
 // The atom in which a file's external symbol of an index stands, where it is the winner of its name, which has this number.
 fn won(
-    winners: &Winners,
+    symbols: &SymbolTable,
     file: &LoadedFile,
     index: u32,
     number: u32,
@@ -75,13 +76,13 @@ fn won(
 ) -> Option<AtomKey>
     requires whole { IsWholeFile file.now }
     requires index { index < length file.now.object.symbols }
-    requires number { (d : Declared) → number ≡ number_of winners.now.names (slice_index_or file.now.object.symbols index d) }
+    requires number { (d : Declared) → number ≡ number_of symbols.now.names (slice_index_or file.now.object.symbols index d) }
     requires atom { (d : Declared) → atom ≡ spec.external_atom file.now (index, slice_index_or file.now.object.symbols index d) }
-    ensures { (d : Declared) → result ≡ spec.winning_atom winners.now.winners file.now (index, slice_index_or file.now.object.symbols index d) }
+    ensures { (d : Declared) → result ≡ spec.winning_atom symbols.now.winners file.now (index, slice_index_or file.now.object.symbols index d) }
 {
     match atom {
         Some(atom) => {
-            if wins(winners, file, index, number) {
+            if wins(symbols, file, index, number) {
                 Some(atom)
             } else {
                 None
@@ -93,31 +94,31 @@ fn won(
 
 /// The atom in which a file's symbol of an index stands, where it is the winner of its name, which has this number.
 pub(crate) fn winning_atom(
-    winners: &Winners,
+    symbols: &SymbolTable,
     file: &LoadedFile,
     index: u32,
     number: u32,
 ) -> Option<AtomKey>
     requires whole { IsWholeFile file.now }
     requires index { index < length file.now.object.symbols }
-    requires number { (d : Declared) → number ≡ number_of winners.now.names (slice_index_or file.now.object.symbols index d) }
-    ensures { (d : Declared) → result ≡ spec.winning_atom winners.now.winners file.now (index, slice_index_or file.now.object.symbols index d) }
+    requires number { (d : Declared) → number ≡ number_of symbols.now.names (slice_index_or file.now.object.symbols index d) }
+    ensures { (d : Declared) → result ≡ spec.winning_atom symbols.now.winners file.now (index, slice_index_or file.now.object.symbols index d) }
 {
-    won(winners, file, index, number, external_atom(file, index))
+    won(symbols, file, index, number, external_atom(file, index))
 }
 
 /// The atoms of a file in which external symbols stand, one for each symbol, and those in which winners stand, one for each
 /// winner, by the numbers of the symbols' names.
 pub(crate) fn standing_atoms(
     alloc: Global,
-    winners: &Winners,
+    symbols: &SymbolTable,
     file: &LoadedFile,
     numbers: &[u32],
 ) -> Result<(Vec<AtomKey>, Vec<AtomKey>), OutOfMemory>
     requires whole { IsWholeFile file.now }
-    requires numbers { numbers.now ≡ numbers_in winners.now.names file.now }
+    requires numbers { numbers.now ≡ numbers_in symbols.now.names file.now }
     ensures external { IfOk result (λ atoms. atoms.0.items ≡ spec.external_atoms file.now) }
-    ensures winning { IfOk result (λ atoms. atoms.1.items ≡ spec.winning_atoms winners.now.winners file.now) }
+    ensures winning { IfOk result (λ atoms. atoms.1.items ≡ spec.winning_atoms symbols.now.winners file.now) }
 {
     let mut external = Vec::new(alloc);
     let mut winning = Vec::new(alloc);
@@ -125,7 +126,7 @@ pub(crate) fn standing_atoms(
         let index = at as u32;
         let atom = external_atom(file, index);
         external = with_atom(external, atom)?;
-        winning = with_atom(winning, won(winners, file, index, *number, atom))?;
+        winning = with_atom(winning, won(symbols, file, index, *number, atom))?;
     }
     Ok((external, winning))
 }

@@ -1,12 +1,10 @@
 //! The atoms from which all that is kept is reached.
 ghost use Rattle.std.specs.Prelude.{◌≡◌, ◌++◌, ◌<◌, IfOk, All, List, length, slice_index_or};
 ghost use Rattle.std.specs.List.{enumerate_from, filter_map, flat_map};
-ghost use Rattle.std.specs.Option.{option_map};
 ghost use Rattle.mo_types.specs.Loaded.{IsWholeFile, IsWholeLoaded};
 ghost use Rattle.mo_types.specs.declared.atom.Atom.{Atom as Cut};
 ghost use Rattle.mo_types.specs.declared.object.Symbol.{Symbol as Declared};
 ghost use Rattle.name_ids.specs.Names.{number_of, numbers_in, numbers_of};
-ghost use Rattle.literal_merge.specs.Standing.{stands_for};
 ghost use Rattle.liveness.specs.Roots as spec;
 ghost use Rattle.literal_merge.specs.declared.representative.Representative.{Representative as Standing};
 
@@ -20,20 +18,20 @@ use mo_types::{
 };
 use name_ids::NumberList;
 use std::alloc::Global;
-use symbol_winners::{Winner, Winners};
+use symbol_winners::{SymbolTable, Winner};
 
 // An atom of a file that is kept by itself, by the atoms in which external symbols and winners stand.
 #[tactic(auto, unfolding(crate::specs::Roots::plain_root))]
 fn plain_root(
-    winners: &Winners,
+    symbols: &SymbolTable,
     external: &AtomSet,
     winning: &AtomSet,
     atom: &Atom,
 ) -> Option<AtomKey>
-    ensures { result ≡ spec.plain_root winners.now.literals external.now winning.now atom.now }
+    ensures { result ≡ spec.plain_root symbols.now.literals external.now winning.now atom.now }
 {
     let key = atom.key;
-    if winners.representative(key) == key && (!external.contains(key) || winning.contains(key)) {
+    if symbols.representative(key) == key && (!external.contains(key) || winning.contains(key)) {
         Some(key)
     } else {
         None
@@ -43,16 +41,16 @@ fn plain_root(
 // Roots, and those of some atoms that are kept by themselves.
 fn with_plain(
     before: Vec<AtomKey>,
-    winners: &Winners,
+    symbols: &SymbolTable,
     external: &AtomSet,
     winning: &AtomSet,
     atoms: &[Atom],
 ) -> Result<Vec<AtomKey>, OutOfMemory>
-    ensures { IfOk result (λ new. new.items ≡ before.items ++ filter_map (spec.plain_root winners.now.literals external.now winning.now) atoms.now) }
+    ensures { IfOk result (λ new. new.items ≡ before.items ++ filter_map (spec.plain_root symbols.now.literals external.now winning.now) atoms.now) }
 {
     let mut roots = before;
     for atom in atoms {
-        roots = with_atom(roots, plain_root(winners, external, winning, atom))?;
+        roots = with_atom(roots, plain_root(symbols, external, winning, atom))?;
     }
     Ok(roots)
 }
@@ -89,7 +87,8 @@ fn sets_of(
     winning: &[AtomKey],
 ) -> Result<(AtomSet, AtomSet), OutOfMemory>
     requires { length external.now ≡ length winning.now → external.now ≡ winning.now }
-    ensures { IfOk result (λ sets. (literals : List Standing) (atom : Cut) → spec.plain_root literals sets.0 sets.1 atom ≡ spec.plain_root literals external.now winning.now atom) }
+    ensures { IfOk result (λ sets. (literals : List Standing) (atom : Cut)
+        → spec.plain_root literals sets.0 sets.1 atom ≡ spec.plain_root literals external.now winning.now atom) }
 {
     if external.len() == winning.len() {
         return Ok((AtomSet::new(alloc), AtomSet::new(alloc)));
@@ -104,18 +103,18 @@ fn sets_of(
 fn with_plain_roots(
     alloc: Global,
     before: Vec<AtomKey>,
-    winners: &Winners,
+    symbols: &SymbolTable,
     file: &LoadedFile,
     numbers: &[u32],
 ) -> Result<Vec<AtomKey>, OutOfMemory>
     requires whole { IsWholeFile file.now }
-    requires numbers { numbers.now ≡ numbers_in winners.now.names file.now }
-    ensures { IfOk result (λ new. new.items ≡ before.items ++ spec.plain_roots winners.now file.now) }
+    requires numbers { numbers.now ≡ numbers_in symbols.now.names file.now }
+    ensures { IfOk result (λ new. new.items ≡ before.items ++ spec.plain_roots symbols.now file.now) }
 {
-    let (external, winning) = standing_atoms(alloc, winners, file, numbers)?;
+    let (external, winning) = standing_atoms(alloc, symbols, file, numbers)?;
     let (all, taken_in) = sets_of(alloc, external.as_slice(), winning.as_slice())?;
     let atoms = file.atoms.as_slice();
-    let roots = with_plain(before, winners, &all, &taken_in, atoms)?;
+    let roots = with_plain(before, symbols, &all, &taken_in, atoms)?;
     Ok(with_commons(roots, winning.as_slice())?)
 }
 
@@ -159,32 +158,37 @@ fn with_sections(
 }
 
 // The atom of a symbol that is marked as kept and wins, in the literal that stands for its own.
-fn winning_root(winners: &Winners, file: &LoadedFile, index: u32, number: u32) -> Option<AtomKey>
+fn winning_root(
+    symbols: &SymbolTable,
+    file: &LoadedFile,
+    index: u32,
+    number: u32,
+) -> Option<AtomKey>
     requires whole { IsWholeFile file.now }
     requires index { index < length file.now.object.symbols }
-    requires number { (d : Declared) → number ≡ number_of winners.now.names (slice_index_or file.now.object.symbols index d) }
-    ensures { (d : Declared) → result ≡ option_map (stands_for winners.now.literals) (spec.winning_atom winners.now.winners file.now (index, slice_index_or file.now.object.symbols index d)) }
+    requires number { (d : Declared) → number ≡ number_of symbols.now.names (slice_index_or file.now.object.symbols index d) }
+    ensures { (d : Declared) → result ≡ spec.winning_root symbols.now file.now (index, slice_index_or file.now.object.symbols index d) }
 {
-    match winning_atom(winners, file, index, number) {
-        Some(atom) => Some(winners.representative(atom)),
+    match winning_atom(symbols, file, index, number) {
+        Some(atom) => Some(symbols.representative(atom)),
         None => None,
     }
 }
 
 // The atom of a symbol that is marked as kept, whose name has this number.
 #[tactic(auto, unfolding(crate::specs::Roots::marked_root))]
-fn marked_root(winners: &Winners, file: &LoadedFile, index: u32, number: u32) -> Option<AtomKey>
+fn marked_root(symbols: &SymbolTable, file: &LoadedFile, index: u32, number: u32) -> Option<AtomKey>
     requires whole { IsWholeFile file.now }
     requires index { index < length file.now.object.symbols }
-    requires number { (d : Declared) → number ≡ number_of winners.now.names (slice_index_or file.now.object.symbols index d) }
-    ensures { (d : Declared) → result ≡ spec.marked_root winners.now file.now (index, slice_index_or file.now.object.symbols index d) }
+    requires number { (d : Declared) → number ≡ number_of symbols.now.names (slice_index_or file.now.object.symbols index d) }
+    ensures { (d : Declared) → result ≡ spec.marked_root symbols.now file.now (index, slice_index_or file.now.object.symbols index d) }
 {
     let symbol = &file.object.symbols.as_slice()[index as usize];
     if !symbol.no_strip {
         return None;
     }
     if symbol.external {
-        winning_root(winners, file, index, number)
+        winning_root(symbols, file, index, number)
     } else {
         symbol_atom(file, index)
     }
@@ -193,17 +197,17 @@ fn marked_root(winners: &Winners, file: &LoadedFile, index: u32, number: u32) ->
 // Roots, and the atoms of a file's symbols that are marked as kept, whose names have these numbers.
 fn with_marked(
     before: Vec<AtomKey>,
-    winners: &Winners,
+    symbols: &SymbolTable,
     file: &LoadedFile,
     numbers: &[u32],
 ) -> Result<Vec<AtomKey>, OutOfMemory>
     requires whole { IsWholeFile file.now }
-    requires numbers { numbers.now ≡ numbers_in winners.now.names file.now }
-    ensures { IfOk result (λ new. new.items ≡ before.items ++ filter_map (spec.marked_root winners.now file.now) (enumerate_from 0 file.now.object.symbols)) }
+    requires numbers { numbers.now ≡ numbers_in symbols.now.names file.now }
+    ensures { IfOk result (λ new. new.items ≡ before.items ++ filter_map (spec.marked_root symbols.now file.now) (enumerate_from 0 file.now.object.symbols)) }
 {
     let mut roots = before;
     for (index, number) in numbers.iter().enumerate() {
-        roots = with_atom(roots, marked_root(winners, file, index as u32, *number))?;
+        roots = with_atom(roots, marked_root(symbols, file, index as u32, *number))?;
     }
     Ok(roots)
 }
@@ -212,25 +216,25 @@ fn with_marked(
 #[tactic(auto, unfolding(crate::specs::Roots::kept_roots))]
 fn with_kept_roots(
     before: Vec<AtomKey>,
-    winners: &Winners,
+    symbols: &SymbolTable,
     file: &LoadedFile,
     numbers: &[u32],
 ) -> Result<Vec<AtomKey>, OutOfMemory>
     requires whole { IsWholeFile file.now }
-    requires numbers { numbers.now ≡ numbers_in winners.now.names file.now }
-    ensures { IfOk result (λ new. new.items ≡ before.items ++ spec.kept_roots winners.now file.now) }
+    requires numbers { numbers.now ≡ numbers_in symbols.now.names file.now }
+    ensures { IfOk result (λ new. new.items ≡ before.items ++ spec.kept_roots symbols.now file.now) }
 {
     let roots = with_sections(before, &file.object, file.atoms.as_slice())?;
-    with_marked(roots, winners, file, numbers)
+    with_marked(roots, symbols, file, numbers)
 }
 
 // The atom in which the winner of a name stands.
 #[tactic(auto, unfolding(crate::specs::Roots::name_root))]
-fn name_root(winners: &Winners, name: &Bytes) -> Option<AtomKey>
-    ensures { result ≡ spec.name_root winners.now name.now }
+fn name_root(symbols: &SymbolTable, name: &Bytes) -> Option<AtomKey>
+    ensures { result ≡ spec.name_root symbols.now name.now }
 {
-    match winners.winner(name.as_slice()) {
-        Some(winner) => Some(winners.representative(winner.atom)),
+    match symbols.winner(name.as_slice()) {
+        Some(winner) => Some(symbols.representative(winner.atom)),
         None => None,
     }
 }
@@ -238,14 +242,14 @@ fn name_root(winners: &Winners, name: &Bytes) -> Option<AtomKey>
 // Roots, and those of some names.
 fn with_names(
     before: Vec<AtomKey>,
-    winners: &Winners,
+    symbols: &SymbolTable,
     names: &[Bytes],
 ) -> Result<Vec<AtomKey>, OutOfMemory>
-    ensures { IfOk result (λ new. new.items ≡ before.items ++ filter_map (spec.name_root winners.now) names.now) }
+    ensures { IfOk result (λ new. new.items ≡ before.items ++ filter_map (spec.name_root symbols.now) names.now) }
 {
     let mut roots = before;
     for name in names {
-        roots = with_atom(roots, name_root(winners, name))?;
+        roots = with_atom(roots, name_root(symbols, name))?;
     }
     Ok(roots)
 }
@@ -254,27 +258,27 @@ fn with_names(
 #[tactic(auto, unfolding(crate::specs::Roots::wanted_roots))]
 fn wanted_roots(
     alloc: Global,
-    winners: &Winners,
+    symbols: &SymbolTable,
     command: &Command,
 ) -> Result<Vec<AtomKey>, OutOfMemory>
-    ensures { IfOk result (λ list. list.items ≡ spec.wanted_roots command.now winners.now) }
+    ensures { IfOk result (λ list. list.items ≡ spec.wanted_roots command.now symbols.now) }
 {
     let entry = if command.dylib {
         None
     } else {
-        name_root(winners, &command.entry)
+        name_root(symbols, &command.entry)
     };
     let roots = with_atom(Vec::new(alloc), entry)?;
-    with_names(roots, winners, command.roots.as_slice())
+    with_names(roots, symbols, command.roots.as_slice())
 }
 
 // The atom of a winner that other images see.
 #[tactic(auto, unfolding(crate::specs::Roots::exported_root))]
-fn exported_root(winners: &Winners, winner: &Winner) -> Option<AtomKey>
-    ensures { result ≡ spec.exported_root winners.now winner.now }
+fn exported_root(symbols: &SymbolTable, winner: &Winner) -> Option<AtomKey>
+    ensures { result ≡ spec.exported_root symbols.now winner.now }
 {
     if winner.exported {
-        Some(winners.representative(winner.atom))
+        Some(symbols.representative(winner.atom))
     } else {
         None
     }
@@ -284,14 +288,14 @@ fn exported_root(winners: &Winners, winner: &Winner) -> Option<AtomKey>
 #[tactic(auto, unfolding(crate::specs::Roots::exported_roots))]
 fn with_exported(
     before: Vec<AtomKey>,
-    winners: &Winners,
+    symbols: &SymbolTable,
     list: &[Winner],
 ) -> Result<Vec<AtomKey>, OutOfMemory>
-    ensures { IfOk result (λ new. new.items ≡ before.items ++ filter_map (spec.exported_root winners.now) list.now) }
+    ensures { IfOk result (λ new. new.items ≡ before.items ++ filter_map (spec.exported_root symbols.now) list.now) }
 {
     let mut roots = before;
     for winner in list {
-        roots = with_atom(roots, exported_root(winners, winner))?;
+        roots = with_atom(roots, exported_root(symbols, winner))?;
     }
     Ok(roots)
 }
@@ -300,13 +304,13 @@ fn with_exported(
 #[tactic(auto, unfolding(crate::specs::Roots::exported_roots))]
 fn with_exports(
     before: Vec<AtomKey>,
-    winners: &Winners,
+    symbols: &SymbolTable,
     command: &Command,
 ) -> Result<Vec<AtomKey>, OutOfMemory>
-    ensures { IfOk result (λ new. new.items ≡ before.items ++ spec.exported_roots command.now winners.now) }
+    ensures { IfOk result (λ new. new.items ≡ before.items ++ spec.exported_roots command.now symbols.now) }
 {
     if command.dylib || command.export_given {
-        with_exported(before, winners, winners.winners())
+        with_exported(before, symbols, symbols.winners())
     } else {
         Ok(before)
     }
@@ -315,17 +319,17 @@ fn with_exports(
 // Roots, and those that files have by themselves where what isn't reached is stripped.
 fn with_all_kept(
     before: Vec<AtomKey>,
-    winners: &Winners,
+    symbols: &SymbolTable,
     files: &[LoadedFile],
     numbers: &[NumberList],
 ) -> Result<Vec<AtomKey>, OutOfMemory>
     requires whole { All IsWholeFile files.now }
-    requires numbers { numbers.now ≡ numbers_of winners.now.names files.now }
-    ensures { IfOk result (λ new. new.items ≡ before.items ++ flat_map (spec.kept_roots winners.now) files.now) }
+    requires numbers { numbers.now ≡ numbers_of symbols.now.names files.now }
+    ensures { IfOk result (λ new. new.items ≡ before.items ++ flat_map (spec.kept_roots symbols.now) files.now) }
 {
     let mut roots = before;
     for (at, file) in files.iter().enumerate() {
-        roots = with_kept_roots(roots, winners, file, numbers[at].as_slice())?;
+        roots = with_kept_roots(roots, symbols, file, numbers[at].as_slice())?;
     }
     Ok(roots)
 }
@@ -333,17 +337,17 @@ fn with_all_kept(
 // The roots of files where nothing is stripped.
 fn all_plain(
     alloc: Global,
-    winners: &Winners,
+    symbols: &SymbolTable,
     files: &[LoadedFile],
     numbers: &[NumberList],
 ) -> Result<Vec<AtomKey>, OutOfMemory>
     requires whole { All IsWholeFile files.now }
-    requires numbers { numbers.now ≡ numbers_of winners.now.names files.now }
-    ensures { IfOk result (λ list. list.items ≡ flat_map (spec.plain_roots winners.now) files.now) }
+    requires numbers { numbers.now ≡ numbers_of symbols.now.names files.now }
+    ensures { IfOk result (λ list. list.items ≡ flat_map (spec.plain_roots symbols.now) files.now) }
 {
     let mut roots = Vec::new(alloc);
     for (at, file) in files.iter().enumerate() {
-        roots = with_plain_roots(alloc, roots, winners, file, numbers[at].as_slice())?;
+        roots = with_plain_roots(alloc, roots, symbols, file, numbers[at].as_slice())?;
     }
     Ok(roots)
 }
@@ -358,20 +362,20 @@ fn all_plain(
 pub fn roots(
     alloc: Global,
     loaded: &Loaded,
-    winners: &Winners,
+    symbols: &SymbolTable,
     numbers: &Items<NumberList>,
     command: &Command,
 ) -> Result<KeyList, OutOfMemory>
     requires whole { IsWholeLoaded loaded.now }
-    requires numbers { numbers.now ≡ numbers_of winners.now.names loaded.now.files }
-    ensures { IfOk result (λ list. list ≡ spec.roots command.now winners.now loaded.now.files) }
+    requires numbers { numbers.now ≡ numbers_of symbols.now.names loaded.now.files }
+    ensures { IfOk result (λ list. list ≡ spec.roots command.now symbols.now loaded.now.files) }
 {
     let files = loaded.files.as_slice();
     let numbers = numbers.as_slice();
     if !command.dead_strip {
-        return Ok(Items::from_vec(all_plain(alloc, winners, files, numbers)?));
+        return Ok(Items::from_vec(all_plain(alloc, symbols, files, numbers)?));
     }
-    let wanted = wanted_roots(alloc, winners, command)?;
-    let exported = with_exports(wanted, winners, command)?;
-    Ok(Items::from_vec(with_all_kept(exported, winners, files, numbers)?))
+    let wanted = wanted_roots(alloc, symbols, command)?;
+    let exported = with_exports(wanted, symbols, command)?;
+    Ok(Items::from_vec(with_all_kept(exported, symbols, files, numbers)?))
 }

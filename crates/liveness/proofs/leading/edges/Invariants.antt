@@ -8,6 +8,6 @@ use Rattle.liveness.proofs.leading.edges.Given as goal
 
 abbrev pub invariant-loop-at : goal.invariant-loop-at
 invariant-loop-at l = record {
-  edges : IsGrowing (λ p. filter (leads_away l.roots) (edges_at l.winners.literals (goals_of l.goals) p)) [] l.edges.items (enumerate_from 0 l.files) l.at;
-  supports : IsGrowing (λ p. filter (begins_away l.roots) (supports_at l.winners.literals (goals_of l.goals) p)) [] l.supports.items (enumerate_from 0 l.files) l.at;
+  edges : IsGrowing (λ p. filter (leads_away l.roots) (edges_at l.symbols.literals (goals_of l.goals) p)) [] l.edges.items (enumerate_from 0 l.files) l.at;
+  supports : IsGrowing (λ p. filter (begins_away l.roots) (supports_at l.symbols.literals (goals_of l.goals) p)) [] l.supports.items (enumerate_from 0 l.files) l.at;
 }

@@ -7,5 +7,5 @@ use Rattle.liveness.proofs.leading.with_supports.Goals as goal
 
 pub loop-at-preserved : goal.loop-at-preserved
 loop-at-preserved c =
-    grow_at (λ ref. filter (begins_away c.args.roots.now) (ref_supports c.args.winners.now.literals (goals_in c.args.goals.now.pool c.args.goals.now.places) c.args.object.now ref)) c.args.before.items c.loop-at.edges.items c.in_ok-edges.edges.items c.args.refs.now c.loop-at.at c.loop-at.invariant
+    grow_at (λ ref. filter (begins_away c.args.roots.now) (ref_supports c.args.symbols.now.literals (goals_in c.args.goals.now.pool c.args.goals.now.places) c.args.object.now ref)) c.args.before.items c.loop-at.edges.items c.in_ok-edges.edges.items c.args.refs.now c.loop-at.at c.loop-at.invariant
     c.in_ok-edges.ensures

@@ -7,4 +7,4 @@ use Rattle.liveness.proofs.standing.standing_atoms.Given as goal
 abbrev pub invariant-loop-at : goal.invariant-loop-at
 invariant-loop-at l =
     IsPicking (external_atom l.file) [] l.external.items (enumerate_from 0 l.file.object.symbols) l.at
-    × IsPicking (winning_atom l.winners.winners l.file) [] l.winning.items (enumerate_from 0 l.file.object.symbols) l.at
+    × IsPicking (winning_atom l.symbols.winners l.file) [] l.winning.items (enumerate_from 0 l.file.object.symbols) l.at

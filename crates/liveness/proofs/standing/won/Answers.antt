@@ -5,13 +5,13 @@ use Rattle.liveness.proofs.standing.won.Goals as goal
 
 pub returns-then-wins : goal.returns-then-wins
 returns-then-wins c = λ d.
-    winner_stands c.args.winners.now.winners c.args.file.now (c.args.index, slice_index_or c.args.file.now.object.symbols c.args.index d) c.in-Some.atom true
+    winner_stands c.args.symbols.now.winners c.args.file.now (c.args.index, slice_index_or c.args.file.now.object.symbols c.args.index d) c.in-Some.atom true
     (sym c.in-Some.is ∙ c.requires.atom d) (λ external. sym c.if-wins.true ∙ c.wins.ensures d external)
 
 pub returns-else-wins : goal.returns-else-wins
 returns-else-wins c = λ d.
-    winner_stands c.args.winners.now.winners c.args.file.now (c.args.index, slice_index_or c.args.file.now.object.symbols c.args.index d) c.in-Some.atom false
+    winner_stands c.args.symbols.now.winners c.args.file.now (c.args.index, slice_index_or c.args.file.now.object.symbols c.args.index d) c.in-Some.atom false
     (sym c.in-Some.is ∙ c.requires.atom d) (λ external. sym c.if-wins.false ∙ c.wins.ensures d external)
 
 pub returns-in-None : goal.returns-in-None
-returns-in-None c = λ d. no_winner c.args.winners.now.winners c.args.file.now (c.args.index, slice_index_or c.args.file.now.object.symbols c.args.index d) (sym c.in-None.is ∙ c.requires.atom d)
+returns-in-None c = λ d. no_winner c.args.symbols.now.winners c.args.file.now (c.args.index, slice_index_or c.args.file.now.object.symbols c.args.index d) (sym c.in-None.is ∙ c.requires.atom d)

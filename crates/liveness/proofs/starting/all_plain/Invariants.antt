@@ -4,4 +4,4 @@ use Rattle.liveness.proofs.GrowLemmas.{IsGrowing}
 use Rattle.liveness.proofs.starting.all_plain.Given as goal
 
 abbrev pub invariant-loop-at : goal.invariant-loop-at
-invariant-loop-at l = IsGrowing (plain_roots l.winners) [] l.roots.items l.files l.at
+invariant-loop-at l = IsGrowing (plain_roots l.symbols) [] l.roots.items l.files l.at

@@ -5,18 +5,18 @@ use Rattle.symbol_winners.proofs.NumberedLemmas.{as_many_lists, numbers_there}
 use Rattle.liveness.proofs.starting.with_all_kept.Goals as goal
 
 pub bounds-numbers-at : goal.bounds-numbers-at
-bounds-numbers-at c = as_many_lists c.args.winners.now.names c.args.files.now c.args.files.now c.args.numbers.now c.loop-at.at c.requires.numbers refl c.loop-at-test.true
+bounds-numbers-at c = as_many_lists c.args.symbols.now.names c.args.files.now c.args.files.now c.args.numbers.now c.loop-at.at c.requires.numbers refl c.loop-at-test.true
 
 pub with_kept_roots-requires-clause-whole : goal.with_kept_roots-requires-clause-whole
 with_kept_roots-requires-clause-whole c = whole_at c.args.files.now c.loop-at.at c.index-files-at.result c.requires.whole c.loop-at-test.true c.index-files-at.is
 
 pub with_kept_roots-requires-clause-numbers : goal.with_kept_roots-requires-clause-numbers
 with_kept_roots-requires-clause-numbers c =
-    numbers_there c.args.winners.now.names c.args.files.now c.args.files.now c.args.numbers.now c.loop-at.at c.index-files-at.result c.as_slice.result.now c.index-numbers-at.result
+    numbers_there c.args.symbols.now.names c.args.files.now c.args.files.now c.args.numbers.now c.loop-at.at c.index-files-at.result c.as_slice.result.now c.index-numbers-at.result
     c.requires.numbers refl c.loop-at-test.true c.index-files-at.is (c.as_slice.ensures ∙ c.index-numbers-at.is)
 
 pub loop-at-preserved : goal.loop-at-preserved
-loop-at-preserved c = grow_item (kept_roots c.args.winners.now) c.args.before.items c.loop-at.roots.items c.in_ok-roots.roots.items c.args.files.now c.loop-at.at c.index-files-at.result c.index-files-at.result c.loop-at.invariant c.loop-at-test.true c.index-files-at.is c.in_ok-roots.ensures
+loop-at-preserved c = grow_item (kept_roots c.args.symbols.now) c.args.before.items c.loop-at.roots.items c.in_ok-roots.roots.items c.args.files.now c.loop-at.at c.index-files-at.result c.index-files-at.result c.loop-at.invariant c.loop-at-test.true c.index-files-at.is c.in_ok-roots.ensures
 
 pub returns : goal.returns
-returns c = grow_end (kept_roots c.args.winners.now) c.args.before.items c.loop-at.roots.items c.args.files.now c.loop-at.at c.loop-at.invariant c.loop-at-test.false
+returns c = grow_end (kept_roots c.args.symbols.now) c.args.before.items c.loop-at.roots.items c.args.files.now c.loop-at.at c.loop-at.invariant c.loop-at-test.false

@@ -3,4 +3,4 @@ use Rattle.liveness.proofs.GrowLemmas.{IsGrowing}
 use Rattle.liveness.proofs.starting.with_all_kept.Given as goal
 
 abbrev pub invariant-loop-at : goal.invariant-loop-at
-invariant-loop-at l = IsGrowing (kept_roots l.winners) l.fn.before.items l.roots.items l.files l.at
+invariant-loop-at l = IsGrowing (kept_roots l.symbols) l.fn.before.items l.roots.items l.files l.at

@@ -3,7 +3,7 @@ use Rattle.symbol_winners.proofs.PickLemmas.{pick_end, pick_item}
 use Rattle.liveness.proofs.starting.with_exported.Goals as goal
 
 pub loop-winner-preserved : goal.loop-winner-preserved
-loop-winner-preserved c = pick_item (exported_root c.args.winners.now) c.args.before.items c.loop-winner.roots.items c.in_ok-roots.roots.items c.args.list.now c.loop-winner.winner-index c.winner-item.result c.exported_root.result c.loop-winner.invariant c.loop-winner-test.true c.winner-item.is c.exported_root.ensures c.in_ok-roots.ensures
+loop-winner-preserved c = pick_item (exported_root c.args.symbols.now) c.args.before.items c.loop-winner.roots.items c.in_ok-roots.roots.items c.args.list.now c.loop-winner.winner-index c.winner-item.result c.exported_root.result c.loop-winner.invariant c.loop-winner-test.true c.winner-item.is c.exported_root.ensures c.in_ok-roots.ensures
 
 pub returns : goal.returns
-returns c = pick_end (exported_root c.args.winners.now) c.args.before.items c.loop-winner.roots.items c.args.list.now c.loop-winner.winner-index c.loop-winner.invariant c.loop-winner-test.false
+returns c = pick_end (exported_root c.args.symbols.now) c.args.before.items c.loop-winner.roots.items c.args.list.now c.loop-winner.winner-index c.loop-winner.invariant c.loop-winner-test.false

@@ -1,7 +1,8 @@
 use Rattle.std.proofs.Common.{List, true, ap, ◌∙◌}
 use Rattle.std.specs.Prelude.{if◌then◌else◌}
 use Rattle.mo_types.specs.declared.key.AtomKey.{AtomKey}
-use Rattle.liveness.specs.Roots.{has_atom, same_atom}
+use Rattle.mark_core.specs.Kept.{same_atom}
+use Rattle.liveness.specs.Roots.{has_atom}
 use Rattle.liveness.proofs.atom_set.AtomSet.with.Goals as goal
 
 pub returns : goal.returns
