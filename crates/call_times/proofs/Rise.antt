@@ -1,17 +1,20 @@
 -- Lists whose neighbours rise.
-use Rattle.std.proofs.Common.{◌≡◌, ℕ, ◌-◌, ◌<◌, ◌≤◌, List, length, get_or, ap, sym, ◌∙◌, arith}
+use Rattle.std.proofs.Common.{◌≡◌, ◌≢◌, ℕ, ◌-◌, ◌<◌, ◌≤◌, List, length, get_or, ap, sym, subst, ◌∙◌, arith}
 use Rattle.std.specs.List.{AllAdjacentBelow, AllPairs}
 use Rattle.std.specs.Ordering.{on}
 use Rattle.std.specs.declared.cmp.Ordering.{Ordering}
-use Rattle.std.specs.declared.cmp.Ordering.TheVariants.{Less}
-use Rattle.std.proofs.lemmas.Cmp.{on_total, nat_cmp_total, then_total}
+use Rattle.std.specs.declared.cmp.Ordering.TheVariants.{Less, Equal}
+use Rattle.std.proofs.lemmas.Cmp.{on_total, nat_cmp_total, then_total, tied_itself}
 use Rattle.std.proofs.lemmas.List.{get_or_default}
 use Rattle.list_lemmas.proofs.Rising.{rising_at}
-use Rattle.mo_types.specs.Keys.{compare_files}
+use Rattle.mo_types.specs.Keys.{compare_files, compare_keys}
 use Rattle.mo_types.specs.Loaded.{IsBefore}
+use Rattle.mo_types.specs.declared.key.AtomKey.{AtomKey}
 use Rattle.mo_types.specs.declared.key.FileId.{FileId}
 use Rattle.mo_types.specs.declared.loaded.LoadedFile.{LoadedFile}
-use Rattle.atom_index.proofs.Keys.{rises}
+use Rattle.mo_types.proofs.KeyOrder.{compare_keys_total}
+use Rattle.sect_place.specs.declared.layout.Placed.{Placed}
+use Rattle.atom_index.proofs.Keys.{rises, rises_from}
 
 pub apart : {X : Type 0} (R : X → X → Ordering) (xs : List X) (i : ℕ) (a b d : X) → 1 ≤ i → i < length xs → Less ≡ R (get_or xs (i - 1) a) (get_or xs i b) → R (get_or xs (i - 1) d) (get_or xs i d) ≡ Less
 apart {X = X} R xs i a b d low high less =
@@ -23,3 +26,11 @@ pub files_before : (files : List LoadedFile) (i : ℕ) → AllAdjacentBelow (λ 
 files_before files i h past = λ j k d low high.
     rising_at (on (λ (file : LoadedFile). file.id) compare_files) files j k d
     (rises (on_total (λ (file : LoadedFile). file.id) (then_total (on_total (λ (id : FileId). id.position) nat_cmp_total) (on_total (λ (id : FileId). id.member) nat_cmp_total))) files (λ n e within. h n e (omega arith))) low high
+
+pub once : (placed : List Placed) (i : ℕ) → AllAdjacentBelow (λ (a : Placed) (b : Placed). compare_keys a.atom b.atom ≡ Less) placed i → length placed ≤ i → AllPairs (λ (p : Placed) (q : Placed). p.atom ≢ q.atom) placed
+once placed i h past = λ j k d low high same.
+    let less : compare_keys (get_or placed j d).atom (get_or placed k d).atom ≡ Less =
+    rising_at (on (λ (p : Placed). p.atom) compare_keys) placed j k d (rises_from (λ (p : Placed). p.atom) placed i h past) low high in
+    let tied : compare_keys (get_or placed k d).atom (get_or placed k d).atom ≡ Equal = tied_itself compare_keys_total (get_or placed k d).atom in
+    let here : compare_keys (get_or placed k d).atom (get_or placed k d).atom ≡ Less = subst (λ (a : AtomKey). compare_keys a (get_or placed k d).atom ≡ Less) same less in
+    cc

@@ -1,7 +1,7 @@
 //! Atoms with a branch each, which workers write into an image.
 use crate::objects::{BASE, Input, code_of, met_at, part_of, work_at};
 use anyhow::{Result, bail};
-use image_join::fill;
+use image_join::{PlacedAtoms, fill};
 use mo_outside::FreeGate;
 use mo_types::{Bytes, OutOfMemory, RefKind};
 use patch::{Meeting, Met, PlacedWork, work_stands};
@@ -94,17 +94,12 @@ fn filled<T: Threads + Sync>(
     }
     let branches = Branches { mets };
     let start = Instant::now(rt)?;
-    let fault = fill(
-        threads,
-        rt.alloc(),
-        &FreeGate,
-        workers,
-        image,
+    let atoms = PlacedAtoms {
         work,
-        &input.loaded,
-        &branches,
-    )
-    .is_err();
+        loaded: &input.loaded,
+        meeting: &branches,
+    };
+    let fault = fill(threads, rt.alloc(), &FreeGate, workers, image, &atoms).is_err();
     let took = start.elapsed(rt)?;
     if fault {
         bail!("a branch doesn't reach");

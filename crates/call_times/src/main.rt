@@ -15,6 +15,10 @@
 //! - `unwind FUNCTIONS ENCODINGS EACH`: functions with so many encodings, each of which so many in a row have, whose section
 //!   `unwind_out` sizes and writes
 //! - `section PATH FUNCTIONS ENCODINGS EACH`: the same, and the section goes to a file
+//! - `pointers COUNT NAMES ATOMS`: so many pointers, every second of which is bound to one of so many names, and the others
+//!   lead to so many atoms
+//! - `chains COUNT NAMES ATOMS`: the same, whose chains `fixup_chain::encode` gives
+//! - `imports COUNT`: pointers with so many imports, the first of which can't be on a chain
 //! - `providers LIBRARIES NAMES`: 100,000 names looked up in them by `lib_bind::provider_of`
 //! - `image PATH ADDRESS COUNT`: so many pointers of an image, read by `image_read::fixup_at`
 //! - `yaml PATH TIMES`: the text of a stub library, read so often by `tbd_yaml::read_yaml`
@@ -23,11 +27,12 @@
 //! - `object PATH COUNT NUMBER`: one of them, which is written to a file
 //!
 //! A word `then` ends a call's words, and those of another call follow. What each call counted is printed, a line each.
-//! The milliseconds that a call took go to standard error, of `fill`, `seal`, `hash`, `patch`, `unwind`, `section` and
-//! `generate` the microseconds; `fan`, `image`, `yaml` and `stub` are timed by the program as a whole.
+//! The milliseconds that a call took go to standard error, of `fill`, `seal`, `hash`, `patch`, `unwind`, `section`, `chains`,
+//! `imports` and `generate` the microseconds; `fan`, `image`, `yaml` and `stub` are timed by the program as a whole.
 #![tactic(auto)]
 
 mod branches;
+mod chains;
 mod fields;
 mod fixups;
 mod given;
@@ -46,6 +51,7 @@ mod texts;
 mod unwinding;
 
 use crate::branches::fill_by;
+use crate::chains::{encode_chains, encode_imports, make_pointers};
 use crate::fields::patch_fields;
 use crate::fixups::read_fixups;
 use crate::jobs::fan_out;
@@ -93,6 +99,19 @@ fn call_on_pair<T: Threads + Sync>(
     }
 }
 
+// The same of three numbers.
+fn call_on_triple(rt: &HostRuntime, name: &str, first: u32, second: u32, third: u32) -> Result<()> {
+    match name {
+        "unwind" => {
+            let _section = unwinding(rt, first, second, third)?;
+            Ok(())
+        }
+        "pointers" => make_pointers(rt, first, second, third),
+        "chains" => encode_chains(rt, first, second, third),
+        _ => bail!("want the name of a call of three numbers"),
+    }
+}
+
 // Calls on what they make themselves.
 fn call_on_numbers<T: Threads + Sync>(
     rt: &HostRuntime,
@@ -103,6 +122,7 @@ fn call_on_numbers<T: Threads + Sync>(
     match numbers {
         [atoms] if name == "patch" => patch_fields(rt, *atoms),
         [count] if name == "generate" => make_objects(rt, small(*count)?),
+        [count] if name == "imports" => encode_imports(rt, small(*count)?),
         [first, second] => call_on_pair(rt, threads, name, small(*first)?, small(*second)?),
         [workers, jobs, steps] if name == "fan" => fan_out(
             rt,
@@ -111,9 +131,8 @@ fn call_on_numbers<T: Threads + Sync>(
             small(*jobs)?,
             small(*steps)?,
         ),
-        [functions, encodings, each] if name == "unwind" => {
-            let _section = unwinding(rt, small(*functions)?, small(*encodings)?, small(*each)?)?;
-            Ok(())
+        [first, second, third] => {
+            call_on_triple(rt, name, small(*first)?, small(*second)?, small(*third)?)
         }
         _ => bail!("want the name of a call and its numbers"),
     }

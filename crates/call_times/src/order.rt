@@ -7,10 +7,11 @@ ghost use Rattle.mo_types.specs.Keys.{compare_keys};
 ghost use Rattle.mo_types.specs.Loaded.{IsBefore};
 ghost use Rattle.mo_types.specs.declared.atom.Atom.{Atom};
 ghost use Rattle.mo_types.specs.declared.loaded.LoadedFile.{LoadedFile};
+ghost use Rattle.sect_place.specs.Addresses.{AreOnce};
 ghost use Rattle.sect_place.specs.declared.island.IslandArea.{IslandArea};
 
 use mo_types::{Atom, LoadedFile, OutSection};
-use sect_place::IslandArea;
+use sect_place::{IslandArea, Placed};
 use std::cmp::Ordering;
 
 pub(crate) fn atoms_rise(atoms: &[Atom]) -> bool
@@ -30,6 +31,18 @@ pub(crate) fn areas_rise(areas: &[IslandArea]) -> bool
 {
     for i in 1..areas.len() {
         match areas[i - 1].last.cmp(&areas[i].last) {
+            Ordering::Less => {}
+            _ => return false,
+        }
+    }
+    true
+}
+
+pub(crate) fn stand_once(placed: &[Placed]) -> bool
+    ensures { IsTrue result → AreOnce placed.now }
+{
+    for i in 1..placed.len() {
+        match placed[i - 1].atom.cmp(&placed[i].atom) {
             Ordering::Less => {}
             _ => return false,
         }

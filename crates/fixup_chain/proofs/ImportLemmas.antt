@@ -1,5 +1,5 @@
 -- Imports, put together each once and in order.
-use Rattle.std.proofs.Common.{◌≡◌, ℕ, ◌+◌, ◌<◌, ◌≤◌, Bool, true, false, ℤ, List, [], ◌∷◌, length, get_or, min, take, drop, Contains, refl, sym, ap, subst, ◌∙◌, inl, inr, arith}
+use Rattle.std.proofs.Common.{◌≡◌, ℕ, ◌<◌, Bool, true, false, ℤ, List, [], ◌∷◌, Contains, refl, sym, ap, subst, ◌∙◌, inl, inr}
 use Rattle.std.specs.List.{dedup_from, IsDistinct}
 use Rattle.std.specs.List.Sorted.{IsSorted, IsStrictlySortedBy}
 use Rattle.std.specs.Cmp.{int_ranks}
@@ -8,27 +8,18 @@ use Rattle.std.specs.Int.Signed.{◌<ℤ◌}
 use Rattle.std.specs.declared.cmp.Ordering.{Ordering}
 use Rattle.std.specs.declared.cmp.Ordering.TheVariants.{Less, Equal, Greater}
 use Rattle.std.specs.Ordering.{nat_cmp, int_cmp, bool_cmp, eq_by_cmp, is_eq, ordering_then, MatchOrdering}
-use Rattle.std.proofs.lemmas.List.{drop_all, drop_more, take_min}
 use Rattle.std.proofs.lemmas.List.Kept.{IsStrictlySortedBy-dedup}
 use Rattle.std.proofs.lemmas.List.Sorted.{Contains-permutation, IsPermutation-sym}
 use Rattle.std.specs.Prelude.{IsPermutation}
 use Rattle.list_lemmas.proofs.Inserted.{from_inserted, in_inserted}
 use Rattle.list_lemmas.proofs.Members.{in_from_Contains, Contains_from_in}
 use Rattle.list_lemmas.proofs.Ties.{same_number}
-use Rattle.indexmap.specs.IndexSet.{insert_all, insert_key}
+use Rattle.indexmap.specs.IndexSet.{insert_all}
 use Rattle.fixup_chain.specs.ImportOrder.{Import, compare_imports, compare_imports_total, compare_imports_equal}
-use Rattle.fixup_chain.specs.Imports.{AreFormed, AreImports, bound, import_of, imports_by, is_bound, is_wide, pool_of}
+use Rattle.fixup_chain.specs.Imports.{AreFormed, AreImports, imports_by, is_wide, pool_of}
 use Rattle.fixup_chain.specs.inner.Fed.{same_name}
 use Rattle.fixup_chain.specs.inner.Held.{gathered}
 use Rattle.fixup_chain.specs.declared.chains.Fixup.{Fixup}
-
--- the first bytes of a name
-pub front_of : (bytes : List ℕ) (count : ℕ) → count ≡ min (length bytes) 1024 → take count bytes ≡ take 1024 bytes
-front_of bytes count is =
-    let e : count ≡ min 1024 (length bytes) = omega arith in
-    ap (λ n. take n bytes) e ∙ take_min 1024 bytes
-
-pub ruleset fronts = (front_of)
 
 -- ---- imports that tie are the same
 
@@ -113,51 +104,6 @@ ordered wide fixups before after is moved sorted distinct = record {
         | inr given ↦ Contains_from_in (imports_by wide fixups) import given
       ];
 }
-
--- ---- the loop that gathers
-
-pub record IsGathering (wide : Bool) (fixups : List Fixup) (at : ℕ) (now : List Import) : Type 0 where
-  pub same : insert_all (eq_by_cmp compare_imports) now (imports_by wide (drop at fixups)) ≡ gathered wide fixups
-
-pub there : (fixups : List Fixup) (i : ℕ) (x : Fixup) → i < length fixups → x ≡ get_or fixups i x → drop i fixups ≡ x ∷ drop (i + 1) fixups
-there xs i x low is = drop_more xs i x low ∙ ap (λ y. y ∷ drop (i + 1) xs) (sym is)
-
-pub gathering_starts : (wide : Bool) (fixups : List Fixup) (none : List Import) → none ≡ [] → IsGathering wide fixups 0 none
-unfolding gathered
-gathering_starts wide fixups none e = record { same = rw e refl }
-
-first_bound : (wide : Bool) (x : Fixup) (rest : List Fixup) → is_bound x.goal ≡ true → imports_by wide (x ∷ rest) ≡ import_of wide x ∷ imports_by wide rest
-unfolding imports_by bound
-first_bound wide x rest e = rw e refl
-
-first_other : (wide : Bool) (x : Fixup) (rest : List Fixup) → is_bound x.goal ≡ false → imports_by wide (x ∷ rest) ≡ imports_by wide rest
-unfolding imports_by bound
-first_other wide x rest e = rw e refl
-
-no_imports : (wide : Bool) → imports_by wide [] ≡ []
-unfolding imports_by bound
-no_imports wide = refl
-
-pub gathering_adds : (wide : Bool) (fixups : List Fixup) (at : ℕ) (now new : List Import) (x : Fixup) → IsGathering wide fixups at now → at < length fixups → x ≡ get_or fixups at x → is_bound x.goal ≡ true → new ≡ insert_key (eq_by_cmp compare_imports) now (import_of wide x) → IsGathering wide fixups (at + 1) new
-gathering_adds wide fixups at now new x gathering within is bound new_is = record {
-  same =
-      ap (λ ks. insert_all (eq_by_cmp compare_imports) ks (imports_by wide (drop (at + 1) fixups))) new_is
-      ∙ sym (ap (insert_all (eq_by_cmp compare_imports) now) (ap (imports_by wide) (there fixups at x within is) ∙ first_bound wide x (drop (at + 1) fixups) bound))
-      ∙ gathering.same;
-}
-
-pub gathering_passes : (wide : Bool) (fixups : List Fixup) (at : ℕ) (now : List Import) (x : Fixup) → IsGathering wide fixups at now → at < length fixups → x ≡ get_or fixups at x → is_bound x.goal ≡ false → IsGathering wide fixups (at + 1) now
-gathering_passes wide fixups at now x gathering within is other = record {
-  same =
-      sym (ap (insert_all (eq_by_cmp compare_imports) now) (ap (imports_by wide) (there fixups at x within is) ∙ first_other wide x (drop (at + 1) fixups) other))
-      ∙ gathering.same;
-}
-
-pub gathering_ends : (wide : Bool) (fixups : List Fixup) (at : ℕ) (now : List Import) → IsGathering wide fixups at now → length fixups ≤ at → now ≡ gathered wide fixups
-gathering_ends wide fixups at now gathering past =
-    sym (ap (insert_all (eq_by_cmp compare_imports) now) (ap (imports_by wide) (drop_all at fixups past) ∙ no_imports wide)) ∙ gathering.same
-
-pub ruleset gathering = (gathering_starts, gathering_adds, gathering_passes, gathering_ends)
 
 -- ---- their form
 

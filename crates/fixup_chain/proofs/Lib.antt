@@ -4,8 +4,10 @@ pub mod EncodeLemmas
 pub mod ImportLemmas
 pub mod NearLemmas
 pub mod OneLemmas
+pub mod OpenLemmas
 pub mod PlaceLemmas
 pub mod PoolLemmas
 pub mod StartLemmas
 pub mod TurnLemmas
+pub mod UseLemmas
 pub mod WalkLemmas

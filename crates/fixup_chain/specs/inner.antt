@@ -1,4 +1,5 @@
 pub mod Fed
 pub mod Held
 pub mod Near
+pub mod Open
 pub mod Turn

@@ -8,17 +8,18 @@ ghost use Rattle.fixup_chain.specs.Imports.{pool_of};
 ghost use Rattle.fixup_chain.specs.Places.{addresses_of};
 ghost use Rattle.fixup_chain.specs.Pool.{rows_from};
 ghost use Rattle.fixup_chain.specs.Words as words;
+ghost use Rattle.fixup_chain.specs.inner.Held.{AreNumbers};
 ghost use Rattle.fixup_chain.specs.inner.Turn.{IsFirst};
 ghost use Rattle.sect_place.specs.Addresses.{AreOnce};
 
 use crate::blob::joined;
 use crate::chains::{ChainFault, ChainWord, Chains, Fixup, FixupList, WordList};
-use crate::faults::{first_fault, first_with};
+use crate::faults::{are_open, first_fault, first_with};
 use crate::imports::{Formed, imports_of};
 use crate::places::steps_to_next;
 use crate::starts::starts_of;
 use crate::targets::{base_of, target_of};
-use crate::words::word_by;
+use crate::words::{numbers_of, word_by};
 use mo_types::{Bytes, Items, OutOfMemory, Which};
 use sect_place::Layout;
 use std::alloc::Global;
@@ -33,31 +34,33 @@ struct Walked {
     first: Option<usize>,
 }
 
-// The walk through all pointers of an image that begins at `base`.
+// The walk through all pointers of an image that begins at `base`, by the number of each one's import.
 #[tactic(auto, using(crate::proofs::WalkLemmas::walking))]
 fn walk(
     alloc: Global,
     layout: &Layout,
     base: u64,
     formed: &Formed<'_>,
+    numbers: &[u32],
     fixups: &[Fixup],
 ) -> Result<Walked, OutOfMemory>
     requires apart { AreApart fixups.now }
     requires once { AreOnce layout.now.placed }
     requires base { base ≡ faults.base_of layout.now.segments }
-    requires few { length formed.now.imports.keys < encoded.IMPORTS }
+    requires numbers { AreNumbers formed.now.wide fixups.now formed.now.imports.keys numbers.now }
     ensures words { IfOk result (λ walked. walked.words ≡ words.words_of (faults.target_of layout.now) formed.now.wide formed.now.imports.keys fixups.now) }
     ensures first { IfOk result (λ walked. IsFirst layout.now fixups.now (length fixups.now) walked.first) }
 {
+    let free = are_open(layout.segments.as_slice(), fixups);
     let mut words = Vec::with_capacity(alloc, fixups.len())?;
     let mut first = None;
     for (at, fixup) in fixups.iter().enumerate() {
         let target = target_of(layout, base, fixup);
-        first = first_with(layout, base, fixups, first, at, target);
+        first = first_with(layout, base, free, fixups, first, at, target);
         let next = steps_to_next(fixups, at, fixup.address);
         words.push(ChainWord {
             address: fixup.address,
-            word: word_by(formed, target, next, fixup),
+            word: word_by(formed.wide, numbers[at], target, next, fixup),
         })?;
     }
     Ok(Walked {
@@ -106,7 +109,8 @@ pub fn encode(alloc: Global, fixups: &FixupList, layout: &Layout) -> Result<Chai
     if formed.imports.len() >= IMPORTS {
         return Err(ChainFault::Limit(Which::Imports));
     }
-    let walked = walk(alloc, layout, base, &formed, fixups)?;
+    let numbers = numbers_of(alloc, &formed, fixups)?;
+    let walked = walk(alloc, layout, base, &formed, numbers.as_slice(), fixups)?;
     if let Some(fault) = first_fault(layout, base, fixups, walked.first) {
         return Err(fault);
     }

@@ -1,11 +1,14 @@
 //! Which pointers can't be on a chain.
-ghost use Rattle.std.specs.Prelude.{◌≡◌, ◌+◌, ◌-◌, ◌%◌, ◌<◌, ◌==◌, ◌&&◌, ◌||◌, length, nat_lt, not, is_none, slice_index_or, MatchOption};
+ghost use Rattle.std.specs.Prelude.{◌≡◌, ◌+◌, ◌-◌, ◌%◌, ◌<◌, ◌==◌, ◌&&◌, ◌||◌, false, length, IsTrue, nat_lt, not, is_none, slice_index_or, MatchOption};
 ghost use Rattle.std.specs.List.{list_any};
 ghost use Rattle.fixup_chain.specs.Faults as spec;
 ghost use Rattle.fixup_chain.specs.Imports as imports;
 ghost use Rattle.fixup_chain.specs.Places as places;
 ghost use Rattle.fixup_chain.specs.Words as words;
 ghost use Rattle.fixup_chain.specs.declared.chains.Fixup.{Fixup};
+ghost use Rattle.fixup_chain.specs.Encoded.{AreApart};
+ghost use Rattle.fixup_chain.specs.inner.Near.{IsThere};
+ghost use Rattle.fixup_chain.specs.inner.Open.{AreOpen, may_close};
 ghost use Rattle.fixup_chain.specs.inner.Turn.{AreSound, IsFirst};
 ghost use Rattle.sect_place.specs.Addresses.{AreOnce};
 
@@ -50,28 +53,85 @@ fn is_unfit(address: u64) -> bool
     address % 4 != 0 || address % PAGE > PAGE - 8
 }
 
-#[tactic(auto, unfolding(crate::specs::Faults::is_misplaced))]
-fn is_misplaced(segments: &[Segment], address: u64) -> bool
-    ensures { result ≡ spec.is_misplaced segments.now address }
+// Whether some address from one to another may be one of a segment's at which no pointer may be.
+fn may_close(segment: &Segment, first: u64, last: u64) -> bool
+    ensures { result ≡ may_close first last segment.now }
 {
-    is_in_closed(segments, address) || is_unfit(address)
+    let end = u128::from(segment.address) + u128::from(segment.vmsize);
+    let meets = u128::from(first) < end && segment.address <= last;
+    meets && (is_text(segment) || last.saturating_sub(segment.address) / PAGE >= PAGES)
 }
 
-/// Why a pointer can't be on a chain, of an image that begins at `base`, by the offset of what it leads to.
+// Whether some segment may have such an address.
+fn may_any_close(segments: &[Segment], first: u64, last: u64) -> bool
+    ensures { result ≡ list_any (may_close first last) segments.now }
+{
+    segments
+        .iter()
+        .any(|segment| may_close(segment, first, last))
+}
+
+// The address of the pointer at an index.
+fn place_of(fixups: &[Fixup], at: usize) -> u64
+    requires { at < length fixups.now }
+    ensures { IsThere fixups.now at result }
+{
+    fixups[at].address
+}
+
+// Whether the segments are open to all pointers up to that at an index, by a test that may miss that they are.
+fn are_open_to(segments: &[Segment], fixups: &[Fixup], last: usize) -> bool
+    requires apart { AreApart fixups.now }
+    requires last { last + 1 ≡ length fixups.now }
+    ensures { IsTrue result → AreOpen segments.now fixups.now }
+{
+    let begin = place_of(fixups, 0);
+    let end = place_of(fixups, last);
+    if may_any_close(segments, begin, end) {
+        return false;
+    }
+    true
+}
+
+/// Whether the segments are open to all pointers, by a test that may miss that they are.
+#[tactic(auto, using(crate::proofs::OpenLemmas::opening))]
+pub(crate) fn are_open(segments: &[Segment], fixups: &[Fixup]) -> bool
+    requires { AreApart fixups.now }
+    ensures { IsTrue result → AreOpen segments.now fixups.now }
+{
+    match fixups.len() {
+        0 => true,
+        count => are_open_to(segments, fixups, count - 1),
+    }
+}
+
+// `free` tells that the segments are open to a pointer at the address.
+#[tactic(auto, unfolding(crate::specs::Faults::is_misplaced))]
+fn is_misplaced(segments: &[Segment], free: bool, address: u64) -> bool
+    requires { IsTrue free → list_any (spec.is_closed address) segments.now ≡ false }
+    ensures { result ≡ spec.is_misplaced segments.now address }
+{
+    (!free && is_in_closed(segments, address)) || is_unfit(address)
+}
+
+/// Why a pointer can't be on a chain, of an image that begins at `base` and whose segments may be known to be open to it,
+/// by the offset of what it leads to.
 #[tactic(auto, unfolding(crate::specs::Faults::fault_of))]
 pub(crate) fn fault_of(
     layout: &Layout,
     base: u64,
+    free: bool,
     fixup: &Fixup,
     target: i128,
 ) -> Option<ChainFault>
     requires base { base ≡ spec.base_of layout.now.segments }
+    requires free { IsTrue free → list_any (spec.is_closed fixup.now.address) layout.now.segments ≡ false }
     requires target { target ≡ spec.target_of layout.now fixup.now }
     ensures { result ≡ spec.fault_of layout.now fixup.now }
 {
     let (kind, value) = if is_far(fixup, target) {
         (RangeKind::RebaseTarget, target)
-    } else if is_misplaced(layout.segments.as_slice(), fixup.address) {
+    } else if is_misplaced(layout.segments.as_slice(), free, fixup.address) {
         let offset = i128::from(fixup.address) - i128::from(base);
         (RangeKind::FixupPlace, offset)
     } else {
@@ -105,19 +165,21 @@ fn compare_turns(a: &Fixup, b: &Fixup) -> Ordering
 pub(crate) fn first_with(
     layout: &Layout,
     base: u64,
+    free: bool,
     fixups: &[Fixup],
     first: Option<usize>,
     at: usize,
     target: i128,
 ) -> Option<usize>
     requires base { base ≡ spec.base_of layout.now.segments }
+    requires free { IsTrue free → AreOpen layout.now.segments fixups.now }
     requires within { at < length fixups.now }
     requires target { (d : Fixup) → target ≡ spec.target_of layout.now (slice_index_or fixups.now at d) }
     requires first { IsFirst layout.now fixups.now at first }
     ensures { IsFirst layout.now fixups.now (at + 1) result }
 {
     let fixup = &fixups[at];
-    if fault_of(layout, base, fixup, target).is_none() {
+    if fault_of(layout, base, free, fixup, target).is_none() {
         return first;
     }
     match first {
@@ -143,5 +205,5 @@ pub(crate) fn first_fault(
     ensures { MatchOption result (AreSound layout.now fixups.now (length fixups.now)) (spec.IsFirstFault layout.now fixups.now) }
 {
     let fixup = &fixups[first?];
-    fault_of(layout, base, fixup, target_of(layout, base, fixup))
+    fault_of(layout, base, false, fixup, target_of(layout, base, fixup))
 }

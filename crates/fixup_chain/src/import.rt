@@ -1,4 +1,4 @@
-ghost use Rattle.std.specs.Prelude.{◌≡◌, ◌≤◌, refl, take};
+ghost use Rattle.std.specs.Prelude.{◌≡◌, ◌≤◌, refl};
 ghost use Rattle.std.specs.Cmp.{partial_equiv_from_equiv};
 ghost use Rattle.std.specs.Ordering.{as_partial_cmp, eq_by_cmp};
 ghost use Rattle.fixup_chain.specs.ImportOrder.{compare_imports, compare_imports_total, compare_imports_equal, compare_imports_partial};
@@ -6,6 +6,7 @@ ghost use Rattle.fixup_chain.specs.Imports.{import_of};
 
 use crate::chains::Fixup;
 use crate::goals::{optional_of, ordinal_of};
+use mo_types::hashed_front;
 use std::cmp::Ordering;
 use std::hash::{Hash, Hasher};
 use std::marker::Model;
@@ -38,6 +39,18 @@ impl<'a> Import<'a> {
             addend: if wide { fixup.addend } else { 0 },
             ordinal: ordinal_of(&fixup.goal),
             optional: optional_of(&fixup.goal),
+        }
+    }
+
+    /// The same import once more.
+    pub(crate) fn copy(&self) -> Import<'a>
+        ensures { result ≡ self.now }
+    {
+        Import {
+            name: self.name,
+            addend: self.addend,
+            ordinal: self.ordinal,
+            optional: self.optional,
         }
     }
 
@@ -114,17 +127,7 @@ impl<'a> Ord for Import<'a> {
     }
 }
 
-// The first bytes of a name, or all where it has no more.
-#[tactic(auto, using(crate::proofs::ImportLemmas::fronts))]
-fn front(bytes: &[u8]) -> &[u8]
-    ensures { result.now ≡ take 1024 bytes.now }
-{
-    let count = bytes.len().min(1024);
-    &bytes[..count]
-}
-
-// Few imports of one name differ. Names that are parts of each other have other lengths, so that a hash of all their
-// bytes, which is quadratic in the file where they overlap, isn't needed to tell them apart.
+// Few imports of one name differ, so that a hash of the name is enough.
 impl<'a> Hash for Import<'a> {
     ghost use Rattle.std.specs.Prelude.{◌∷◌, ◌++◌, [], length, take};
     ghost use Rattle.std.specs.Hash as fed;
@@ -136,6 +139,6 @@ impl<'a> Hash for Import<'a> {
 
     fn hash<H: Hasher>(&self, state: &mut H) {
         state.write_usize(self.name.len());
-        state.write(front(self.name));
+        state.write(hashed_front(self.name));
     }
 }

@@ -11,6 +11,8 @@ ghost use Rattle.fixup_chain.specs.declared.chains.Fixup.{Fixup};
 /// have chains they have no fault. A law, which does nothing.
 pub fn an_answer_is_one()
     ensures chains { (layout : Layout) (fixups : List Fixup) (a b : Chains) → AreChains layout fixups a → AreChains layout fixups b → a ≡ b }
-    ensures fault { (layout : Layout) (fixups : List Fixup) (a b : ChainFault) → AreApart fixups → IsCause layout fixups a → IsCause layout fixups b → a ≢ ChainFault.OutOfMemory → b ≢ ChainFault.OutOfMemory → a ≡ b }
-    ensures apart { (layout : Layout) (fixups : List Fixup) (chains : Chains) (why : ChainFault) → AreChains layout fixups chains → IsCause layout fixups why → why ≡ ChainFault.OutOfMemory }
+    ensures fault { (layout : Layout) (fixups : List Fixup) (a b : ChainFault) → AreApart fixups → IsCause layout fixups a → IsCause layout fixups b
+        → a ≢ ChainFault.OutOfMemory → b ≢ ChainFault.OutOfMemory → a ≡ b }
+    ensures apart { (layout : Layout) (fixups : List Fixup) (chains : Chains) (why : ChainFault) → AreChains layout fixups chains
+        → IsCause layout fixups why → why ≡ ChainFault.OutOfMemory }
 {}

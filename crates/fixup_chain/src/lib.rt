@@ -2,9 +2,9 @@
 //! `__LINKEDIT` that tells the loader of them.
 //!
 //! Pointers of one 16 KiB page make up a chain: each tells the distance to the next greater one of its page
-//! (`steps_to_next`), and a segment's starts tell where the chain of each page begins, up to the last page with a pointer
-//! (`page_start`, `pages_of`). All three are said of the set of the pointers' addresses, so that a distance that skips a
-//! pointer and a chain that runs on into the next page are refused.
+//! (`steps_to_next`), and a segment's starts tell where the chain of each page begins, up to the last page with a
+//! pointer (`page_start`, `pages_of`). All three are said of the set of the pointers' addresses, so that a distance
+//! that skips a pointer and a chain that runs on into the next page are refused.
 //!
 //! The imports are what pointers are bound to, each once, by name and signed addend (`AreImports`): in the narrow form,
 //! or in the wide one where an addend or the pool of names has no room there (`AreFormed`). `AreChains` is the whole
@@ -13,6 +13,10 @@
 //! There are none where there are 2^24 imports or more (`AreMany`), and else where a pointer stands where none may, or
 //! leads too far (`fault_of`): the first one is told of, slots before atoms (`IsFirstFault`). An answer is one thing,
 //! but for want of memory (`an_answer_is_one`). What the loader finds is said in `chain_laws`.
+//!
+//! Refused are a body in which a pointer's distance skips the next one, one that lets a chain run on into the next
+//! page, one that tells of a fault in an atom before one in a slot, and one that leaves imports in the order in which
+//! they are used.
 #![tactic(auto)]
 
 mod blob;

@@ -51,7 +51,8 @@ pub(crate) fn steps_to_next(fixups: &[Fixup], at: usize, address: u64) -> u16
 // How many pointers stand on pages before one.
 fn before_page(fixups: &[Fixup], page: u64) -> usize
     requires { AreApart fixups.now }
-    ensures { IsPartitionPoint (λ fixup. nat_lt (places.page_of fixup.address) page ≡ true) (λ fixup. nat_lt (places.page_of fixup.address) page ≡ false) fixups.now result }
+    ensures { IsPartitionPoint (λ fixup. nat_lt (places.page_of fixup.address) page ≡ true)
+        (λ fixup. nat_lt (places.page_of fixup.address) page ≡ false) fixups.now result }
 {
     fixups.partition_point(|fixup| fixup.address / PAGE < page)
 }

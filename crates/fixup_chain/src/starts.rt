@@ -128,7 +128,8 @@ fn listed(
     segments: &[Segment],
 ) -> Result<Listing, OutOfMemory>
     requires { AreApart fixups.now }
-    ensures offsets { IfOk result (λ listed. listed.offsets.items ≡ starts.offsets_from (addresses_of fixups.now) base (starts.lead segments.now) segments.now) }
+    ensures offsets { IfOk result (λ listed. listed.offsets.items
+        ≡ starts.offsets_from (addresses_of fixups.now) base (starts.lead segments.now) segments.now) }
     ensures parts { IfOk result (λ listed. listed.parts.items ≡ starts.parts_from (addresses_of fixups.now) base (starts.lead segments.now) segments.now) }
 {
     let mut offsets = Vec::new(alloc);

@@ -170,10 +170,10 @@ struct Case {
 }
 
 // Pointers of all kinds: an addend at the bounds of a word's, a name with two of them, all ordinals in both forms of the
-// imports, segments without pointers between others, a page's last place, and the last page and the last target there
-// are. The digests are of a writer in Python that was made apart from this one; `llvm-objdump` reads the same binds where
+// imports, and in the wide one those above 253, which the narrow one has no room for, segments without pointers between
+// others, a page's last place, and the last page and the last target there are. The digests are of a writer in Python that was made apart from this one; `llvm-objdump` reads the same binds where
 // the imports are in the narrow form.
-const CASES: [Case; 10] = [
+const CASES: [Case; 11] = [
     Case {
         rows: &[(None, 0, CONST, PUTS, 255)],
         digest: "eb94fe8009aac4e0079bc249542ffb83988049384332df97adea449f5faacd88",
@@ -217,6 +217,15 @@ const CASES: [Case; 10] = [
             (None, 0, CONST + 52, Lead::Library(b"_d", 1), i64::MIN),
         ],
         digest: "a07cc66ea2fcda401fcf8f359f9119a2dd49ba6fc199d958bf7bcafea4ef883f",
+    },
+    Case {
+        rows: &[
+            (None, 0, CONST, Lead::Library(b"_a", 254), 256),
+            (None, 0, CONST + 8, Lead::Library(b"_b", 253), 0),
+            (None, 0, CONST + 16, Lead::Library(b"_c", 255), 1),
+            (None, 0, CONST + 24, Lead::Flat(b"_d"), 0),
+        ],
+        digest: "95e95cd65df21c17aeca4f00d366270278097c11835c324734d411e42aac8e0e",
     },
     Case {
         rows: &[(None, 0, CONST, PUTS, 1), (None, 0, CONST + 8, PUTS, 2)],

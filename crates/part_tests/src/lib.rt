@@ -1,5 +1,5 @@
-//! Tests of the crates that make the parts of an image or an input, outside of their crates: the check of a crate's tests
-//! proves the crate once more, and here it needn't.
+//! Tests of the crates that make the parts of an image or an input, outside of their crates: the check of a crate's
+//! tests proves the crate once more, and here it needn't.
 #![tactic(auto)]
 
 #[cfg(test)]

@@ -2,8 +2,13 @@ use Rattle.std.proofs.Common.{rules, ℤ, FitsSigned, ap, ◌∙◌}
 use Rattle.std.specs.Int.{w128}
 use Rattle.std.proofs.lemmas.Int.{to_z-of_z}
 use Rattle.fixup_chain.specs.Words.{word_by}
+use Rattle.fixup_chain.proofs.UseLemmas.{number_of_one}
 use Rattle.fixup_chain.proofs.WalkLemmas.{walk_goes_on}
 use Rattle.fixup_chain.proofs.encoding.walk.Goals as goal
+
+pub word_by-requires-clause-number : goal.word_by-requires-clause-number
+word_by-requires-clause-number c =
+    (number_of_one c.args.formed.now.wide c.args.fixups.now c.args.formed.now.imports.keys c.args.numbers.now c.loop-at.at _ c.index-fixups-at.result c.requires.numbers c.loop-at-test.true c.index-fixups-at.is).small
 
 pub loop-at-preserved : goal.loop-at-preserved
 loop-at-preserved c =
@@ -11,5 +16,5 @@ loop-at-preserved c =
     walk_goes_on c.args.layout.now c.args.formed.now.wide c.args.formed.now.imports.keys c.args.fixups.now c.loop-at.at c.loop-at.words.items c.push.new.self.items c.loop-at.first c.first_with-first.result
     c.index-fixups-at.result c.target_of-target.result c.steps_to_next-next.result c.word_by.result
     c.loop-at.invariant c.loop-at-test.true c.index-fixups-at.is c.target_of-target.ensures c.steps_to_next-next.ensures.value
-    (c.word_by.ensures ∙ ap (λ (z : ℤ). word_by c.args.formed.now.wide c.args.formed.now.imports.keys z c.steps_to_next-next.result c.index-fixups-at.result) (to_z-of_z w128 c.target_of-target.result fits))
+    (c.word_by.ensures c.args.formed.now.imports.keys (number_of_one c.args.formed.now.wide c.args.fixups.now c.args.formed.now.imports.keys c.args.numbers.now c.loop-at.at _ c.index-fixups-at.result c.requires.numbers c.loop-at-test.true c.index-fixups-at.is) ∙ ap (λ (z : ℤ). word_by c.args.formed.now.wide c.args.formed.now.imports.keys z c.steps_to_next-next.result c.index-fixups-at.result) (to_z-of_z w128 c.target_of-target.result fits))
     c.first_with-first.ensures c.in_ok-push.ensures.items

@@ -1,6 +1,11 @@
 use Rattle.std.proofs.Common.{ap, not, sym, ◌∙◌}
+use Rattle.fixup_chain.proofs.OpenLemmas.{open_at}
 use Rattle.fixup_chain.proofs.TurnLemmas.{has_fault, turn_begins, turn_moves}
 use Rattle.fixup_chain.proofs.faults.first_with.Goals as goal
+
+pub fault_of-requires-clause-free : goal.fault_of-requires-clause-free
+fault_of-requires-clause-free c =
+    open_at c.args.layout.now.segments c.args.fixups.now c.args.at c.index-fixups-at.result c.args.free c.requires.free c.requires.within c.index-fixups-at.is
 
 pub returns-in-Greater : goal.returns-in-Greater
 returns-in-Greater c =
