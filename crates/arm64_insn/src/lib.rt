@@ -5,6 +5,12 @@
 //! hold the number; each leaves every bit outside its field as it was, what it wrote is read back by `branch_of`,
 //! `page_of` and `low12_of`, and of two writes the last counts. What is read from any word can be written back
 //! unchanged where it is in form. No call takes memory or loops.
+//!
+//! A field of a word is defined in `specs/Field.antt`, and the immediates in `specs/Branch.antt`, `specs/Page.antt`
+//! and `specs/Low12.antt`.
+//!
+//! Refused are a body that takes a branch out of reach by its lowest bits, one that reads the low bits of an access
+//! without their scale, and one that exchanges the two parts of a page.
 #![tactic(auto)]
 
 ghost use Rattle.std.specs.Prelude.{◌≡◌, ◌%◌, ◌^◌, ◌<◌, ◌≤◌, ◌==◌, ℕ, ℤ, Some, IfSome};

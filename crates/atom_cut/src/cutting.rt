@@ -25,7 +25,8 @@ fn add_section(
     requires whole { IsWhole object.now }
     requires index { index < length object.now.sections }
     requires offsets { (d : Section) → offsets.now ≡ offsets_in object.now.symbols (index + 1) (slice_index_or object.now.sections index d) }
-    ensures { OnOk result ((d : Section) → atoms.new.items ≡ atoms.old.items ++ cutting.section_atoms object.now file (index + 1) (slice_index_or object.now.sections index d)) }
+    ensures { OnOk result ((d : Section) → atoms.new.items
+        ≡ atoms.old.items ++ cutting.section_atoms object.now file (index + 1) (slice_index_or object.now.sections index d)) }
 {
     let section = &object.sections.as_slice()[index];
     if section.is_dropped() {

@@ -14,19 +14,23 @@ ghost use Rattle.atom_cut.specs.Laws.{HasItsBytes, IsBefore, IsGreatest, Tile};
 /// The atoms of a linked section follow each other, without gap or overlap, from its start to its end.
 #[tactic(auto, using(crate::proofs::TileLemmas::tiles))]
 pub fn atoms_tile()
-    ensures { (object : Object) (file : FileId) (number : ℕ) (section : Section) → is_dropped section ≡ false → Tile 0 section.size (section_atoms object file number section) }
+    ensures { (object : Object) (file : FileId) (number : ℕ) (section : Section) → is_dropped section ≡ false
+        → Tile 0 section.size (section_atoms object file number section) }
 {}
 
 /// The bytes of the atoms of an object's linked section, one after the other, are those of the section.
 #[tactic(auto, using(crate::proofs::TileLemmas::bytes_of_section))]
 pub fn no_byte_is_lost()
-    ensures { (object : Object) (file : FileId) (number : ℕ) (section : Section) → IsWholeSection section → is_dropped section ≡ false → section_numbered object.sections number ≡ Some section → flat_map (atom_bytes object) (section_atoms object file number section) ≡ section.bytes }
+    ensures { (object : Object) (file : FileId) (number : ℕ) (section : Section) → IsWholeSection section → is_dropped section ≡ false
+        → section_numbered object.sections number ≡ Some section
+        → flat_map (atom_bytes object) (section_atoms object file number section) ≡ section.bytes }
 {}
 
 /// An offset belongs to the atom with the greatest cut not above it.
 #[tactic(auto, using(crate::proofs::TileLemmas::cut_is_greatest))]
 pub fn offset_belongs_to_the_greatest_cut()
-    ensures { (object : Object) (number : ℕ) (section : Section) (offset : ℕ) → IsGreatest (is_cut object number section) offset (cut_of object number section offset) }
+    ensures { (object : Object) (number : ℕ) (section : Section) (offset : ℕ)
+        → IsGreatest (is_cut object number section) offset (cut_of object number section offset) }
 {}
 
 /// The keys of an object's atoms rise.

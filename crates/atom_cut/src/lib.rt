@@ -5,7 +5,11 @@
 //! laws say that atoms follow each other from the section's start to its end, lose no byte, and have rising keys, and
 //! that an offset belongs to the atom with the greatest cut not above it. `bytes_of` gives an atom's part of its
 //! section's bytes, of which it copies none: as many as the atom's size, or none where the section is zerofill
-//! (`atoms_have_their_bytes`).
+//! (`atoms_have_their_bytes`). The definition is `atoms_of` (`specs/Atoms.antt` of `mo_types`), and what the laws
+//! speak of stands in `specs/Laws.antt`.
+//!
+//! Refused are a body that cuts at an alternative entry, one that cuts behind the last NUL of a section of strings
+//! too, one that cuts at symbols where the object's header doesn't allow it, and one that takes addresses for offsets.
 #![tactic(auto)]
 
 mod contents;

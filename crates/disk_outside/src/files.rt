@@ -1,6 +1,7 @@
 //! Files of the file system.
 
-ghost use Rattle.std.specs.Prelude.{◌≡◌, ◌+◌, ◌<◌, ◌≤◌, ◌^◌, [], length, take, drop, ◌≢◌, vec_len, false, true, None, IfErr, IfOk, IfSome, IsErrOf, IsUtf8, OnOk, OnErr};
+ghost use Rattle.std.specs.Prelude.{◌≡◌, ◌+◌, ◌<◌, ◌≤◌, ◌^◌, [], length, take, drop, ◌≢◌};
+ghost use Rattle.std.specs.Prelude.{vec_len, false, true, None, IfErr, IfOk, IfSome, IsErrOf, IsUtf8, OnOk, OnErr};
 ghost use Rattle.std.specs.Io.KnownBytes.{Consumes, IsAtEnd};
 ghost use Rattle.std.specs.IoError.{error_kind};
 ghost use Rattle.disk_outside.specs.Faults.{DiskFetch, counted, is_unread};

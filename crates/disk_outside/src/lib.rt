@@ -7,6 +7,10 @@
 //! whole, or a first part of it with a fault. What the system does behind a call isn't known to any contract, so an
 //! adapter that never asks it could pass: real files are tested. `gather` has the words of a command line, which is
 //! tested: proved is only that a word which is text stays what it is (`text_of`).
+//!
+//! The contracts see the adapters as the records of `specs/Adapters.antt`, and say by `specs/Faults.antt` when a fault
+//! is counted. They refuse a body that answers a missing file as a fault, one that drops a piece and answers it as
+//! written, one that tells a failed end as a success, and one that doesn't count a fault of reading.
 #![tactic(auto)]
 
 mod diag;

@@ -1,5 +1,5 @@
-//! Tests of the files of inputs, outside of the crate: the check of a crate's tests proves the crate once more, and here it
-//! needn't.
+//! Tests of the files of inputs, outside of the crate: the check of a crate's tests proves the crate once more, and
+//! here it needn't.
 #![tactic(auto)]
 
 #[cfg(test)]

@@ -18,7 +18,8 @@ pub fn made_bytes_are_an_object(made: MadeObject)
     requires { calls.IsMade made }
     ensures object { IsObject (generated made) (made_object made) }
     ensures read { object_of (generated made) ≡ Ok (made_object made) }
-    ensures names { (r : ℕ) → r < 3 * calls.function_count made → NamesAt (made_object made) r (16 * (r / 3) + 4 * (r % 3)) (name_of (calls.called made.count (calls.first_function made + r / 3) (r % 3))) }
+    ensures names { (r : ℕ) → r < 3 * calls.function_count made
+        → NamesAt (made_object made) r (16 * (r / 3) + 4 * (r % 3)) (name_of (calls.called made.count (calls.first_function made + r / 3) (r % 3))) }
 {}
 
 /// Each name that is called is defined by an object of the same input.

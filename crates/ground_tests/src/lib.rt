@@ -1,9 +1,9 @@
-//! Tests of the crates that every link stands on and of those that know a format, outside of them: the check of a crate's
-//! tests proves the crate once more, and here it needn't.
+//! Tests of the crates that every link stands on and of those that know a format, outside of them: the check of a
+//! crate's tests proves the crate once more, and here it needn't.
 //!
-//! `numbers` tests bytes, instructions and structures, `types` what crates share and the lines of answers, `words` command
-//! lines, `outside` files and outputs in memory, `jobs` workers and races of names, `tries` exports, and `fixups` images
-//! as the loader reads them.
+//! `numbers` tests bytes, instructions and structures, `types` what crates share and the lines of answers, `words`
+//! command lines, `outside` files and outputs in memory, `jobs` workers and races of names, `tries` exports, and
+//! `fixups` images as the loader reads them.
 #![tactic(auto)]
 
 #[cfg(test)]

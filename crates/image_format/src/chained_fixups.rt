@@ -1,5 +1,7 @@
 ghost use Rattle.std.specs.Prelude.{◌≡◌, ◌+◌, ◌≤◌, ◌++◌, length, OnOk, OnErr};
-ghost use Rattle.image_format.specs.ChainedFixups.{chained_fixups_header_at, chained_fixups_header_bytes, chained_starts_in_image_at, chained_starts_in_image_bytes, chained_starts_in_segment_at, chained_starts_in_segment_bytes};
+ghost use Rattle.image_format.specs.ChainedFixups.{chained_fixups_header_at, chained_fixups_header_bytes};
+ghost use Rattle.image_format.specs.ChainedFixups.{chained_starts_in_image_at, chained_starts_in_image_bytes};
+ghost use Rattle.image_format.specs.ChainedFixups.{chained_starts_in_segment_at, chained_starts_in_segment_bytes};
 ghost use Rattle.mo_format.specs.Fields.{ReadsBack};
 
 use mo_format::fields::{put_u16, put_u32, put_u64, u16_at, u32_at, u64_at};

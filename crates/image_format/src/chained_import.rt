@@ -1,5 +1,6 @@
 ghost use Rattle.std.specs.Prelude.{◌≡◌, ◌+◌, ◌≤◌, ◌++◌, length, OnOk, OnErr};
-ghost use Rattle.image_format.specs.ChainedImport.{chained_import_at, chained_import_bytes, import_word, IsImportPackable, chained_import_addend64_at, chained_import_addend64_bytes, wide_import_word, IsWidePackable};
+ghost use Rattle.image_format.specs.ChainedImport.{chained_import_at, chained_import_bytes, import_word, IsImportPackable};
+ghost use Rattle.image_format.specs.ChainedImport.{chained_import_addend64_at, chained_import_addend64_bytes, wide_import_word, IsWidePackable};
 ghost use Rattle.mo_format.specs.Fields.{ReadsBack};
 
 use mo_format::fields::{put_u32, put_u64, u32_at, u64_at};

@@ -5,6 +5,11 @@
 //! As in `mo_format`, `read` gives each field as the number or name at its place, and `write` appends the structure's
 //! bytes, which read back as the structure whatever follows, or leaves the output as it was. A signature's numbers have
 //! their highest byte first, all others their lowest.
+//!
+//! Each structure has its fields in a table, of which its bytes are made, and its reading, with the place of each
+//! field: `specs/ChainedFixups.antt`, `specs/ChainedImport.antt` and `specs/ChainedPointer.antt` for fixups,
+//! `specs/Unwind.antt` for unwind tables, and `specs/Signature.antt` for signatures. `specs/BigFields.antt` has the
+//! fields whose highest byte comes first.
 #![tactic(auto)]
 
 mod big_fields;

@@ -1,6 +1,9 @@
 ghost use Rattle.std.specs.Prelude.{◌≡◌, ◌+◌, ◌≤◌, ◌<◌, ◌^◌, ◌++◌, length, OnOk, OnErr};
 ghost use Rattle.mo_format.specs.Fields.{ReadsBack};
-ghost use Rattle.image_format.specs.Unwind.{unwind_info_header_at, unwind_info_header_bytes, unwind_index_entry_at, unwind_index_entry_bytes, unwind_lsda_entry_at, unwind_lsda_entry_bytes, regular_page_header_at, regular_page_header_bytes, regular_page_entry_at, regular_page_entry_bytes, compressed_page_header_at, compressed_page_header_bytes, compressed_page_entry_at, compressed_page_entry_bytes, packed_row};
+ghost use Rattle.image_format.specs.Unwind.{unwind_info_header_at, unwind_info_header_bytes, unwind_index_entry_at, unwind_index_entry_bytes};
+ghost use Rattle.image_format.specs.Unwind.{unwind_lsda_entry_at, unwind_lsda_entry_bytes, regular_page_header_at, regular_page_header_bytes};
+ghost use Rattle.image_format.specs.Unwind.{regular_page_entry_at, regular_page_entry_bytes, compressed_page_header_at, compressed_page_header_bytes};
+ghost use Rattle.image_format.specs.Unwind.{compressed_page_entry_at, compressed_page_entry_bytes, packed_row};
 
 use mo_format::fields::{put_u16, put_u32, u16_at, u32_at};
 use std::alloc::AllocError;

@@ -11,6 +11,9 @@
 //! field tells by its kind: an address, an import with an addend, a difference, an offset in a page, or that it can't
 //! be told. `Denotes` (`specs/Denotes.antt`) joins these readings to the goals of references, a row for each kind: no
 //! call answers it, and in a small image that is written out by hand each row holds (`fields_tell_their_goals`).
+//!
+//! Its contracts refuse a reading that finds no byte where a segment is longer than its part of the file, one that
+//! lets a chain run on into the next page, and one that takes special ordinals for positive numbers.
 #![tactic(auto)]
 
 mod commands;

@@ -12,5 +12,6 @@ use crate::calls::MadeObject;
 #[tactic(auto, using(crate::proofs::LawLemmas::laws))]
 pub fn calls_lead_to_their_names(made: MadeObject)
     requires { calls.IsMade made }
-    ensures { (r : ℕ) → r < 3 * calls.function_count made → LeadsTo (symbols_of made) (relocation made r).r_symbolnum (calls.called made.count (calls.first_function made + r / 3) (r % 3)) }
+    ensures { (r : ℕ) → r < 3 * calls.function_count made
+        → LeadsTo (symbols_of made) (relocation made r).r_symbolnum (calls.called made.count (calls.first_function made + r / 3) (r % 3)) }
 {}

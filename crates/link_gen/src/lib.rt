@@ -1,15 +1,16 @@
 //! Makes a large input from a number: objects that measure how fast inputs are linked.
 //!
-//! `generate` gives one of the objects that an input of so many functions has (`object_count`). Its bytes are `generated` of
-//! `specs/Generated.antt` (`exact`): a header, a segment with the section `__text`, the section's instructions, relocations,
-//! symbols and strings, each a record of `mo_format`, which is read again at its place (`placed`). Each function of the
-//! section makes three calls (`specs/Calls.antt`): two of them go to functions that are drawn by a linear congruential
-//! generator (`specs/Draws.antt`), whose steps before an object are made at once, and the third one to a weak function.
+//! `generate` gives one of the objects that an input of so many functions has (`object_count`). Its bytes are
+//! `generated` of `specs/Generated.antt` (`exact`): a header, a segment with the section `__text`, the section's
+//! instructions, relocations, symbols and strings, each a record of `mo_format`, which is read again at its place
+//! (`placed`). Each function of the section makes three calls (`specs/Calls.antt`): two of them go to functions that
+//! are drawn by a linear congruential generator (`specs/Draws.antt`), whose steps before an object are made at once,
+//! and the third one to a weak function.
 //!
-//! The relocation of each call leads to a symbol of the name that is called (`calls_lead_to_their_names`). What the bytes
-//! mean to the reader of objects is stated in `gen_laws`, since this crate doesn't stand on the reader. A body that draws
-//! anew in each object, takes the third call's number without its remainder, makes an object more than those that are full,
-//! or leaves weak definitions unmarked isn't proved.
+//! The relocation of each call leads to a symbol of the name that is called (`calls_lead_to_their_names`). What the
+//! bytes mean to the reader of objects is stated in `gen_laws`, since this crate doesn't stand on the reader. A body
+//! that draws anew in each object, takes the third call's number without its remainder, makes an object more than
+//! those that are full, or leaves weak definitions unmarked isn't proved.
 #![tactic(auto)]
 
 ghost use Rattle.std.specs.Prelude.{◌≡◌, ◌≤◌, ◌<◌, IfOk};

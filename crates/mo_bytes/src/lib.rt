@@ -4,6 +4,13 @@
 //! This crate reads little-endian numbers (`read_u16`, `read_u32`, `read_u64` give the number that stands at a place,
 //! `None` exactly where the bytes end before it does), rounds up to the least multiple of a power of two, and reads
 //! and writes uleb128 numbers: one grammar of their spellings, which both directions meet.
+//!
+//! The definitions stand in `specs/Number.antt` (numbers at a place), `specs/Rounding.antt` (`least_multiple`) and
+//! `specs/Uleb.antt`. `uleb_read` gives the number with the place behind it, `uleb_len` how many bytes spell a number,
+//! and `uleb_put` appends these.
+//!
+//! Their contracts refuse a body that reads the highest byte first, one that adds a whole unit to what is no multiple,
+//! one that ends a uleb128 number at each group, and one that accepts eleven bytes.
 #![tactic(auto)]
 
 mod fields;

@@ -1,6 +1,7 @@
 ghost use Rattle.std.specs.Prelude.{◌≡◌, ◌+◌, ◌≤◌, ◌++◌, length, OnOk, OnErr};
 ghost use Rattle.mo_format.specs.Fields.{ReadsBack};
-ghost use Rattle.mo_format.specs.Command.{dylinker_command_at, dylinker_command_bytes, build_version_command_at, build_version_command_bytes, entry_point_command_at, entry_point_command_bytes, uuid_command_at, uuid_command_bytes};
+ghost use Rattle.mo_format.specs.Command.{dylinker_command_at, dylinker_command_bytes, build_version_command_at, build_version_command_bytes};
+ghost use Rattle.mo_format.specs.Command.{entry_point_command_at, entry_point_command_bytes, uuid_command_at, uuid_command_bytes};
 
 use crate::fields::{name_at, put_name, put_u32, put_u64, u32_at, u64_at};
 use std::alloc::AllocError;

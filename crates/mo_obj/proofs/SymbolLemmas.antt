@@ -3,9 +3,10 @@ use Rattle.std.proofs.Common.{◌≡◌, ℕ, zero, suc, ◌+◌, ◌≤◌, Lis
 use Rattle.std.specs.Result.{IsErrAnd}
 use Rattle.std.proofs.lemmas.Result.{err_from_is_err_and}
 use Rattle.mo_types.specs.Gives.{Gives, ◌>>=◌, each_from}
-use Rattle.mo_types.proofs.Each.{IsReading, has_read}
+use Rattle.mo_types.proofs.Each.{IsReading, has_read, table_loop}
 use Rattle.mo_types.specs.declared.object_fault.ObjFault.{ObjFault}
 use Rattle.mo_obj.specs.Faults.{IsObjFault}
+use Rattle.mo_obj.proofs.TableLemmas.{each}
 
 gives_fault : {A : Type 0} (given : Result A ObjFault) (returned : Result A ObjFault) (e : ObjFault) → returned ≡ Err e → (IsObjFault e → given ≡ Err e) → Gives IsObjFault returned given
 gives_fault given returned e is known = rw is known
@@ -40,4 +41,4 @@ pub all_read : {A E : Type 0} (value : ℕ → Result A E) (n at : ℕ) (front :
 all_read value n at front reading past =
     length_if_ok n (each_from value 0 n) front (each_length value 0 n) (has_read value n at front reading past)
 
-pub ruleset counts = (all_read)
+pub ruleset reads = (table_loop, each, all_read)

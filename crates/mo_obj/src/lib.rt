@@ -1,23 +1,23 @@
 //! Reads relocatable objects (`loader.h`, `nlist.h`, `reloc.h`).
 //!
-//! This crate reads objects whole. `read_object` answers exactly what the definition gives: the one object that the
-//! bytes are, each field the number at its place; or the first rule of the format that the file breaks, at the least
-//! place at which it does; or, where no rule is broken, the first feature that the linker doesn't have; or the limit
-//! of 2^24 symbols (`exact`). An object that was read meets the condition of `cut` and `refs_of` (`whole`), and its
-//! references are always answered (`refs`). Both hold of the definition itself, of any bytes, and a fault that it
-//! gives is never want of memory (`what_is_read_is_whole`). `read_for_link` answers the same object together with its
-//! atoms and references, each made once. Names and contents are parts of the file, so that symbols that share a long
-//! string take no more memory than others. No contract speaks of memory; by measure reading takes at most 64 times
-//! the file's bytes and 64 MiB. A file whose sections share relocations, strings or literals so often that it would
-//! take more is told as want of memory.
+//! `read_object` answers exactly what the definition gives (`specs/Object.antt`): the one object that the bytes are,
+//! each field the number at its place; or the first rule that the file breaks, at the least place at which it does; or
+//! else the first feature that the linker doesn't have; or the limit of 2^24 symbols (`exact`). An object that was
+//! read meets the condition of `cut` and `refs_of` (`whole`), and its references are always answered (`refs`). Both
+//! hold of the definition itself, of any bytes, and a fault that it gives is never want of memory
+//! (`what_is_read_is_whole`). `read_for_link` answers the same object with its atoms and references, each made once.
+//! Names and contents are parts of the file. No contract speaks of memory; by measure reading takes at most 64 times
+//! the file's bytes and 64 MiB. A file whose sections share so much that it would take more is told as want of memory.
 //!
-//! Beside the definition, which computes, stand facts that are compared with the format by eye (`specs/Rules.antt`,
-//! `specs/Facts.antt`). The bytes are an object exactly where the definition reads it (`objects_are_read`): each part
-//! of the object is what its header or entry says, no rule fails at any place, the linker has each feature, and there
-//! are fewer than 2^24 symbols. A fault is told exactly where it is the first (`faults_are_told`): a rule fails at
-//! the place and at none before it, and the rules before it fail nowhere; a feature and the limit come only where no
-//! rule fails, and another machine or type of file where the header is whole. Every Mach-O file is one object, or has
-//! one first fault, and not both (`an_object_or_a_fault`).
+//! Facts beside the definition are compared with the format by eye (`specs/Rules.antt`, `specs/Facts.antt`). The bytes
+//! are an object exactly where the definition reads it (`objects_are_read`): each part is what its header or entry
+//! says, no rule fails, no feature is missing, and there are fewer than 2^24 symbols. A fault is told exactly where it
+//! is the first (`faults_are_told`): a rule fails at the place, at none before it, and those before it nowhere; a
+//! feature and the limit come only where no rule fails, and another machine or type of file where the header is whole.
+//! A Mach-O file is one object or has one first fault, not both (`an_object_or_a_fault`).
+//!
+//! Refused are a body that tells relocations outside the file before sections outside it, one that tells a feature
+//! before a rule that relocations break, and one that numbers atoms as another file's.
 #![tactic(auto)]
 
 ghost use Rattle.std.specs.Prelude.{◌≡◌, Err, IfErr, IfOk, Ok};

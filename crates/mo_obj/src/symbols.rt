@@ -211,7 +211,7 @@ fn strings_of(alloc: Global, file: &Bytes, symtab: &SymtabCommand) -> Result<Str
 }
 
 // The symbols of the table, whose names are among the strings.
-#[tactic(auto, using(mo_types::proofs::Each::table_loop, crate::proofs::TableLemmas::each, crate::proofs::SymbolLemmas::counts), unfolding(crate::specs::Symbols::symbols_of))]
+#[tactic(auto, using(crate::proofs::SymbolLemmas::reads), unfolding(crate::specs::Symbols::symbols_of))]
 fn symbols_with(
     alloc: Global,
     bytes: &[u8],

@@ -11,6 +11,10 @@
 //! where they are told to, or where something doesn't fit their room. `FreeGate` holds nobody. `MeetGate` holds the
 //! workers 0 and 1 before their first jobs until both have come, or until one has looked for the other so many times:
 //! the test of its marks is proved, that two threads meet there is tested.
+//!
+//! The contracts refuse an object in memory that doesn't count its fault, one that says of a file that is there that
+//! it isn't, one that drops a piece and answers it as written, and a gate that tells of a meeting though a worker's
+//! turns ran out.
 #![tactic(auto)]
 
 mod asked;

@@ -1,11 +1,15 @@
 //! The running race of names, for racers in threads of their own.
 //!
 //! This crate is the same race for racers in threads of their own. Between any two atomic steps the words are those
-//! that the offers of all racers leave. `offer` (one fetch-min) and `least` (one load) answer a word at most the
-//! start and at most everything that the racer knew for the name; `split` and `join` move passes, offers and
-//! knowledge exactly; `settle` writes exactly what `race_core` gives for all offers. After `begin` no call waits,
-//! takes memory or refuses. Nothing is claimed of speed, of order between racers, or that a racer sees an offer it
-//! wasn't told of.
+//! that the offers of all racers leave. `offer` (one fetch-min) and `least` (one load) answer a word at most the start
+//! and at most everything that the racer knew for the name; `split` and `join` move passes, offers and knowledge
+//! exactly; `settle` writes exactly what `race_core` gives for all offers. After `begin` no call waits, takes memory
+//! or refuses. Nothing is claimed of speed, of order between racers, or that a racer sees an offer it wasn't told of.
+//! What contracts see of a race and its racers stands in `specs/Race.antt`, and the rule that all atomic steps keep in
+//! `specs/Rule.antt`.
+//!
+//! Their contracts refuse a body in which the first offer for a name stays, one that gives up the offers of a racer
+//! that is joined, one whose `least` answers 0, and one that keeps what stood where words are to be written.
 #![tactic(auto)]
 
 ghost use Rattle.std.specs.Prelude.{◌≡◌, ℕ, ◌+◌, ◌-◌, ◌<◌, ◌≤◌, [], ◌∷◌, ◌++◌, length, slice_index, Contains, IfOk};
@@ -34,7 +38,8 @@ impl Model for NameRace {
 
     ghost view = { λ r. record { id = r.table.shared.table_id; start = r.table.shared.key.start.items; passes = r.table.shared.key.passes } };
 
-    ghost invariant = { λ r. (r.table.shared.table_id.slots ≡ 0) × (r.table.shared.table_id.words ≡ length r.table.shared.key.start.items) × (0 < length r.table.shared.key.start.items) };
+    ghost invariant = { λ r. (r.table.shared.table_id.slots ≡ 0)
+        × (r.table.shared.table_id.words ≡ length r.table.shared.key.start.items) × (0 < length r.table.shared.key.start.items) };
 }
 
 /// A racer. Contracts see its race, its passes, what it offered or took over, and the words that it knows.
@@ -50,7 +55,12 @@ impl Model for Racer {
 
     ghost Value = { Holding };
 
-    ghost view = { λ r. record { race = record { id = r.seat.table_id; start = r.seat.me.0.start; passes = r.seat.me.0.all_passes }; passes = r.seat.me.0.passes; offers = r.seat.me.0.offers; known = r.seat.me.0.known } };
+    ghost view = { λ r. record {
+      race = record { id = r.seat.table_id; start = r.seat.me.0.start; passes = r.seat.me.0.all_passes };
+      passes = r.seat.me.0.passes;
+      offers = r.seat.me.0.offers;
+      known = r.seat.me.0.known;
+    } };
 
     ghost invariant = { λ r. (r.seat.me.1 ≡ []) × (0 < r.seat.me.0.passes) };
 }
@@ -86,7 +96,11 @@ impl NameRace {
     pub fn join(&self, racer: &mut Racer, other: Racer)
         requires racer { racer.old.race ≡ self.now }
         requires other { other.race ≡ self.now }
-        ensures { racer.new ≡ record racer.old { passes = racer.old.passes + other.passes; offers = racer.old.offers ++ other.offers; known = racer.old.known ++ other.known } }
+        ensures { racer.new ≡ record racer.old {
+          passes = racer.old.passes + other.passes;
+          offers = racer.old.offers ++ other.offers;
+          known = racer.old.known ++ other.known;
+        } }
     {
         self.table
             .shared
@@ -99,7 +113,10 @@ impl NameRace {
         requires name { name < length self.now.start }
         ensures at_start { result ≤ slice_index self.now.start name }
         ensures known { (seen : ℕ) → Contains racer.old.known (name, seen) → result ≤ seen }
-        ensures racer { racer.new ≡ record racer.old { offers = racer.old.offers ++ (name, word) ∷ []; known = racer.old.known ++ (name, result) ∷ (name, word) ∷ [] } }
+        ensures racer { racer.new ≡ record racer.old {
+          offers = racer.old.offers ++ (name, word) ∷ [];
+          known = racer.old.known ++ (name, result) ∷ (name, word) ∷ [];
+        } }
     {
         self.table
             .shared

@@ -47,19 +47,24 @@ pub(crate) fn work_all<R: Threads + Sync, T: Task + Sync, G: Gate + Sync>(
     requires blocks { AreBlocks blocks }
     requires jobs { blocks.jobs ≤ T.jobs task.now }
     requires fits { All (T.fits task.now) crew.seats.items }
-    ensures { IfOk result (λ h. IsHarvest (WasRun (T.fits task.now) (T.ran task.now)) (T.fits task.now) claims.now.id blocks crew.seats.items h.ends.items (log_of h.done.items) h.drawer) }
+    ensures { IfOk result (λ h. IsHarvest (WasRun (T.fits task.now) (T.ran task.now)) (T.fits task.now) claims.now.id blocks crew.seats.items
+        h.ends.items (log_of h.done.items) h.drawer) }
 {
     if crew.seats.len() < 2 {
         return work_at_one(alloc, gate, claims, task, blocks, crew);
     }
     let (low, high) = halves(claims, u64::from(blocks.count) + 1, crew)?;
     let front = move || -> Result<Harvest<T::Seat, T::Piece>, OutOfMemory>
-        requires { IsSync R.row × IsSync T.row × IsSync G.row × IsCrew claims.now.id (blocks.count + 1) low.first low.seats.items low.drawer × AreBlocks blocks × (blocks.jobs ≤ T.jobs task.now) × All (T.fits task.now) low.seats.items }
-        ensures { IfOk result (λ h. IsHarvest (WasRun (T.fits task.entry.now) (T.ran task.entry.now)) (T.fits task.entry.now) claims.entry.now.id blocks low.seats.items h.ends.items (log_of h.done.items) h.drawer) }
+        requires { IsSync R.row × IsSync T.row × IsSync G.row × IsCrew claims.now.id (blocks.count + 1) low.first low.seats.items low.drawer
+            × AreBlocks blocks × (blocks.jobs ≤ T.jobs task.now) × All (T.fits task.now) low.seats.items }
+        ensures { IfOk result (λ h. IsHarvest (WasRun (T.fits task.entry.now) (T.ran task.entry.now)) (T.fits task.entry.now) claims.entry.now.id
+            blocks low.seats.items h.ends.items (log_of h.done.items) h.drawer) }
     { work_all(rt, alloc, gate, claims, task, blocks, low) };
     let back = move || -> Result<Harvest<T::Seat, T::Piece>, OutOfMemory>
-        requires { IsSync R.row × IsSync T.row × IsSync G.row × IsCrew claims.now.id (blocks.count + 1) high.first high.seats.items high.drawer × AreBlocks blocks × (blocks.jobs ≤ T.jobs task.now) × All (T.fits task.now) high.seats.items }
-        ensures { IfOk result (λ h. IsHarvest (WasRun (T.fits task.entry.now) (T.ran task.entry.now)) (T.fits task.entry.now) claims.entry.now.id blocks high.seats.items h.ends.items (log_of h.done.items) h.drawer) }
+        requires { IsSync R.row × IsSync T.row × IsSync G.row × IsCrew claims.now.id (blocks.count + 1) high.first high.seats.items high.drawer
+            × AreBlocks blocks × (blocks.jobs ≤ T.jobs task.now) × All (T.fits task.now) high.seats.items }
+        ensures { IfOk result (λ h. IsHarvest (WasRun (T.fits task.entry.now) (T.ran task.entry.now)) (T.fits task.entry.now) claims.entry.now.id
+            blocks high.seats.items h.ends.items (log_of h.done.items) h.drawer) }
     { work_all(rt, alloc, gate, claims, task, blocks, high) };
     let (a, b) = join(rt, front, back);
     let front = a?;
@@ -117,7 +122,8 @@ fn work_at_one<T: Task, G: Gate>(
     requires blocks { AreBlocks blocks }
     requires jobs { blocks.jobs ≤ T.jobs task.now }
     requires fits { All (T.fits task.now) crew.seats.items }
-    ensures { IfOk result (λ h. IsHarvest (WasRun (T.fits task.now) (T.ran task.now)) (T.fits task.now) claims.now.id blocks crew.seats.items h.ends.items (log_of h.done.items) h.drawer) }
+    ensures { IfOk result (λ h. IsHarvest (WasRun (T.fits task.now) (T.ran task.now)) (T.fits task.now) claims.now.id blocks crew.seats.items
+        h.ends.items (log_of h.done.items) h.drawer) }
 {
     let Crew {
         first,
@@ -152,7 +158,11 @@ fn both<S: Drop, P: Drop>(
     requires high { high.drawer.claims ≡ claims.now.id }
     ensures ends { IfOk result (λ h. h.ends.items ≡ low.ends.items ++ high.ends.items) }
     ensures done { IfOk result (λ h. h.done.items ≡ low.done.items ++ high.done.items) }
-    ensures drawer { IfOk result (λ h. h.drawer ≡ record { claims = low.drawer.claims; passes = low.drawer.passes + high.drawer.passes; draws = low.drawer.draws ++ high.drawer.draws }) }
+    ensures drawer { IfOk result (λ h. h.drawer ≡ record {
+      claims = low.drawer.claims;
+      passes = low.drawer.passes + high.drawer.passes;
+      draws = low.drawer.draws ++ high.drawer.draws;
+    }) }
 {
     let mut all = low;
     let Harvest {

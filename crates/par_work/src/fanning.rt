@@ -28,7 +28,8 @@ pub fn fan<R: Threads + Sync, T: Task + Sync, G: Gate + Sync>(
     requires jobs { jobs ≤ T.jobs task.now }
     requires fits { All (T.fits task.now) seats.items }
     ensures fanned { IfOk result (λ r. IsFanned (WasRun (T.fits task.now) (T.ran task.now)) seats.items jobs r.0.items r.1.items) }
-    ensures gives { IfOk result (λ r. (job : ℕ) (other : T.Piece) → job < jobs → IsPieceOf (WasRun (T.fits task.now) (T.ran task.now)) job (slice_index_or r.1.items job other)) }
+    ensures gives { IfOk result (λ r. (job : ℕ) (other : T.Piece) → job < jobs
+        → IsPieceOf (WasRun (T.fits task.now) (T.ran task.now)) job (slice_index_or r.1.items job other)) }
     ensures fits { IfOk result (λ r. All (T.fits task.now) r.0.items) }
 {
     let blocks = Blocks::of(jobs);

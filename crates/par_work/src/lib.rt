@@ -9,6 +9,11 @@
 //! which follow each other from 0 to the number of jobs and differ by one job at most. No lock is taken, no worker
 //! can panic, and a gate's pass always returns, so `fan` does. Nothing is claimed of speed, or that two workers ran
 //! at once.
+//!
+//! What became of the jobs is said in `specs/Fan.antt`, and even shares in `specs/Share.antt`.
+//!
+//! Refused are a body that runs a job twice, one that leaves out the last job, and one that answers pieces in the
+//! order in which they end.
 #![tactic(auto)]
 
 mod blocks;

@@ -72,7 +72,8 @@ pub(crate) fn draw_all<T: Task, G: Gate>(
     requires blocks { AreBlocks blocks }
     requires jobs { blocks.jobs ≤ T.jobs task.now }
     requires fits { T.fits task.now worker.old.seat }
-    ensures { OnOk result (HasWorked (WasRun (T.fits task.now) (T.ran task.now)) (T.fits task.now) claims.now.id blocks worker.old.seat worker.new.seat (log_of worker.new.done.items) worker.new.drawer) }
+    ensures { OnOk result (HasWorked (WasRun (T.fits task.now) (T.ran task.now)) (T.fits task.now) claims.now.id blocks
+        worker.old.seat worker.new.seat (log_of worker.new.done.items) worker.new.drawer) }
 {
     for _drawn in 0..u64::from(blocks.count) + 1 {
         let block = claims.draw(&mut worker.drawer);

@@ -7,7 +7,8 @@ ghost use Rattle.race_core.specs.Run.{bids_of, run, IsLeast};
 /// A name's word isn't above the one at the start, nor above one that is offered for the name, and it is one of these.
 #[tactic(auto, using(crate::proofs::Runs::word_of_run))]
 pub fn each_word_is_the_least()
-    ensures { (start : List ℕ) (bids : List (ℕ × ℕ)) (name : ℕ) → name < length start → IsLeast (slice_index start name) (λ word. Contains bids (name, word)) (slice_index (run start bids) name) }
+    ensures { (start : List ℕ) (bids : List (ℕ × ℕ)) (name : ℕ) → name < length start
+        → IsLeast (slice_index start name) (λ word. Contains bids (name, word)) (slice_index (run start bids) name) }
 {}
 
 /// The order of the events doesn't change the words.
@@ -19,7 +20,8 @@ pub fn order_is_free()
 /// Lists with the same offers, in any order and each any number of times, give the same words.
 #[tactic(auto, using(crate::proofs::Runs::run_of_same))]
 pub fn offers_alone_decide()
-    ensures { (start : List ℕ) (bids others : List (ℕ × ℕ)) → ((bid : ℕ × ℕ) → Contains bids bid → Contains others bid) → ((bid : ℕ × ℕ) → Contains others bid → Contains bids bid) → run start bids ≡ run start others }
+    ensures { (start : List ℕ) (bids others : List (ℕ × ℕ)) → ((bid : ℕ × ℕ) → Contains bids bid → Contains others bid)
+        → ((bid : ℕ × ℕ) → Contains others bid → Contains bids bid) → run start bids ≡ run start others }
 {}
 
 /// To run the events of two lists one after the other is to run all of them.

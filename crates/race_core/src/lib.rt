@@ -1,9 +1,18 @@
-//! The core of the race of names. Each name has a word, and an event offers one of the names a word.
-//! Of the words that a name has at the start and is offered, the least stands in the end, in whatever order the offers come and whoever makes them.
+//! The race of names, without threads: each name has a word, and an event offers a word for one of the names.
 //!
-//! This crate is the race of names without threads: after `replay` each word is the least of itself and of the words
-//! offered for its name. The words don't depend on the order of the events, on who made them or on repetition;
-//! running two lists one after the other is running both; no word rises.
+//! An `Offer` says which worker offers which word for which name, a name being known by its number. `replay` makes the
+//! offers one after the other, and leaves the words of `run` (`specs/Run.antt`): each name has the least of the word
+//! that it had and of those that are offered for it (`least_word`). It wants names whose words are there, and can't
+//! fail.
+//!
+//! The laws, in the module `laws`, say why anyone may run the race, in any order. A name's word isn't above the one at
+//! the start, nor above one that is offered for it, and is one of these (`each_word_is_the_least`). The order of the
+//! events doesn't change the words (`order_is_free`), nor does who made them and how often: lists with the same offers
+//! give the same words (`offers_alone_decide`). To run two lists one after the other is to run both (`runs_follow`),
+//! and no word rises (`no_word_rises`).
+//!
+//! A body that lets the greatest or the last word stay isn't proved, nor one that lets the worker count, or gives two
+//! names one word.
 #![tactic(auto)]
 
 ghost use Rattle.std.specs.Prelude.{◌≡◌, ◌<◌, length, All};

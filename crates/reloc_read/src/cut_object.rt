@@ -10,7 +10,7 @@ ghost use Rattle.mo_types.specs.declared.atom.Atom.{Atom};
 ghost use Rattle.mo_types.specs.declared.object.Section.{Section};
 ghost use Rattle.atom_cut.specs.Laws.{IsBefore};
 ghost use Rattle.reloc_read.specs.CutObject as cuts;
-ghost use Rattle.reloc_read.specs.CutObject.{IsCut, IsHigh, IsLow};
+ghost use Rattle.reloc_read.specs.CutObject.{IsCut, IsHigh, IsLow, IsPointOf};
 
 use crate::guide::Guide;
 use mo_types::{Atom, AtomKey, FileId, Object};
@@ -34,7 +34,7 @@ fn is_up_to(key: &AtomKey, number: u16, offset: u64) -> bool
 fn count_up_to(atoms: &[Atom], number: u16, offset: u64) -> usize
     requires { AllPairs (λ a b. IsBefore a.key b.key) atoms.now }
     ensures bound { result ≤ length atoms.now }
-    ensures point { IsPartitionPoint (λ atom. cuts.is_up_to number offset atom.key ≡ true) (λ atom. cuts.is_up_to number offset atom.key ≡ false) atoms.now result }
+    ensures point { IsPointOf number offset atoms.now result }
 {
     atoms.partition_point(|atom| is_up_to(&atom.key, number, offset))
 }
@@ -89,7 +89,7 @@ fn is_high(atoms: &[Atom], number: u16, offset: u64, at: usize) -> bool
 fn count_from(atoms: &[Atom], number: u16, offset: u64, from: usize) -> usize
     requires { AllPairs (λ a b. IsBefore a.key b.key) atoms.now }
     ensures bound { result ≤ length atoms.now }
-    ensures point { IsPartitionPoint (λ atom. cuts.is_up_to number offset atom.key ≡ true) (λ atom. cuts.is_up_to number offset atom.key ≡ false) atoms.now result }
+    ensures point { IsPointOf number offset atoms.now result }
 {
     let near = walk(atoms, number, offset, from);
     if is_low(atoms, number, offset, near) && is_high(atoms, number, offset, near) {

@@ -1,12 +1,16 @@
 //! The references of an object: what its relocations say, after the rules that they keep.
 //!
 //! This crate reads what the relocations of such an object say: `refs_of` gives exactly the references of the
-//! definition, one for each row of the table of relocations, each with its atom, place, kind, target and addend. Or
-//! it answers the first of the rules Pair, Shape, Place and Target that fails, at the least place at which it does,
-//! or the first relocation feature that the linker doesn't have. `read` gives that feature beside the references,
-//! where no rule fails (`feature`, `refs`, `fault`); it goes through the rows once for the rules and the references.
-//! The rules know of no walk: that fields don't overlap, say, is a statement on two rows, which the code decides by
-//! the order of the rows where fields rise or fall all the way, or else by sorting where fields begin and end.
+//! definition, one for each row of the table of relocations, each with its atom, place, kind, target and addend. Or it
+//! answers the first of the rules Pair, Shape, Place and Target that fails, at the least place at which it does, or
+//! the first relocation feature that the linker doesn't have. `read` gives that feature beside the references, where
+//! no rule fails (`feature`, `refs`, `fault`); it goes through the rows once for the rules and the references. The
+//! rules know of no walk: that fields don't overlap, say, is a statement on two rows, which the code decides by the
+//! order of the rows where fields rise or fall all the way, or else by sorting where fields begin and end. The
+//! definition is `refs_of` (`specs/Refs.antt` of `mo_types`).
+//!
+//! No body meets its contract that reads an addend of 24 bits without its sign, that drops what a reference subtracts,
+//! that takes an address for the offset in the section, or that misses two fields that overlap.
 #![tactic(auto)]
 
 ghost use Rattle.std.specs.Prelude.{◌≡◌, Err, IfErr, IfOk, Ok};

@@ -5,7 +5,7 @@ ghost use Rattle.mo_types.specs.Refs as refs;
 ghost use Rattle.mo_types.specs.RelocationRules as rules;
 ghost use Rattle.reloc_read.specs.Fields.{IsSmall};
 
-use mo_types::Field;
+use mo_types::FieldRange;
 
 // The byte at a place, or 0 past the end.
 fn byte_at(bytes: &[u8], at: u64) -> u8

@@ -184,7 +184,8 @@ fn ended_by(ends: &[u64], offset: u64) -> usize
 #[tactic(auto, using(crate::proofs::OverlapLemmas::overlaps))]
 pub fn overlaps_another(overlaps: &Overlaps, field: &FieldRange) -> bool
     requires small { IsSmall field.now }
-    ensures { (relocs : List RawReloc) (at : ℕ) → Tells relocs overlaps.now → at < length relocs → rules.field_at relocs at ≡ Some field.now → result ≡ rules.overlaps_another relocs at field.now }
+    ensures { (relocs : List RawReloc) (at : ℕ) → Tells relocs overlaps.now → at < length relocs → rules.field_at relocs at ≡ Some field.now
+        → result ≡ rules.overlaps_another relocs at field.now }
 {
     match overlaps {
         Overlaps::Nowhere => false,

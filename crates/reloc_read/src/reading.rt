@@ -1,13 +1,13 @@
 //! One pass over the relocations of an object: the least place at which each rule fails, and the references.
 
 ghost use Rattle.std.specs.Prelude.{◌≡◌, ◌+◌, ◌++◌, ◌<◌, ◌≤◌, None, length, slice_index_or, IfOk, IfSome, OnOk};
-ghost use Rattle.mo_types.specs.RelocationRules as rules;
 ghost use Rattle.mo_types.specs.Refs as refs;
 ghost use Rattle.mo_types.specs.declared.object.Section.{Section};
 ghost use Rattle.std.specs.Option.{option_to_list};
 ghost use Rattle.reloc_read.specs.CutObject.{IsCut};
 ghost use Rattle.reloc_read.specs.Faults as faults;
 ghost use Rattle.reloc_read.specs.Faults.{IsClean};
+ghost use Rattle.reloc_read.specs.LinkedSection as linking;
 ghost use Rattle.reloc_read.specs.LinkedSection.{IsLinked};
 ghost use Rattle.reloc_read.specs.Overlaps.{Tells};
 ghost use Rattle.reloc_read.specs.RelocRow.{IsRow, field_cut};
@@ -46,8 +46,9 @@ fn add_row(
     requires row { IsRow linked.now.section.now.relocs at row.now }
     requires cut { cut ≡ field_cut linked.now at row.now }
     requires low { IfSome cut (λ cut. cut ≤ row.now.field.offset) }
-    requires target { target ≡ rules.target_fault linked.now.cut.object.now (linked.now.index + 1) linked.now.section.now at }
-    ensures { OnOk result (rules.place_fault linked.now.cut.object.now (linked.now.index + 1) linked.now.section.now at ≡ None → rules.target_fault linked.now.cut.object.now (linked.now.index + 1) linked.now.section.now at ≡ None → out.new ≡ out.old ++ option_to_list (refs.reference_at linked.now.cut.object.now linked.now.cut.file (linked.now.index + 1) linked.now.section.now at)) }
+    requires target { target ≡ linking.target_fault linked.now at }
+    ensures { OnOk result (linking.place_fault linked.now at ≡ None → linking.target_fault linked.now at ≡ None
+        → out.new ≡ out.old ++ option_to_list (linking.reference_at linked.now at)) }
 {
     let Some(cut) = cut else {
         return Ok(());
@@ -72,7 +73,7 @@ fn read_row(
     requires row { IsRow linked.now.section.now.relocs at row.now }
     requires overlaps { Tells linked.now.section.now.relocs overlaps.now }
     ensures faults { IfOk result (λ found. found ≡ faults.row_faults linked.now.cut.object.now (linked.now.index + 1) linked.now.section.now at) }
-    ensures refs { OnOk result (IsClean linked.now.cut.object.now → out.new ≡ out.old ++ option_to_list (refs.reference_at linked.now.cut.object.now linked.now.cut.file (linked.now.index + 1) linked.now.section.now at)) }
+    ensures refs { OnOk result (IsClean linked.now.cut.object.now → out.new ≡ out.old ++ option_to_list (linking.reference_at linked.now at)) }
 {
     let cut = field_cut(linked, at, row, overlaps);
     let target = target_fault(linked.cut.object, linked.section, at, row);
@@ -94,7 +95,7 @@ fn read_at(
     requires index { at < length linked.now.section.now.relocs }
     requires overlaps { Tells linked.now.section.now.relocs overlaps.now }
     ensures faults { IfOk result (λ found. found ≡ faults.row_faults linked.now.cut.object.now (linked.now.index + 1) linked.now.section.now at) }
-    ensures refs { OnOk result (IsClean linked.now.cut.object.now → out.new ≡ out.old ++ option_to_list (refs.reference_at linked.now.cut.object.now linked.now.cut.file (linked.now.index + 1) linked.now.section.now at)) }
+    ensures refs { OnOk result (IsClean linked.now.cut.object.now → out.new ≡ out.old ++ option_to_list (linking.reference_at linked.now at)) }
 {
     match row_at(linked.section.relocs.as_slice(), at) {
         Some(row) => read_row(out, linked, at, &row, overlaps),
@@ -112,7 +113,7 @@ fn read_rows(
     requires linked { IsLinked linked.now }
     requires overlaps { Tells linked.now.section.now.relocs overlaps.now }
     ensures faults { IfOk result (λ found. found ≡ faults.section_faults linked.now.cut.object.now (linked.now.index + 1) linked.now.section.now) }
-    ensures refs { OnOk result (IsClean linked.now.cut.object.now → out.new ≡ out.old ++ refs.section_refs linked.now.cut.object.now linked.now.cut.file (linked.now.index + 1) linked.now.section.now) }
+    ensures refs { OnOk result (IsClean linked.now.cut.object.now → out.new ≡ out.old ++ linking.refs_of linked.now) }
 {
     out.reserve(linked.section.relocs.len())?;
     let mut found = NONE;
@@ -131,8 +132,10 @@ fn read_section(
 ) -> Result<Faults, OutOfMemory>
     requires cut { IsCut cut.now }
     requires index { index < length cut.now.object.now.sections }
-    ensures faults { IfOk result (λ found. (d : Section) → found ≡ faults.section_faults cut.now.object.now (index + 1) (slice_index_or cut.now.object.now.sections index d)) }
-    ensures refs { OnOk result (IsClean cut.now.object.now → (d : Section) → out.new ≡ out.old ++ refs.section_refs cut.now.object.now cut.now.file (index + 1) (slice_index_or cut.now.object.now.sections index d)) }
+    ensures faults { IfOk result (λ found. (d : Section)
+        → found ≡ faults.section_faults cut.now.object.now (index + 1) (slice_index_or cut.now.object.now.sections index d)) }
+    ensures refs { OnOk result (IsClean cut.now.object.now → (d : Section)
+        → out.new ≡ out.old ++ refs.section_refs cut.now.object.now cut.now.file (index + 1) (slice_index_or cut.now.object.now.sections index d)) }
 {
     let section = &cut.object.sections.as_slice()[index];
     if section.is_dropped() {
@@ -157,7 +160,8 @@ pub fn read_sections(
 ) -> Result<Faults, OutOfMemory>
     requires { IsCut cut.now }
     ensures faults { IfOk result (λ found. found ≡ faults.all_faults cut.now.object.now) }
-    ensures refs { OnOk result (IsClean cut.now.object.now → out.new ≡ out.old ++ refs.refs_from cut.now.object.now cut.now.file 1 cut.now.object.now.sections) }
+    ensures refs { OnOk result (IsClean cut.now.object.now
+        → out.new ≡ out.old ++ refs.refs_from cut.now.object.now cut.now.file 1 cut.now.object.now.sections) }
 {
     let mut found = NONE;
     for index in 0..cut.object.sections.len() {

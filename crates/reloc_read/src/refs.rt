@@ -89,7 +89,8 @@ pub fn reference(linked: &LinkedSection, row: &RelocRow, cut: u64) -> Option<Ref
     requires good { rules.is_bad_target linked.now.cut.object.now linked.now.section.now.bytes row.now.field row.now.last ≡ false }
     requires cut { cut ≡ cut_of linked.now.cut.object.now (linked.now.index + 1) linked.now.section.now row.now.field.offset }
     requires low { cut ≤ row.now.field.offset }
-    ensures { result ≡ refs.reference linked.now.cut.object.now linked.now.cut.file (linked.now.index + 1) linked.now.section.now row.now.first row.now.last row.now.kind row.now.field }
+    ensures { result ≡ refs.reference linked.now.cut.object.now linked.now.cut.file (linked.now.index + 1) linked.now.section.now
+        row.now.first row.now.last row.now.kind row.now.field }
 {
     let field = row.field;
     let target = target_of(linked, field, &row.last)?;

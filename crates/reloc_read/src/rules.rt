@@ -70,7 +70,8 @@ fn row_start(relocs: &[RawReloc], at: usize) -> usize
 fn cut_around(linked: &LinkedSection, field: &FieldRange) -> Option<u64>
     requires linked { IsLinked linked.now }
     requires small { IsSmall field.now }
-    ensures value { result ≡ when (rules.is_in_one_atom linked.now.cut.object.now (linked.now.index + 1) linked.now.section.now field.now) (cut_of linked.now.cut.object.now (linked.now.index + 1) linked.now.section.now field.now.offset) }
+    ensures value { result ≡ when (rules.is_in_one_atom linked.now.cut.object.now (linked.now.index + 1) linked.now.section.now field.now)
+        (cut_of linked.now.cut.object.now (linked.now.index + 1) linked.now.section.now field.now.offset) }
     ensures within { IfSome result (λ cut. cut ≤ field.now.offset) }
 {
     let end = field.offset + field.size;
@@ -92,7 +93,8 @@ fn is_barred(linked: &LinkedSection, at: usize, row: &RelocRow, overlaps: &Overl
     requires index { at < length linked.now.section.now.relocs }
     requires row { IsRow linked.now.section.now.relocs at row.now }
     requires overlaps { Tells linked.now.section.now.relocs overlaps.now }
-    ensures { result ≡ ((table.is_instruction row.now.kind && not (row.now.field.offset % 4 == 0)) || rules.overlaps_another linked.now.section.now.relocs at row.now.field || not (rules.has_fields linked.now.section.now)) }
+    ensures { result ≡ ((table.is_instruction row.now.kind && not (row.now.field.offset % 4 == 0))
+        || rules.overlaps_another linked.now.section.now.relocs at row.now.field || not (rules.has_fields linked.now.section.now)) }
 {
     is_instruction(row.kind) && row.field.offset % 4 != 0
         || overlaps_another(overlaps, &row.field)

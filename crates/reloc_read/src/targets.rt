@@ -74,7 +74,8 @@ fn is_bad_target(object: &Object, section: &Section, field: FieldRange, reloc: &
 // Whether what a row subtracts is nothing that it may name.
 fn is_bad_minus(object: &Object, section: &Section, row: &RelocRow) -> bool
     requires { IsSmall row.now.field }
-    ensures { result ≡ option_map_or (λ first. rows.is_subtractor first && rules.is_bad_target object.now section.now.bytes row.now.field first) row.now.first false }
+    ensures { result ≡ option_map_or (λ first. rows.is_subtractor first && rules.is_bad_target object.now section.now.bytes row.now.field first)
+        row.now.first false }
 {
     match row.first {
         Some(first) => is_subtractor(&first) && is_bad_target(object, section, row.field, &first),

@@ -65,7 +65,8 @@ fn add_at(
     attributes: u32,
 ) -> Result<(), OutOfMemory>
     requires { at < length sections.old.items }
-    ensures { OnOk result ((d : OutSection) → sections.new.items ≡ slice_set sections.old.items at (with_atom (slice_index_or sections.old.items at d) atom.now attributes)) }
+    ensures { OnOk result ((d : OutSection) → sections.new.items
+        ≡ slice_set sections.old.items at (with_atom (slice_index_or sections.old.items at d) atom.now attributes)) }
 {
     add_atom(&mut sections[at], atom, attributes)
 }
@@ -78,7 +79,8 @@ fn add_row<'a>(
     home: Home<'a>,
     atom: &Atom,
 ) -> Result<(), OutOfMemory>
-    ensures { OnOk result ((rows : List spec.Row) → AreGathered rows places.old.keys sections.old.items → AreGathered (rows ++ record { atom = atom.now; home = held_home home.entry } ∷ []) places.new.keys sections.new.items) }
+    ensures { OnOk result ((rows : List spec.Row) → AreGathered rows places.old.keys sections.old.items
+        → AreGathered (rows ++ record { atom = atom.now; home = held_home home.entry } ∷ []) places.new.keys sections.new.items) }
 {
     let (at, new) = places.insert_full(To::new(&home))?;
     open_section(alloc, sections, &home, new)?;

@@ -13,10 +13,12 @@ ghost use Rattle.sect_list.specs.OutSections.{Home, home_of, out_sections};
 
 /// Each atom of which the files have the section, or of a common symbol, is in a section of the image.
 pub fn each_kept_atom_is_listed()
-    ensures { (files : List LoadedFile) (kept : List Atom) (atom : Atom) (home : Home) → Contains kept atom → Some home ≡ home_of files atom.key.file atom.key.section → Contains (keys_of (out_sections files kept)) atom.key }
+    ensures { (files : List LoadedFile) (kept : List Atom) (atom : Atom) (home : Home) → Contains kept atom
+        → Some home ≡ home_of files atom.key.file atom.key.section → Contains (keys_of (out_sections files kept)) atom.key }
 {}
 
 /// No atom is in two sections of the image, nor twice in one, where the kept atoms rise.
 pub fn no_atom_is_listed_twice()
-    ensures { (files : List LoadedFile) (kept : List Atom) → IsStrictlySortedBy (on (λ (atom : Atom). atom.key) compare_keys) kept → AllPairs (λ (a : AtomKey) (b : AtomKey). a ≢ b) (keys_of (out_sections files kept)) }
+    ensures { (files : List LoadedFile) (kept : List Atom) → IsStrictlySortedBy (on (λ (atom : Atom). atom.key) compare_keys) kept
+        → AllPairs (λ (a : AtomKey) (b : AtomKey). a ≢ b) (keys_of (out_sections files kept)) }
 {}

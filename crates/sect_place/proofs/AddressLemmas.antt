@@ -1,6 +1,6 @@
 -- The address that a layout gives for an atom is that of its list of places.
 use Rattle.std.proofs.Common.{◌≡◌, ℕ, Bool, true, false, List, get_or, Option, Some, None, refl, sym, ap, ◌∙◌, subst, inl, inr, arith}
-use Rattle.std.specs.Prelude.{Contains, MatchOption}
+use Rattle.std.specs.Prelude.{Contains}
 use Rattle.std.specs.List.{find}
 use Rattle.std.specs.Option.{option_map}
 use Rattle.std.specs.Ordering.{is_eq}
@@ -15,7 +15,7 @@ use Rattle.mo_types.specs.declared.key.AtomKey.{AtomKey}
 use Rattle.mo_types.proofs.KeyOrder.{compare_keys_total}
 use Rattle.sect_place.specs.declared.layout.Placed.{Placed}
 use Rattle.atom_index.proofs.Keys.{same_key}
-use Rattle.sect_place.specs.Addresses.{AreOnce, address_in}
+use Rattle.sect_place.specs.Addresses.{AreOnce, IsAddressOf, address_in}
 
 -- an entry of the atom
 abbrev is_of : AtomKey → Placed → Bool
@@ -70,6 +70,6 @@ there placed key address once here = by (find (is_of key) placed) refl
         let same : p ≡ entry = one_entry placed p entry once (Contains_from_in placed p found.0) here (same_atom key p found.1) in
         sym (ap (option_map (λ (q : Placed). q.address)) e ∙ ap (λ (q : Placed). Some q.address) same)
 
-pub address_is : (placed : List Placed) (key : AtomKey) (found : Option ℕ) → AreOnce placed → MatchOption found ((address : ℕ) → ¬ Contains placed (record { atom = key; address = address })) (λ address. Contains placed (record { atom = key; address = address })) → found ≡ address_in placed key
+pub address_is : (placed : List Placed) (key : AtomKey) (found : Option ℕ) → AreOnce placed → IsAddressOf placed key found → found ≡ address_in placed key
 address_is placed key None once none = absent placed key none
 address_is placed key (Some address) once here = there placed key address once here

@@ -23,7 +23,8 @@ pub(crate) fn arrange(
     sections: &[OutSection],
     sizes: MadeSizes,
 ) -> Result<Vec<Group>, OutOfMemory>
-    ensures { IfOk result (λ groups. groups.items ≡ arrangement.groups_of sections.now (record { stubs = sizes.stubs; unwind = sizes.unwind; got = sizes.got; tlv = sizes.tlv })) }
+    ensures { IfOk result (λ groups. groups.items ≡ arrangement.groups_of sections.now
+        (record { stubs = sizes.stubs; unwind = sizes.unwind; got = sizes.got; tlv = sizes.tlv })) }
 {
     let mut groups = Vec::new(alloc);
     groups.push(Group {
@@ -46,7 +47,8 @@ fn text_parts(
     sections: &[OutSection],
     sizes: MadeSizes,
 ) -> Result<PartList, OutOfMemory>
-    ensures { IfOk result (λ parts. parts ≡ arrangement.text_parts sections.now (record { stubs = sizes.stubs; unwind = sizes.unwind; got = sizes.got; tlv = sizes.tlv })) }
+    ensures { IfOk result (λ parts. parts ≡ arrangement.text_parts sections.now
+        (record { stubs = sizes.stubs; unwind = sizes.unwind; got = sizes.got; tlv = sizes.tlv })) }
 {
     let mut parts = Vec::new(alloc);
     add_chosen(alloc, &mut parts, sections, Choice::Code)?;
@@ -62,7 +64,8 @@ fn constant_parts(
     sections: &[OutSection],
     sizes: MadeSizes,
 ) -> Result<PartList, OutOfMemory>
-    ensures { IfOk result (λ parts. parts ≡ arrangement.constant_parts sections.now (record { stubs = sizes.stubs; unwind = sizes.unwind; got = sizes.got; tlv = sizes.tlv })) }
+    ensures { IfOk result (λ parts. parts ≡ arrangement.constant_parts sections.now
+        (record { stubs = sizes.stubs; unwind = sizes.unwind; got = sizes.got; tlv = sizes.tlv })) }
 {
     let mut parts = Vec::new(alloc);
     add_made(alloc, &mut parts, Made::Got, sizes.got)?;
@@ -76,7 +79,8 @@ fn writable_parts(
     sections: &[OutSection],
     sizes: MadeSizes,
 ) -> Result<PartList, OutOfMemory>
-    ensures { IfOk result (λ parts. parts ≡ arrangement.writable_parts sections.now (record { stubs = sizes.stubs; unwind = sizes.unwind; got = sizes.got; tlv = sizes.tlv })) }
+    ensures { IfOk result (λ parts. parts ≡ arrangement.writable_parts sections.now
+        (record { stubs = sizes.stubs; unwind = sizes.unwind; got = sizes.got; tlv = sizes.tlv })) }
 {
     let mut parts = Vec::new(alloc);
     add_made(alloc, &mut parts, Made::ThreadPtrs, sizes.tlv)?;

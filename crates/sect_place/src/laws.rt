@@ -52,25 +52,36 @@ pub fn places_are_least()
 
 /// Each kept atom that a section lists has a place in the image.
 pub fn each_listed_atom_is_placed()
-    ensures { (kept : List Atom) (sections : List OutSection) (slots : Slots) (islands : IslandPlan) (sizes : PlaceSizes) (command : Command) (atom : Atom) → Contains kept atom → Contains (keys_of sections) atom.key → (address : ℕ) × Contains (image_places (plan_of kept sections slots islands sizes command)) (record { atom = atom.key; address = address }) }
+    ensures { (kept : List Atom) (sections : List OutSection) (slots : Slots) (islands : IslandPlan) (sizes : PlaceSizes) (command : Command)
+        (atom : Atom) → Contains kept atom → Contains (keys_of sections) atom.key
+        → (address : ℕ) × Contains (image_places (plan_of kept sections slots islands sizes command)) (record { atom = atom.key; address = address }) }
 {}
 
 /// No atom has two places in the image, where no atom is listed twice.
 pub fn no_atom_is_placed_twice()
-    ensures { (kept : List Atom) (sections : List OutSection) (slots : Slots) (islands : IslandPlan) (sizes : PlaceSizes) (command : Command) → AllPairs (λ (a : AtomKey) (b : AtomKey). a ≢ b) (keys_of sections) → AllPairs (λ (p : Placed) (q : Placed). p.atom ≢ q.atom) (image_places (plan_of kept sections slots islands sizes command)) }
+    ensures { (kept : List Atom) (sections : List OutSection) (slots : Slots) (islands : IslandPlan) (sizes : PlaceSizes) (command : Command)
+        → AllPairs (λ (a : AtomKey) (b : AtomKey). a ≢ b) (keys_of sections)
+        → AllPairs (λ (p : Placed) (q : Placed). p.atom ≢ q.atom) (image_places (plan_of kept sections slots islands sizes command)) }
 {}
 
 /// What is planned has one layout where no atom is listed twice: its atoms rise, so none stands there twice, and any two
 /// layouts of it are the same.
 pub fn a_layout_is_one()
-    ensures rising { (kept : List Atom) (sections : List OutSection) (slots : Slots) (islands : IslandPlan) (sizes : PlaceSizes) (command : Command) (layout : Layout) → AllPairs (λ (a : AtomKey) (b : AtomKey). a ≢ b) (keys_of sections) → IsLayoutOf command (plan_of kept sections slots islands sizes command) layout → IsStrictlySortedBy (on (λ (p : Placed). p.atom) compare_keys) layout.placed }
-    ensures one { (kept : List Atom) (sections : List OutSection) (slots : Slots) (islands : IslandPlan) (sizes : PlaceSizes) (command : Command) (a b : Layout) → AllPairs (λ (x : AtomKey) (y : AtomKey). x ≢ y) (keys_of sections) → IsLayoutOf command (plan_of kept sections slots islands sizes command) a → IsLayoutOf command (plan_of kept sections slots islands sizes command) b → a ≡ b }
+    ensures rising { (kept : List Atom) (sections : List OutSection) (slots : Slots) (islands : IslandPlan) (sizes : PlaceSizes) (command : Command)
+        (layout : Layout) → AllPairs (λ (a : AtomKey) (b : AtomKey). a ≢ b) (keys_of sections)
+        → IsLayoutOf command (plan_of kept sections slots islands sizes command) layout
+        → IsStrictlySortedBy (on (λ (p : Placed). p.atom) compare_keys) layout.placed }
+    ensures one { (kept : List Atom) (sections : List OutSection) (slots : Slots) (islands : IslandPlan) (sizes : PlaceSizes) (command : Command)
+        (a b : Layout) → AllPairs (λ (x : AtomKey) (y : AtomKey). x ≢ y) (keys_of sections)
+        → IsLayoutOf command (plan_of kept sections slots islands sizes command) a
+        → IsLayoutOf command (plan_of kept sections slots islands sizes command) b → a ≡ b }
 {}
 
 /// The sections of an image are in order where the kept atoms rise: no atom is listed twice, each section lists its atoms
 /// in order, and none with a greater alignment than its own.
 pub fn sections_are_in_order()
-    ensures { (files : List LoadedFile) (kept : List Atom) → IsStrictlySortedBy (on (λ (atom : Atom). atom.key) compare_keys) kept → All (λ (atom : Atom). atom.align ≤ 14) kept → AreInOrder kept (out_sections files kept) }
+    ensures { (files : List LoadedFile) (kept : List Atom) → IsStrictlySortedBy (on (λ (atom : Atom). atom.key) compare_keys) kept
+        → All (λ (atom : Atom). atom.align ≤ 14) kept → AreInOrder kept (out_sections files kept) }
 {}
 
 /// Where an image has islands, an atom of `__text` stands behind its place without them by the bytes of the areas before
@@ -78,7 +89,12 @@ pub fn sections_are_in_order()
 /// the greatest alignment in `__TEXT`.
 #[tactic(auto, using(crate::proofs::Moving::moved_laws))]
 pub fn islands_move_what_follows()
-    ensures moved { (kept : List Atom) (sections : List OutSection) (slots : Slots) (islands : IslandPlan) (sizes : PlaceSizes) (command : Command) → AreInOrder kept sections → AreBehindCode kept sections islands.areas → IsStrictlySortedBy (on (λ (area : IslandArea). area.last) compare_keys) islands.areas → (key : AtomKey) (after : ℕ) → Contains (image_places (plan_of kept sections slots islands sizes command)) (record { atom = key; address = after }) → (before : ℕ) × Contains (image_places (plan_of kept sections slots no_islands sizes command)) (record { atom = key; address = before }) × IsMoved sections islands.areas (text_end kept sections slots sizes command) key before after }
+    ensures moved { (kept : List Atom) (sections : List OutSection) (slots : Slots) (islands : IslandPlan) (sizes : PlaceSizes) (command : Command)
+        → AreInOrder kept sections → AreBehindCode kept sections islands.areas
+        → IsStrictlySortedBy (on (λ (area : IslandArea). area.last) compare_keys) islands.areas → (key : AtomKey) (after : ℕ)
+        → Contains (image_places (plan_of kept sections slots islands sizes command)) (record { atom = key; address = after })
+        → (before : ℕ) × Contains (image_places (plan_of kept sections slots no_islands sizes command)) (record { atom = key; address = before })
+        × IsMoved sections islands.areas (text_end kept sections slots sizes command) key before after }
     ensures areas { (unit : ℕ) (limit : Option AtomKey) (areas : List IslandArea) → (count : ℕ) × (areas_bytes unit limit areas ≡ count * 2 ^ unit) }
     ensures pages { (end bytes : ℕ) → (count : ℕ) × (pages_moved end bytes ≡ count * 2 ^ 14) }
 {}

@@ -1,7 +1,8 @@
-ghost use Rattle.std.specs.Prelude.{◌≡◌, ℕ, Contains, IfOk, IsPermutation, MatchOption};
+ghost use Rattle.std.specs.Prelude.{◌≡◌, IfOk, IsPermutation};
 ghost use Rattle.std.specs.List.Sorted.{IsSorted};
 ghost use Rattle.std.specs.Ordering.{on};
 ghost use Rattle.mo_types.specs.Keys.{compare_keys};
+ghost use Rattle.sect_place.specs.Addresses.{IsAddressOf};
 ghost use Rattle.sect_place.specs.declared.layout.Placed.{Placed};
 
 use crate::lookup::{address_at, find};
@@ -107,7 +108,7 @@ impl PlacedList {
     // The address of an atom.
     #[inline(always)]
     pub(crate) fn address_of(&self, atom: &AtomKey) -> Option<u64>
-        ensures { MatchOption result ((address : ℕ) → ¬ Contains self.now (record { atom = atom.now; address = address })) (λ address. Contains self.now (record { atom = atom.now; address = address })) }
+        ensures { IsAddressOf self.now atom.now result }
     {
         find(self.placed.as_slice(), &self.hints, atom)
     }
@@ -115,7 +116,7 @@ impl PlacedList {
     // The same, of an atom that mostly stands at a place.
     #[inline(always)]
     pub(crate) fn address_near(&self, near: usize, atom: &AtomKey) -> Option<u64>
-        ensures { MatchOption result ((address : ℕ) → ¬ Contains self.now (record { atom = atom.now; address = address })) (λ address. Contains self.now (record { atom = atom.now; address = address })) }
+        ensures { IsAddressOf self.now atom.now result }
     {
         match address_at(self.placed.as_slice(), near, atom) {
             Some(address) => Some(address),

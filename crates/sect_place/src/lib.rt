@@ -1,4 +1,22 @@
-//! Where everything of an image stands: its segments, its sections, and the atoms in them.
+//! Where everything of an image stands: its segments, its sections, and the atoms in them (`loader.h`).
+//!
+//! `place` answers the `Layout` of the kept atoms: exactly the segments, sections and places of `specs/Layout.antt`,
+//! the addresses in the order of their atoms. `specs/Arrangement.antt` says which sections there are and in which
+//! order, the linker's own among them, and `specs/Places.antt` where they stand: one behind the other, each at the
+//! least multiple of its alignment that isn't below the end of what comes before. Where what stands before
+//! `__LINKEDIT`, but for `__PAGEZERO`, has 2^32 bytes or more that is `ImageSize`, or from 2^127 bytes on want of
+//! memory. The module `arrange` lists segments and sections, and `walk` places them in numbers of 128 bits (`wide`).
+//!
+//! `address` answers an atom's address, or `None` exactly where the layout doesn't have it; `address_near` looks at
+//! one place of the list first. `IslandShifts` tells how far an `IslandPlan` moves what a layout without islands has
+//! (`specs/Shifts.antt`), and `address_with` an atom's address by it, where the sections list their atoms in order.
+//! These look-ups take no memory.
+//!
+//! The laws say that atoms and sections stand apart and aligned, that places are least (`places_are_least`), that each
+//! kept atom that a section lists has a place, and that a layout is one thing where no atom is listed twice.
+//!
+//! A body that places an atom where the one before ends, whatever its alignment, isn't proved, nor one that answers an
+//! image of 2^32 bytes, or leaves room for half the islands.
 #![tactic(auto)]
 
 mod arrange;

@@ -1,7 +1,8 @@
-ghost use Rattle.std.specs.Prelude.{ℕ, IfSome, MatchOption, Contains};
+ghost use Rattle.std.specs.Prelude.{Contains, IfSome};
 ghost use Rattle.std.specs.List.Sorted.{IsSorted};
 ghost use Rattle.std.specs.Ordering.{on};
 ghost use Rattle.mo_types.specs.Keys.{compare_keys};
+ghost use Rattle.sect_place.specs.Addresses.{IsAddressOf};
 ghost use Rattle.sect_place.specs.declared.layout.Placed.{Placed};
 
 use crate::layout::{Layout, Placed};
@@ -11,7 +12,7 @@ use mo_types::AtomKey;
 /// The address of an atom, or `None` exactly where the layout doesn't have it. Takes no memory.
 #[inline(always)]
 pub fn address(layout: &Layout, atom: AtomKey) -> Option<u64>
-    ensures { MatchOption result ((address : ℕ) → ¬ Contains layout.now.placed (record { atom = atom; address = address })) (λ address. Contains layout.now.placed (record { atom = atom; address = address })) }
+    ensures { IsAddressOf layout.now.placed atom result }
 {
     layout.placed.address_of(&atom)
 }
@@ -19,7 +20,7 @@ pub fn address(layout: &Layout, atom: AtomKey) -> Option<u64>
 /// The same, of an atom that mostly stands at a place of the list of addresses.
 #[inline(always)]
 pub fn address_near(layout: &Layout, near: usize, atom: AtomKey) -> Option<u64>
-    ensures { MatchOption result ((address : ℕ) → ¬ Contains layout.now.placed (record { atom = atom; address = address })) (λ address. Contains layout.now.placed (record { atom = atom; address = address })) }
+    ensures { IsAddressOf layout.now.placed atom result }
 {
     layout.placed.address_near(near, &atom)
 }
@@ -28,7 +29,7 @@ pub fn address_near(layout: &Layout, near: usize, atom: AtomKey) -> Option<u64>
 #[inline(always)]
 pub(crate) fn find(placed: &[Placed], hints: &AtomIndex, atom: &AtomKey) -> Option<u64>
     requires { IsSorted (on (λ (p : Placed). p.atom) compare_keys) placed.now }
-    ensures { MatchOption result ((address : ℕ) → ¬ Contains placed.now (record { atom = atom.now; address = address })) (λ address. Contains placed.now (record { atom = atom.now; address = address })) }
+    ensures { IsAddressOf placed.now atom.now result }
 {
     match hints.find(placed, atom) {
         Some(at) => Some(placed[at].address),

@@ -41,12 +41,17 @@ pub fn place(
     requires rising { IsStrictlySortedBy (on (λ (atom : Atom). atom.key) compare_keys) kept.now }
     requires atoms { All (λ atom. atom.align ≤ 14) kept.now }
     requires sections { All (λ section. section.align ≤ 14) sections.now }
-    ensures segments { IfOk result (λ layout. layout.segments ≡ spec.image_segments command.now (spec.plan_of kept.now sections.now slots.now islands.now sizes.now command.now)) }
-    ensures sections { IfOk result (λ layout. layout.sections ≡ spec.image_sections (spec.plan_of kept.now sections.now slots.now islands.now sizes.now command.now)) }
-    ensures places { IfOk result (λ layout. IsPermutation (spec.image_places (spec.plan_of kept.now sections.now slots.now islands.now sizes.now command.now)) layout.placed) }
+    ensures segments { IfOk result (λ layout. layout.segments
+        ≡ spec.image_segments command.now (spec.plan_of kept.now sections.now slots.now islands.now sizes.now command.now)) }
+    ensures sections { IfOk result (λ layout. layout.sections
+        ≡ spec.image_sections (spec.plan_of kept.now sections.now slots.now islands.now sizes.now command.now)) }
+    ensures places { IfOk result (λ layout. IsPermutation (spec.image_places
+        (spec.plan_of kept.now sections.now slots.now islands.now sizes.now command.now)) layout.placed) }
     ensures order { IfOk result (λ layout. IsSorted (on (λ (p : Placed). p.atom) compare_keys) layout.placed) }
     ensures whole { IfOk result IsWholeLayout }
-    ensures size { MatchResult result (λ layout. spec.image_size (spec.plan_of kept.now sections.now slots.now islands.now sizes.now command.now) < 2 ^ 32) (spec.IsTooLarge (spec.image_size (spec.plan_of kept.now sections.now slots.now islands.now sizes.now command.now))) }
+    ensures size { MatchResult result (λ layout. spec.image_size
+        (spec.plan_of kept.now sections.now slots.now islands.now sizes.now command.now) < 2 ^ 32)
+        (spec.IsTooLarge (spec.image_size (spec.plan_of kept.now sections.now slots.now islands.now sizes.now command.now))) }
 {
     let sections = sections.as_slice();
     let groups = arrange(alloc, sections, made_sizes(slots, sizes))?;
@@ -71,7 +76,12 @@ fn base_of(command: &Command) -> u128
 
 // The bytes of the linker's own sections.
 fn made_sizes(slots: &Slots, sizes: &PlaceSizes) -> MadeSizes
-    ensures { result ≡ record { stubs = 12 * length slots.now.stubs; unwind = sizes.now.unwind; got = 8 * length slots.now.got; tlv = 8 * length slots.now.tlv } }
+    ensures { result ≡ record {
+      stubs = 12 * length slots.now.stubs;
+      unwind = sizes.now.unwind;
+      got = 8 * length slots.now.got;
+      tlv = 8 * length slots.now.tlv;
+    } }
 {
     MadeSizes {
         stubs: 12 * slots.stubs.len() as u128,

@@ -154,7 +154,12 @@ fn pages_moved(end: u128, bytes: u128) -> Result<u128, OutOfMemory>
 /// has, or `None` exactly where the layout doesn't have the atom. An address of more than 64 bits is answered as the
 /// largest. Takes no memory.
 pub fn address_with(layout: &Layout, shifts: &IslandShifts, atom: AtomKey) -> Option<u64>
-    ensures { (kept : List Atom) (sections : List OutSection) (slots : Slots) (islands : IslandPlan) (sizes : PlaceSizes) (command : Command) → moved.AreInOrder kept sections → moved.AreBehindCode kept sections islands.areas → IsStrictlySortedBy (on (λ (area : IslandArea). area.last) compare_keys) islands.areas → IsLayoutOf command (plan_of kept sections slots moved.no_islands sizes command) layout.now → shifts.now ≡ spec.shifts_of layout.now.sections islands.areas → spec.IsAddressIn (plan_of kept sections slots islands sizes command) atom result }
+    ensures { (kept : List Atom) (sections : List OutSection) (slots : Slots) (islands : IslandPlan) (sizes : PlaceSizes) (command : Command)
+        → moved.AreInOrder kept sections → moved.AreBehindCode kept sections islands.areas
+        → IsStrictlySortedBy (on (λ (area : IslandArea). area.last) compare_keys) islands.areas
+        → IsLayoutOf command (plan_of kept sections slots moved.no_islands sizes command) layout.now
+        → shifts.now ≡ spec.shifts_of layout.now.sections islands.areas
+        → spec.IsAddressIn (plan_of kept sections slots islands sizes command) atom result }
 {
     match address(layout, atom) {
         Some(place) => Some(sum_to(place, bytes_to(layout.sections.as_slice(), shifts, &atom))),
@@ -188,7 +193,8 @@ fn sum_to(place: u64, bytes: u128) -> u64
 // Whether sections of a region list an atom.
 fn lists(sections: &[PlacedSection], region: Region, atom: &AtomKey) -> bool
     ensures found { IsTrue result → spec.IsListed region sections.now atom.now }
-    ensures missed { All (λ (p : PlacedSection). IsStrictlySortedBy compare_keys p.section.atoms) sections.now → spec.IsListed region sections.now atom.now → IsTrue result }
+    ensures missed { All (λ (p : PlacedSection). IsStrictlySortedBy compare_keys p.section.atoms) sections.now
+        → spec.IsListed region sections.now atom.now → IsTrue result }
 {
     for placed in sections {
         if region.has(&placed.section) && has_key(placed.section.atoms.as_slice(), atom) {
@@ -223,7 +229,9 @@ fn bytes_before(steps: &[Step], all: u128, atom: &AtomKey) -> u128
 
 // How many steps are before an atom.
 fn count_before(steps: &[Step], atom: &AtomKey) -> usize
-    ensures { IsStrictlySortedBy (on (λ (step : Step). step.last) compare_keys) steps.now → IsPartitionPoint (λ (step : Step). is_lt (compare_keys step.last atom.now) ≡ true) (λ (step : Step). is_lt (compare_keys step.last atom.now) ≡ false) steps.now result }
+    ensures { IsStrictlySortedBy (on (λ (step : Step). step.last) compare_keys) steps.now
+        → IsPartitionPoint (λ (step : Step). is_lt (compare_keys step.last atom.now) ≡ true)
+        (λ (step : Step). is_lt (compare_keys step.last atom.now) ≡ false) steps.now result }
 {
     steps.partition_point(|step| is_before(&step.last, atom))
 }

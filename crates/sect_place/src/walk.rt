@@ -42,7 +42,8 @@ fn place_atoms(
     keys: &[AtomKey],
 ) -> Result<u128, OutOfMemory>
     requires { IsRoom room.now.kept.now room.now.areas.now room.now.unit }
-    ensures places { IfOk result (λ end. placed.new.items ≡ placed.old.items ++ map capped_place (spec.places (stand from (spec.spaced room.now.kept.now room.now.areas.now room.now.unit keys.now)))) }
+    ensures places { IfOk result (λ end. placed.new.items ≡ placed.old.items
+        ++ map capped_place (spec.places (stand from (spec.spaced room.now.kept.now room.now.areas.now room.now.unit keys.now)))) }
     ensures end { IfOk result (λ end. end ≡ end_of from (spec.spaced room.now.kept.now room.now.areas.now room.now.unit keys.now)) }
 {
     let mut at = from;
@@ -140,8 +141,10 @@ fn place_parts(
     requires low { All (λ (part : Part). part.section.align ≤ 14) parts.items }
     requires begins { start ≤ from }
     requires file { file ≤ start }
-    ensures sections { IfOk result (λ ends. sections.new.items ≡ sections.old.items ++ map capped_section (spec.parts_sections (spec.spaced room.now.kept.now room.now.areas.now room.now.unit) start file from parts.items)) }
-    ensures places { IfOk result (λ ends. placed.new.items ≡ placed.old.items ++ map capped_place (spec.parts_places (spec.spaced room.now.kept.now room.now.areas.now room.now.unit) from parts.items)) }
+    ensures sections { IfOk result (λ ends. sections.new.items ≡ sections.old.items
+        ++ map capped_section (spec.parts_sections (spec.spaced room.now.kept.now room.now.areas.now room.now.unit) start file from parts.items)) }
+    ensures places { IfOk result (λ ends. placed.new.items ≡ placed.old.items
+        ++ map capped_place (spec.parts_places (spec.spaced room.now.kept.now room.now.areas.now room.now.unit) from parts.items)) }
     ensures memory { IfOk result (λ ends. ends.memory ≡ spec.parts_end (spec.spaced room.now.kept.now room.now.areas.now room.now.unit) from parts.items) }
     ensures file { IfOk result (λ ends. ends.file ≡ spec.parts_filled (spec.spaced room.now.kept.now room.now.areas.now room.now.unit) from from parts.items) }
 {
@@ -184,7 +187,12 @@ fn section_at(
     requires begins { start ≤ address }
     requires ends { address ≤ end }
     requires file { file ≤ start }
-    ensures { result ≡ capped_section (record { section = section; address = address; size = end - address; file_offset = (if whole.is_zerofill section.kind then 0 else file + (address - start)) }) }
+    ensures { result ≡ capped_section (record {
+      section = section;
+      address = address;
+      size = end - address;
+      file_offset = (if whole.is_zerofill section.kind then 0 else file + (address - start));
+    }) }
 {
     let offset = offset_of(section.kind, file + (address - start));
     PlacedSection {
@@ -232,11 +240,15 @@ pub(crate) fn place_groups(
 ) -> Result<Laid, OutOfMemory>
     requires room { IsRoom room.now.kept.now room.now.areas.now room.now.unit }
     requires low { All (λ (group : Group). All (λ (part : Part). part.section.align ≤ 14) group.parts) groups.items }
-    ensures segments { IfOk result (λ laid. laid.segments.items ≡ before.items ++ map capped_segment (spec.groups_segments (spec.spaced room.now.kept.now room.now.areas.now room.now.unit) base 0 lead groups.items)) }
-    ensures sections { IfOk result (λ laid. laid.sections.items ≡ map capped_section (spec.groups_sections (spec.spaced room.now.kept.now room.now.areas.now room.now.unit) base 0 lead groups.items)) }
-    ensures places { IfOk result (λ laid. laid.placed.items ≡ map capped_place (spec.groups_places (spec.spaced room.now.kept.now room.now.areas.now room.now.unit) base lead groups.items)) }
+    ensures segments { IfOk result (λ laid. laid.segments.items ≡ before.items
+        ++ map capped_segment (spec.groups_segments (spec.spaced room.now.kept.now room.now.areas.now room.now.unit) base 0 lead groups.items)) }
+    ensures sections { IfOk result (λ laid. laid.sections.items
+        ≡ map capped_section (spec.groups_sections (spec.spaced room.now.kept.now room.now.areas.now room.now.unit) base 0 lead groups.items)) }
+    ensures places { IfOk result (λ laid. laid.placed.items ≡ map capped_place
+        (spec.groups_places (spec.spaced room.now.kept.now room.now.areas.now room.now.unit) base lead groups.items)) }
     ensures end { IfOk result (λ laid. laid.end ≡ spec.groups_end (spec.spaced room.now.kept.now room.now.areas.now room.now.unit) base lead groups.items) }
-    ensures file { IfOk result (λ laid. laid.file ≡ spec.groups_file (spec.spaced room.now.kept.now room.now.areas.now room.now.unit) base 0 lead groups.items) }
+    ensures file { IfOk result (λ laid. laid.file ≡ spec.groups_file
+        (spec.spaced room.now.kept.now room.now.areas.now room.now.unit) base 0 lead groups.items) }
 {
     let mut segments = before;
     let mut sections = Vec::new(alloc);
@@ -270,7 +282,16 @@ pub(crate) fn place_groups(
 // A segment from one place to another, and in the file from `file` on.
 fn segment_at(name: Bytes, at: u128, next: u128, file: u128, bytes: u128, count: usize) -> Segment
     requires { at ≤ next }
-    ensures { result ≡ capped_segment (record { name = name; address = at; vmsize = next - at; file_offset = file; file_size = bytes; protection = spec.protection_of name; flags = spec.flags_of name; sections = count }) }
+    ensures { result ≡ capped_segment (record {
+      name = name;
+      address = at;
+      vmsize = next - at;
+      file_offset = file;
+      file_size = bytes;
+      protection = spec.protection_of name;
+      flags = spec.flags_of name;
+      sections = count;
+    }) }
 {
     let protection = if name.as_slice() == b"__TEXT".as_slice() {
         VM_PROT_READ | VM_PROT_EXECUTE

@@ -26,6 +26,8 @@ blob_within identifier limit = omega arith
 
 pub ruleset sizes = (pages_below_size, blob_within)
 
+pub ruleset padding = (paging, sizes)
+
 -- sizes that the machine's numbers hold
 pub size_fits : (identifier limit : ℕ) → identifier < 2 ^ 62 → limit < 2 ^ 64 → blob_size identifier limit + 32 < 2 ^ 64
 unfolding blob_size

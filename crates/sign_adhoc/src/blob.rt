@@ -132,7 +132,7 @@ pub fn sign_hashes(
 }
 
 /// How many bytes a signature has with its zeros.
-#[tactic(auto, using(crate::proofs::PageLemmas::paging, crate::proofs::PageLemmas::sizes), unfolding(crate::specs::Signature::signature_size, mo_bytes::specs::Rounding::least_multiple))]
+#[tactic(auto, using(crate::proofs::PageLemmas::padding), unfolding(crate::specs::Signature::signature_size, mo_bytes::specs::Rounding::least_multiple))]
 pub(crate) fn padded_size(identifier: usize, limit: usize) -> usize
     requires { identifier < 2 ^ 62 }
     ensures { result ≡ signature.signature_size identifier limit }

@@ -12,7 +12,8 @@ ghost use Rattle.sign_adhoc.specs.declared.answer.Check.TheVariants.{Good, No};
 
 /// An image that ends with the signature of what stands before it is signed, where a command names the signature.
 pub fn what_is_signed_is_found_so()
-    ensures { (image : List ℕ) (from : ℕ) (identifier : List ℕ) (text_size : ℕ) (main : Bool) → IsWritten image from identifier text_size main → IsNamed image from (signature_size (length identifier) from) → IsSigned image }
+    ensures { (image : List ℕ) (from : ℕ) (identifier : List ℕ) (text_size : ℕ) (main : Bool)
+        → IsWritten image from identifier text_size main → IsNamed image from (signature_size (length identifier) from) → IsSigned image }
 {}
 
 /// A check has one answer.
@@ -23,8 +24,10 @@ pub fn one_answer()
 /// Of a signed image that was changed before its signature, which is still found, a check answers the first page that has
 /// another hash than before, and `Good` exactly where each has its own.
 pub fn a_change_is_told_of()
-    ensures good { (signed image : List ℕ) (is : IsSigned signed) → IsChanged signed image is.signature → (IsAnswer image Good ↔ HaveTheirHashes signed image is.signature.from (page_count is.signature.from)) }
-    ensures first { (signed image : List ℕ) (page : ℕ) (is : IsSigned signed) → IsChanged signed image is.signature → (IsAnswer image (No page) ↔ IsFirstOther signed image is.signature.from page) }
+    ensures good { (signed image : List ℕ) (is : IsSigned signed) → IsChanged signed image is.signature
+        → (IsAnswer image Good ↔ HaveTheirHashes signed image is.signature.from (page_count is.signature.from)) }
+    ensures first { (signed image : List ℕ) (page : ℕ) (is : IsSigned signed) → IsChanged signed image is.signature
+        → (IsAnswer image (No page) ↔ IsFirstOther signed image is.signature.from page) }
 {}
 
 /// The UUID of an image doesn't depend on what stands in its place.

@@ -28,5 +28,6 @@ pub fn slots_are_one_list()
 
 /// What has a stub has a slot in the global offset table too, which the stub loads.
 pub fn stubs_have_slots()
-    ensures { (needs : List Need) (got stubs : List Goal) → AreSlots (needed in_got needs) got → AreSlots (needed in_stubs needs) stubs → (goal : Goal) → Contains stubs goal → Contains got goal }
+    ensures { (needs : List Need) (got stubs : List Goal) → AreSlots (needed in_got needs) got → AreSlots (needed in_stubs needs) stubs
+        → (goal : Goal) → Contains stubs goal → Contains got goal }
 {}

@@ -1,7 +1,7 @@
 -- The template of thread-local variables (`loader.h`: S_THREAD_LOCAL_REGULAR, S_THREAD_LOCAL_ZEROFILL): what the
 -- loader copies for each thread. It begins where the first of these sections does, whose alignment is the greatest
 -- of them all, and an atom's offset in it counts from there.
-use Rattle.std.specs.Prelude.{ℕ, ◌+◌, ◌^◌, ◌==◌, ◌||◌, Bool, List, [], ◌∷◌, ◌++◌, map, max}
+use Rattle.std.specs.Prelude.{ℕ, ◌+◌, ◌^◌, ◌==◌, ◌||◌, Bool, List, [], ◌∷◌, ◌++◌, map, max, Contains}
 use Rattle.std.specs.Ordering.{is_eq}
 use Rattle.std.specs.List.{filter, filter_map, find, flat_map}
 use Rattle.mo_bytes.specs.Rounding.{least_multiple}
@@ -65,6 +65,10 @@ template_size kept sections = sections_end kept 0 (thread_local sections)
 -- offsets by atoms' keys
 abbrev pub offsets : List (Atom × ℕ) → List Offset
 offsets placed = map (λ p. record { atom = p.0.key; offset = p.1 }) placed
+
+-- an atom has an offset among these
+abbrev pub HasOffset : List Offset → AtomKey → ℕ → Type 0
+HasOffset offsets atom offset = Contains offsets (record { atom = atom; offset = offset })
 
 -- the keys that sections list, section by section
 abbrev pub keys_of : List OutSection → List AtomKey

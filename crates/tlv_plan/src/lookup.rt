@@ -1,6 +1,7 @@
-ghost use Rattle.std.specs.Prelude.{◌≡◌, ℕ, MatchOption, Contains};
+ghost use Rattle.std.specs.Prelude.{◌≡◌, ℕ, MatchOption};
 ghost use Rattle.std.specs.List.Sorted.{IsSorted};
 ghost use Rattle.std.specs.Ordering.{on};
+ghost use Rattle.tlv_plan.specs.Template.{HasOffset};
 ghost use Rattle.tlv_plan.specs.declared.parts.Offset.{Offset};
 ghost use Rattle.mo_types.specs.Keys.{compare_keys};
 
@@ -10,7 +11,7 @@ use mo_types::{AtomKey, compare_atoms};
 /// The offset of an atom from the template's start in bytes, or `None` exactly where the atom isn't in the template.
 /// Takes no memory.
 pub fn offset_of(template: &Template, atom: AtomKey) -> Option<u64>
-    ensures { MatchOption result ((offset : ℕ) → ¬ Contains template.now.places (record { atom = atom; offset = offset })) (λ offset. Contains template.now.places (record { atom = atom; offset = offset })) }
+    ensures { MatchOption result ((offset : ℕ) → ¬ HasOffset template.now.places atom offset) (λ offset. HasOffset template.now.places atom offset) }
 {
     find(template.places.as_slice(), &atom)
 }
@@ -18,7 +19,7 @@ pub fn offset_of(template: &Template, atom: AtomKey) -> Option<u64>
 // The offset of an atom, among offsets in the order of their atoms.
 fn find(offsets: &[Offset], atom: &AtomKey) -> Option<u64>
     requires { IsSorted (on (λ (o : Offset). o.atom) compare_keys) offsets.now }
-    ensures { MatchOption result ((offset : ℕ) → ¬ Contains offsets.now (record { atom = atom.now; offset = offset })) (λ offset. Contains offsets.now (record { atom = atom.now; offset = offset })) }
+    ensures { MatchOption result ((offset : ℕ) → ¬ HasOffset offsets.now atom.now offset) (λ offset. HasOffset offsets.now atom.now offset) }
 {
     match offsets.binary_search_by(|o| compare_atoms(&o.atom, atom)) {
         Ok(at) => Some(offsets[at].offset),

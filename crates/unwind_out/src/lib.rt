@@ -1,10 +1,10 @@
 //! The section `__unwind_info` of compact unwind: sized and written for the functions of an image, and searched for a
 //! place.
 //!
-//! `specs/Table.antt` has the rows of the section: one for each function, and one with encoding 0 where a gap
-//! begins. `specs/Pages.antt` cuts them into pages and spells the section, `IsSection`: a compressed page has the most
-//! rows that it can hold, and where these are few the page is a regular one. `specs/Lookup.antt` says what any bytes say
-//! of a place, by the rows that lie whole in them, and which personality an encoding names.
+//! `specs/Table.antt` has the rows of the section: one for each function, and one with encoding 0 where a gap begins.
+//! `specs/Pages.antt` cuts them into pages and spells the section, `IsSection`: a compressed page has the most rows
+//! that it can hold, and where these are few the page is a regular one. `specs/Lookup.antt` says what any bytes say of
+//! a place, by the rows that lie whole in them, and which personality an encoding names.
 //!
 //! Laws: functions have one section (`one_section`), whose size is that of `unwind_size` before it is written. Its
 //! personalities are the slots that functions name, each once, by rising offset (`personalities_rise`), and where a

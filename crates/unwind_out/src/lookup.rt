@@ -1,5 +1,6 @@
 ghost use Rattle.std.specs.Prelude.{◌≡◌, ◌+◌, ◌*◌, ◌<◌, ◌≤◌, ◌^◌, length};
-ghost use Rattle.unwind_out.specs.Lookup.{lies as lies_whole, encoding_at, regular_row, compressed_row, regular_rows, compressed_rows, page_rows, all_rows, each_at, lsda_found, lsda_row, greater as greater_of, row_at, unwind_in, unwind};
+ghost use Rattle.unwind_out.specs.Lookup.{lies as lies_whole, encoding_at, regular_row, compressed_row, regular_rows, compressed_rows, page_rows};
+ghost use Rattle.unwind_out.specs.Lookup.{all_rows, each_at, lsda_found, lsda_row, greater as greater_of, row_at, unwind_in, unwind};
 
 use image_format::compact_unwind::{UNWIND_SECOND_LEVEL_COMPRESSED, UNWIND_SECOND_LEVEL_REGULAR};
 use image_format::{
@@ -153,7 +154,8 @@ fn compressed_rows_before(
     offset: u32,
 ) -> Option<RegularPageEntry>
     requires { page.at < 2 ^ 32 }
-    ensures { result ≡ row_at offset (each_at (compressed_row section.now header page.first page.at page.header) 4 (page.at + page.header.entry_offset) page.header.entry_count) }
+    ensures { result ≡ row_at offset (each_at (compressed_row section.now header page.first page.at page.header) 4
+        (page.at + page.header.entry_offset) page.header.entry_count) }
 {
     let first = page.at + usize::from(page.header.entry_offset);
     let mut best = None;

@@ -1,7 +1,8 @@
 ghost use Rattle.std.specs.Prelude.{◌≡◌, ◌≤◌, ◌<◌, ◌++◌, ◌&&◌, length, OnOk, IfOk, IfErr, IfSome, nat_lt, nat_le, ◌==◌, ◌∷◌, position, slice_index_or};
 ghost use Rattle.std.specs.List.{AllByRecursion, position_or_len};
 ghost use Rattle.unwind_out.specs.Law.{AreFields};
-ghost use Rattle.unwind_out.specs.Table.{personalities, with_slot, with_personality, personality_number, output_encoding, gap, row_of, rows_of, end_of, lsda_of, lsdas_of};
+ghost use Rattle.unwind_out.specs.Table.{personalities, with_slot, with_personality, personality_number, output_encoding};
+ghost use Rattle.unwind_out.specs.Table.{gap, row_of, rows_of, end_of, lsda_of, lsdas_of};
 
 use crate::row::{UnwindLimit, UnwindRow};
 use image_format::compact_unwind::{UNWIND_HAS_LSDA, UNWIND_PERSONALITY_MASK};

@@ -2,7 +2,8 @@ ghost use Rattle.std.specs.Prelude.{◌≡◌, ◌+◌, ◌*◌, ◌≤◌, ◌<
 ghost use Rattle.std.specs.List.{AllByRecursion, flat_map, position_or_len};
 ghost use Rattle.image_format.specs.Unwind.{unwind_index_entry_bytes, unwind_lsda_entry_bytes};
 ghost use Rattle.unwind_out.specs.Table.{AreApart, personalities};
-ghost use Rattle.unwind_out.specs.Pages.{field as field_of, lsda_place as lsda_place_of, info_header as info_header_of, index_of, page_bytes, section_bytes, IsSection};
+ghost use Rattle.unwind_out.specs.Pages.{field as field_of, lsda_place as lsda_place_of, info_header as info_header_of};
+ghost use Rattle.unwind_out.specs.Pages.{index_of, page_bytes, section_bytes, IsSection};
 ghost use Rattle.unwind_out.specs.Held.{AreRising, entry_of, held, section_size as section_size_of, IsHeld};
 ghost use Rattle.unwind_out.specs.Law.{AreFields, FindsEach, FindsNoOther, NamesEach};
 

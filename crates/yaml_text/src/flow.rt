@@ -1,6 +1,7 @@
 //! Flow lists.
 
-ghost use Rattle.std.specs.Prelude.{◌≡◌, ◌+◌, ◌^◌, ◌==◌, ◌&&◌, ◌||◌, nat_lt, ◌<◌, ◌≤◌, true, false, IfOk, IfSome, drop, length, slice_index, Ok, Err, if◌then◌else◌};
+ghost use Rattle.std.specs.Prelude.{◌≡◌, ◌+◌, ◌^◌, ◌==◌, ◌&&◌, ◌||◌, nat_lt, ◌<◌, ◌≤◌, true, false, if◌then◌else◌};
+ghost use Rattle.std.specs.Prelude.{IfOk, IfSome, drop, length, slice_index, Ok, Err};
 ghost use Rattle.std.specs.Option.{option_map};
 ghost use Rattle.mo_types.specs.Gives.{Gives};
 ghost use Rattle.yaml_text.specs.FaultText.{IsYamlFault};
