@@ -17,10 +17,8 @@ pub fn collect<T: Drop>(
 {
     let mut all = before;
     for piece in pieces {
-        match piece {
-            Ok(item) => all.push(item)?,
-            Err(fault) => return Err(fault),
-        }
+        let item = piece?;
+        all.push(item)?;
     }
     Ok(all)
 }

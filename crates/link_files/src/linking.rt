@@ -44,10 +44,7 @@ pub fn link_files<R: Threads + Sync, G: Gate + Sync>(
     ensures { Meets (IsLinked command.now libs.now loaded.now.files) result }
 {
     let wanted = wanted_names(alloc, command)?;
-    let numbered = match names_of(alloc, loaded, &wanted) {
-        Ok(numbered) => numbered,
-        Err(fault) => return Err(fault),
-    };
+    let numbered = names_of(alloc, loaded, &wanted)?;
     let inputs = Inputs {
         command,
         libs,

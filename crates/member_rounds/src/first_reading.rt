@@ -45,10 +45,7 @@ pub(crate) fn read_first<R: Threads + Sync, G: Gate + Sync>(
     ensures whole { IfOk result (λ files. All IsWholeFile files) }
 {
     let members = members_of(alloc, ids)?;
-    let read = match read_all(rt, alloc, gate, workers, sources, members.as_slice()) {
-        Ok(read) => read,
-        Err(fault) => return Err(fault),
-    };
+    let read = read_all(rt, alloc, gate, workers, sources, members.as_slice())?;
     let files = in_order(with_files(Loaded { files: objects }, read)?);
     Ok(files.files)
 }

@@ -174,10 +174,7 @@ fn join_round(
     let Requests { ids, settled } = ask_new(alloc, rules, settled, &read, rounds)?;
     let count = count_new(&read);
     let kept = with_files(kept, read)?;
-    let spare = match spare_names(alloc, spare, count, &kept, rules.wanted) {
-        Ok(spare) => spare,
-        Err(fault) => return Err(fault),
-    };
+    let spare = spare_names(alloc, spare, count, &kept, rules.wanted)?;
     let (left, new) = take_new(alloc, left, ids)?;
     Ok(Link {
         rounds: rounds + 1,
@@ -208,10 +205,7 @@ fn first_round<R: Threads + Sync, G: Gate + Sync>(
 {
     let sources = rules.offers.sources();
     let ids = link.new.as_slice();
-    let read = match read_first(rt, alloc, gate, workers, sources, objects, ids) {
-        Ok(read) => read,
-        Err(fault) => return Err(fault),
-    };
+    let read = read_first(rt, alloc, gate, workers, sources, objects, ids)?;
     join_round(alloc, rules, link, read)
 }
 
@@ -232,10 +226,7 @@ fn next_round<R: Threads + Sync, G: Gate + Sync>(
     ensures fault { IfErr result (λ fault. IsLoadFault fault → loaded_by rules.now ≡ Err fault) }
 {
     let sources = rules.offers.sources();
-    let read = match read_all(rt, alloc, gate, workers, sources, link.new.as_slice()) {
-        Ok(read) => read,
-        Err(fault) => return Err(fault),
-    };
+    let read = read_all(rt, alloc, gate, workers, sources, link.new.as_slice())?;
     join_round(alloc, rules, link, read)
 }
 
@@ -274,18 +265,12 @@ pub fn load<R: Threads + Sync, G: Gate + Sync>(
         libs,
         wanted,
     };
-    let mut link = match first_round(rt, alloc, gate, workers, &rules, objects, link) {
-        Ok(link) => link,
-        Err(fault) => return Err(fault),
-    };
+    let mut link = first_round(rt, alloc, gate, workers, &rules, objects, link)?;
     for round in 0..all.len() {
         if brings_nothing(&link) {
             return Ok(in_order(link.kept));
         }
-        link = match next_round(rt, alloc, gate, workers, &rules, link) {
-            Ok(next) => next,
-            Err(fault) => return Err(fault),
-        };
+        link = next_round(rt, alloc, gate, workers, &rules, link)?;
     }
     Ok(in_order(link.kept))
 }

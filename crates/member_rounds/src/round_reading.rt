@@ -123,10 +123,7 @@ pub(crate) fn read_all<R: Threads + Sync, G: Gate + Sync>(
     for run in 0..ids.len().div_ceil(MOST_JOBS) {
         let rest = &ids[run * MOST_JOBS..];
         let some = &rest[..rest.len().min(MOST_JOBS)];
-        files = match read_some(rt, alloc, gate, workers, sources, some, files) {
-            Ok(more) => more,
-            Err(fault) => return Err(fault),
-        };
+        files = read_some(rt, alloc, gate, workers, sources, some, files)?;
     }
     Ok(files)
 }

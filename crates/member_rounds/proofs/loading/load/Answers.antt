@@ -11,7 +11,7 @@ pub first_round-requires-clause-link : goal.first_round-requires-clause-link
 first_round-requires-clause-link g c κs within = link_over c.in_ok-offers.offers (inputs_of c.as_slice-sources.result.now) c.args.libs.now c.args.wanted.now c.in_ok-link.link (sym c.in_ok-offers.ensures) (c.in_ok-link.ensures.link c.args.libs.now)
 
 pub loop-round-init : goal.loop-round-init
-loop-round-init g c = (c.in-Ok.ensures.link, c.in-Ok.ensures.rounds)
+loop-round-init g c = (c.in_ok-link-2.ensures.link, c.in_ok-link-2.ensures.rounds)
 
 pub returns-then-brings_nothing-clause-exact : goal.returns-then-brings_nothing-clause-exact
 returns-then-brings_nothing-clause-exact g c =

@@ -1,4 +1,5 @@
 use Rattle.std.proofs.Common.{◌≡◌, ℕ, ◌+◌, ◌*◌, ◌-◌, ◌^◌, List, length, min, take, drop, sym, ap, ◌∙◌, subst, arith}
+use Rattle.std.proofs.lemmas.Result.{err_from_is_err_and}
 use Rattle.std.proofs.Math.Nat.{min_comm}
 use Rattle.std.proofs.lemmas.List.{length-drop, length-take, take_min, take_rest}
 use Rattle.mo_types.specs.declared.key.FileId.{FileId}
@@ -16,10 +17,10 @@ pub loop-run-preserved : goal.loop-run-preserved
 loop-run-preserved g c =
     let next : c.loop-run.run * 2 ^ 30 + 2 ^ 30 ≡ (c.loop-run.run + 1) * 2 ^ 30 = omega arith in
     let least : c.min.result ≡ min (length c.args.ids.now - c.loop-run.run * 2 ^ 30) (2 ^ 30) = omega (arith, c.min.ensures, length-take (length c.args.ids.now - c.loop-run.run * 2 ^ 30) (drop (c.loop-run.run * 2 ^ 30) c.args.ids.now), length-drop (c.loop-run.run * 2 ^ 30) c.args.ids.now) in
-    subst (λ n. IsReadTo (inputs_of c.args.sources.now) c.args.ids.now n c.in-Ok.more) next
-    (read_more (inputs_of c.args.sources.now) c.args.ids.now _ (c.loop-run.run * 2 ^ 30) (2 ^ 30) c.loop-run.files c.in-Ok.more c.loop-run.invariant (part_is c.args.ids.now (c.loop-run.run * 2 ^ 30) (2 ^ 30) c.min.result least) c.in-Ok.ensures.exact c.in-Ok.ensures.whole)
+    subst (λ n. IsReadTo (inputs_of c.args.sources.now) c.args.ids.now n c.in_ok-files.files) next
+    (read_more (inputs_of c.args.sources.now) c.args.ids.now _ (c.loop-run.run * 2 ^ 30) (2 ^ 30) c.loop-run.files c.in_ok-files.files c.loop-run.invariant (part_is c.args.ids.now (c.loop-run.run * 2 ^ 30) (2 ^ 30) c.min.result least) c.in_ok-files.ensures.exact c.in_ok-files.ensures.whole)
 
-pub returns-in-Err-clause-exact : goal.returns-in-Err-clause-exact
-returns-in-Err-clause-exact g c = λ real.
+pub returns-in_err-files-clause-exact : goal.returns-in_err-files-clause-exact
+returns-in_err-files-clause-exact g c = let p = err_from_is_err_and c.from_residual.result c.from_residual.ensures.1 in rw (p.1, p.2) λ real.
     let least : c.min.result ≡ min (length c.args.ids.now - c.loop-run.run * 2 ^ 30) (2 ^ 30) = omega (arith, c.min.ensures, length-take (length c.args.ids.now - c.loop-run.run * 2 ^ 30) (drop (c.loop-run.run * 2 ^ 30) c.args.ids.now), length-drop (c.loop-run.run * 2 ^ 30) c.args.ids.now) in
-    read_stops (inputs_of c.args.sources.now) c.args.ids.now _ (c.loop-run.run * 2 ^ 30) (2 ^ 30) c.loop-run.files c.in-Err.fault c.loop-run.invariant (part_is c.args.ids.now (c.loop-run.run * 2 ^ 30) (2 ^ 30) c.min.result least) (c.in-Err.ensures.exact real)
+    read_stops (inputs_of c.args.sources.now) c.args.ids.now _ (c.loop-run.run * 2 ^ 30) (2 ^ 30) c.loop-run.files c.in_err-files.field-0.0 c.loop-run.invariant (part_is c.args.ids.now (c.loop-run.run * 2 ^ 30) (2 ^ 30) c.min.result least) (c.in_err-files.ensures.exact real)
