@@ -1,15 +1,15 @@
 //! The program, over any words, files, output and messages.
 
-ghost use Rattle.std.specs.Prelude.{◌≡◌, ◌≢◌, ◌⊎◌, List, ℕ, IfOk, IfErr};
+ghost use Rattle.std.specs.Prelude.{◌≡◌, ◌≢◌, IfOk, IfErr};
+ghost use Rattle.mo_types.specs.declared.answer.Status.TheVariants.{OutOfMemory};
 ghost use Rattle.lib_bind.specs.Asking.{seen};
 ghost use Rattle.link_engine.specs.Asks.{Answered, places_by};
 ghost use Rattle.link_engine.specs.Command.{command_of};
-ghost use Rattle.link_engine.specs.Settles.{output_seen};
+ghost use Rattle.link_engine.specs.Settles.{Stopped, output_seen};
 ghost use Rattle.link_engine.specs.Verdict.{IsVerdict};
 ghost use Rattle.atomld.specs.Exits.{Exits};
 
-use link_engine::link;
-use mo_message::tell;
+use link_engine::{ended, link};
 use mo_outside::{Diag, Files, FreeGate, Out};
 use mo_types::{ArgList, OutOfMemory, Status};
 use std::alloc::Global;
@@ -47,12 +47,11 @@ pub fn run<R: Threads + Sync, F: Files, O: Out, D: Diag>(
         (output_seen O.files O.calls O.faults D.lines D.faults out.old diag.old) (output_seen O.files O.calls O.faults D.lines D.faults out.new diag.new))
         (seen F.holds F.asked F.faults files.old) (seen F.holds F.asked F.faults files.new)) }
     ensures memory { IfErr words (λ fault. result ≡ 4) }
+    ensures stopped { IfErr words (λ fault. Stopped OutOfMemory
+        (output_seen O.files O.calls O.faults D.lines D.faults out.old diag.old) (output_seen O.files O.calls O.faults D.lines D.faults out.new diag.new)) }
 {
     match words {
         Ok(words) => link_words(rt, alloc, &words, files, out, diag),
-        Err(_) => {
-            tell(diag, b"", &Status::OutOfMemory);
-            Status::OutOfMemory.code()
-        }
+        Err(_) => ended(diag, b"", Status::OutOfMemory).code(),
     }
 }

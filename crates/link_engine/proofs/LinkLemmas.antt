@@ -30,7 +30,7 @@ use Rattle.link_engine.specs.Bound.{BoundBy, IsBound}
 use Rattle.link_engine.specs.Causes.{StopCause}
 use Rattle.link_engine.specs.Command.{command_of, commanded, crowd_stop}
 use Rattle.link_engine.specs.Kept.{IsReadWell, IsStop}
-use Rattle.link_engine.specs.Settles.{Carries, CarriesPart, ExactlyWhere, OutputSeen, Settles}
+use Rattle.link_engine.specs.Settles.{Carries, CarriesPart, ExactlyWhere, IsComplete, OutputSeen, Settles, Stopped}
 use Rattle.link_engine.specs.Stop.{bind_fault_for, fetch_fault_for, status_for, status_of, stop_in, stopped}
 use Rattle.link_engine.specs.Told.{Told, look_in}
 use Rattle.link_engine.specs.Verdict.{IsVerdict, IsVerdictOver, contents_with, found_by, told_by}
@@ -83,8 +83,8 @@ stops_not : (is : Result Plan Stop → Type 0) (end : StepFault Stop) (out_fault
 stops_not is (fault.Stop told) out_fault one meets plan other = absurd (no_plan (one (Err told) (Ok plan) meets other))
 stops_not is fault.OutOfMemory out_fault one meets plan other = inr (inl refl)
 
-settles_stop : (is : Result Plan Stop → Type 0) (end : StepFault Stop) (old new : OutputSeen) → IsOne is → Meets {A = Plan} is (Err end) → Settles is (status_for end) old new
-settles_stop is end old new one meets = record {
+settles_stop : (is : Result Plan Stop → Type 0) (end : StepFault Stop) (old new : OutputSeen) → IsOne is → Meets {A = Plan} is (Err end) → Stopped (status_for end) old new → Settles is (status_for end) old new
+settles_stop is end old new one meets stopped = record {
   stops = λ why. record {
     only = stops_only is end why meets;
     always = stops_as is end one meets why;
@@ -92,14 +92,27 @@ settles_stop is end old new one meets = record {
   plans = stops_not is end (Rises old.out_faults new.out_faults) one meets;
   done = λ same. absurd (subst IsStop same (status_is_stop end));
   part = λ same. absurd (subst IsStop same (status_is_stop end));
+  stopped = λ _. stopped;
 }
 
-pub settles_ended : (words : List (List ℕ)) (told : Told) (end : StepFault Stop) (status result : Status) (old new : OutputSeen) → status ≡ status_for end → result ≡ status → Meets {A = Plan} (IsVerdict words told) (Err end) → Settles (IsVerdict words told) result old new
-settles_ended words told end status result old new is same meets =
+pub settles_ended : (words : List (List ℕ)) (told : Told) (end : StepFault Stop) (status result : Status) (old new : OutputSeen) → status ≡ status_for end → result ≡ status → Meets {A = Plan} (IsVerdict words told) (Err end) → Stopped status old new → Settles (IsVerdict words told) result old new
+settles_ended words told end status result old new is same meets stopped =
     subst (λ (s : Status). Settles (IsVerdict words told) s old new) (sym (same ∙ is))
-    (settles_stop (IsVerdict words told) end old new (one_verdict words told told.more) meets)
+    (settles_stop (IsVerdict words told) end old new (one_verdict words told told.more) meets (subst (λ (s : Status). Stopped s old new) is stopped))
+
+status_of_stop : (why : Stop) → IsStop (status_of why)
+status_of_stop (stop.Usage word rule) = tt
+status_of_stop (stop.ReadFault path) = tt
+status_of_stop (stop.Refused refusal) = tt
+
+same_plan : {A E : Type 0} {x y : A} → ◌≡◌ {A = Result A E} (Ok x) (Ok y) → x ≡ y
+same_plan e = cc
 
 -- an answer after something was written
+not_ended : (status : Status) → (status ≡ Done) ⊎ (status ≡ WriteFault) → IsStop status → ⊥
+not_ended status (inl done) stop = subst IsStop done stop
+not_ended status (inr failed) stop = subst IsStop failed stop
+
 not_stop : (status : Status) (why : Stop) → (status ≡ Done) ⊎ (status ≡ WriteFault) → status ≡ status_of why → ⊥
 not_stop status (stop.Usage word rule) (inl done) same = absurd cc
 not_stop status (stop.ReadFault path) (inl done) same = absurd cc
@@ -120,6 +133,27 @@ settles_plan words told plan status old new is kind writes done part = record {
   ];
   done = λ at_done. (plan, is, done at_done);
   part = λ failed. (plan, is, part failed);
+  stopped = λ stop. absurd (not_ended status kind stop);
+}
+
+-- what a verdict leaves open
+
+built_whole : (words : List (List ℕ)) (told : Told) (status : Status) (old new : OutputSeen) → Settles (IsVerdict words told) status old new → (plan : Plan) → IsVerdict words told (Ok plan) → status ≡ Done → Carries plan old new
+built_whole words told status old new so plan is same =
+    let d = so.done same in
+    subst (λ (p : Plan). Carries p old new) (same_plan (one_verdict words told told.more (Ok d.0) (Ok plan) d.1 is)) d.2
+
+pub settles_complete : (words : List (List ℕ)) (told : Told) (status : Status) (old new : OutputSeen) → Settles (IsVerdict words told) status old new → IsComplete (IsVerdict words told) status old new
+settles_complete words told status old new so = record {
+  built = λ plan is quiet. elim (so.plans plan is) [
+    | inl at_done ↦ inl (at_done, built_whole words told status old new so plan is at_done)
+    | inr (inl memory) ↦ inr memory
+    | inr (inr rises) ↦ absurd (quiet rises)
+  ];
+  stopped = λ why is. elim ((so.stops why).always is) [
+    | inl same ↦ inl (same, so.stopped (subst IsStop (sym same) (status_of_stop why)))
+    | inr memory ↦ inr memory
+  ];
 }
 
 -- ---- what files told, where what they hold is told: they answered as they hold, up to one that wasn't read
@@ -262,6 +296,7 @@ settles_same P Q status old new same given = record {
   plans = λ plan q. given.plans plan (same.from (Ok plan) q);
   done = λ told. let d = given.done told in (d.0, same.to (Ok d.0) d.1, d.2);
   part = λ told. let d = given.part told in (d.0, same.to (Ok d.0) d.1, d.2);
+  stopped = given.stopped;
 }
 
 -- where there is a verdict on what files told, it is the one over the files

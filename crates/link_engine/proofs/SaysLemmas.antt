@@ -1,10 +1,15 @@
 -- Lines that are put, or not.
-use Rattle.std.proofs.Common.{◌≡◌, ◌∙◌, ℕ, ◌++◌, List, [], length, Option, Some, None, sym, ap, arith}
+use Rattle.std.proofs.Common.{◌≡◌, ◌∙◌, ℕ, ◌++◌, List, [], length, Option, Some, None, refl, sym, ap, arith}
 use Rattle.std.proofs.lemmas.List.{append-nil}
 use Rattle.std.proofs.Math.Seq.{take-length}
-use Rattle.mo_outside.specs.Tells.{Appends, AppendsSome, Tells}
+use Rattle.mo_outside.specs.Tells.{Appends, AppendsSome, Stays, Tells}
 use Rattle.link_engine.specs.Settles.{Says}
 use Rattle.link_engine.proofs.WritingLemmas.{tells_more}
+
+-- what isn't touched stays
+pub untouched : {A : Type 0} (x : Option A) → Tells Stays x x
+untouched None = tt
+untouched (Some a) = record { same = refl }
 
 nothing : (line : List ℕ) → line ≡ [] → (x : Option (List ℕ)) → Tells (Appends line) x x
 nothing line none None = tt

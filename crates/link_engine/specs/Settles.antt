@@ -9,6 +9,7 @@ use Rattle.mo_types.specs.declared.answer.Status.{Status}
 use Rattle.mo_types.specs.declared.answer.Status.TheVariants.{Done, WriteFault, OutOfMemory}
 use Rattle.link_engine.specs.declared.plan.Plan.{Plan}
 use Rattle.link_engine.specs.declared.stop.Stop.{Stop}
+use Rattle.link_engine.specs.Kept.{IsStop}
 use Rattle.link_engine.specs.Stop.{status_of}
 use Rattle.link_engine.specs.Writing.{AreCallsUpTo, AreFilesCalls, Hands, WritesAll, WritesUpTo}
 
@@ -66,10 +67,17 @@ pub record CarriesPart (plan : Plan) (old new : OutputSeen) : Type 0 where
   pub says : SaysIn (line_of file.0 WriteFault) old new
 
 -- An answer, and what was written, against the verdict: it is a stop exactly where the verdict is, but for want of memory;
--- and all of the plan was written exactly where there is one, but for want of memory and a fault of the output that was
--- counted.
+-- all of the plan was written exactly where there is one, but for want of memory and a fault of the output that was counted;
+-- and where the answer is a stop or want of memory, nothing was begun, and its own line was put.
 pub record Settles (is : Result Plan Stop → Type 0) (status : Status) (old new : OutputSeen) : Type 0 where
   pub stops : (stop : Stop) → ExactlyWhere (is (Err stop)) (status_of stop) status
   pub plans : (plan : Plan) → is (Ok plan) → (status ≡ Done) ⊎ ((status ≡ OutOfMemory) ⊎ Rises old.out_faults new.out_faults)
   pub done : status ≡ Done → (plan : Plan) × is (Ok plan) × Carries plan old new
   pub part : status ≡ WriteFault → (plan : Plan) × is (Ok plan) × CarriesPart plan old new
+  pub stopped : IsStop status → Stopped status old new
+
+-- What an answer leaves open: where there is a plan and no fault of the output was counted, all of it was written, or memory
+-- ran out; where there is a stop, that is the answer, or memory ran out.
+pub record IsComplete (is : Result Plan Stop → Type 0) (status : Status) (old new : OutputSeen) : Type 0 where
+  pub built : (plan : Plan) → is (Ok plan) → ¬ Rises old.out_faults new.out_faults → ((status ≡ Done) × Carries plan old new) ⊎ (status ≡ OutOfMemory)
+  pub stopped : (stop : Stop) → is (Err stop) → ((status ≡ status_of stop) × Stopped status old new) ⊎ (status ≡ OutOfMemory)

@@ -24,8 +24,8 @@ ghost use Rattle.mo_types.specs.declared.answer.Status.TheVariants.{OutOfMemory,
 ghost use Rattle.mo_types.specs.declared.cause.UsageRule.{UsageRule};
 ghost use Rattle.link_engine.specs.Asks.{Answered, places_by};
 ghost use Rattle.link_engine.specs.Command.{command_of};
-ghost use Rattle.link_engine.specs.Kept.{IsReadWell, IsStop};
-ghost use Rattle.link_engine.specs.Settles.{ExactlyWhere, Settles, Stopped, output_seen};
+ghost use Rattle.link_engine.specs.Kept.{IsReadWell};
+ghost use Rattle.link_engine.specs.Settles.{ExactlyWhere, Settles, output_seen};
 ghost use Rattle.link_engine.specs.declared.stop.Stop.TheVariants as stop;
 ghost use Rattle.link_engine.specs.Verdict.{IsVerdict, IsVerdictOver};
 
@@ -39,9 +39,10 @@ mod stop;
 mod words;
 mod write;
 
-pub use crate::laws::{a_verdict_is_one, every_refusal_has_its_cause};
+pub use crate::laws::{a_verdict_is_one, an_answer_is_complete, every_refusal_has_its_cause};
 use crate::plan::make_plan;
-use crate::run::{carry_out, ended};
+use crate::run::carry_out;
+pub use crate::run::ended;
 use crate::stop::status_of;
 use mo_outside::{Diag, Files, Gate, Out};
 use mo_types::{ArgList, Status};
@@ -75,8 +76,6 @@ pub fn link<R: Threads + Sync, F: Files, O: Out, D: Diag, G: Gate + Sync>(
         (output_seen O.files O.calls O.faults D.lines D.faults out.old diag.old) (output_seen O.files O.calls O.faults D.lines D.faults out.new diag.new)) }
     ensures usage { (word : ℕ) (rule : UsageRule)
         → ExactlyWhere (command_of words.now ≡ Err (stop.Usage word rule)) (Usage word rule) result }
-    ensures stopped { IsStop result → Stopped result
-        (output_seen O.files O.calls O.faults D.lines D.faults out.old diag.old) (output_seen O.files O.calls O.faults D.lines D.faults out.new diag.new) }
 
     // The faults.
     ensures read_fault { (path : List ℕ) → result ≡ ReadFault path → Rises (F.faults files.old) (F.faults files.new) }

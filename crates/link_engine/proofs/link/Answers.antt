@@ -4,6 +4,7 @@ use Rattle.mo_types.specs.declared.answer.Status.TheVariants.{OutOfMemory}
 use Rattle.link_engine.specs.Kept.{IsReadWell}
 use Rattle.link_engine.proofs.AskedLemmas.{answered_then, fault_answered, fault_rises, fault_still, planned_answered, planned_keeps}
 use Rattle.link_engine.proofs.LinkLemmas.{read_fault_told, settles_ended, settles_plan, settles_told, still_ends, usage_told}
+use Rattle.link_engine.proofs.SaysLemmas.{untouched}
 use Rattle.link_engine.proofs.link.Goals as goal
 
 pub returns-in-Ok-clause-settles : goal.returns-in-Ok-clause-settles
@@ -14,7 +15,7 @@ returns-in-Ok-clause-settles g c =
 pub returns-in-Err-clause-settles : goal.returns-in-Err-clause-settles
 returns-in-Err-clause-settles g c =
     answered_then g.F.Files.answers _ _ _ _ _ _ _ (fault_answered g.F.Files.answers c.args.words.now _ c.in-Err.fault _ c.in-Err.ensures.exact c.in-Err.ensures.asks) (still_ends c.in-Err.fault _ c.ended.result c.status_of.ensures c.ended.ensures.same)
-    (λ told gives. settles_ended c.args.words.now told c.in-Err.fault _ c.ended.result _ _ c.status_of.ensures c.ended.ensures.same gives)
+    (λ told gives. settles_ended c.args.words.now told c.in-Err.fault _ c.ended.result _ _ c.status_of.ensures c.ended.ensures.same gives (record { files = untouched _; calls = untouched _; says = c.ended.ensures.says }))
 
 pub returns-in-Ok-clause-told : goal.returns-in-Ok-clause-told
 returns-in-Ok-clause-told g c = settles_told g.F.Files.answers _ _ _ _ _ _ (returns-in-Ok-clause-settles g c)
