@@ -64,7 +64,7 @@ fn many_inputs(alloc: Global, word: &str) -> Result<Option<Command>, OutOfMemory
     Ok(read_all_words(alloc, &list).ok())
 }
 
-fn one_file(alloc: Global, path: &str) -> Result<FileList, OutOfMemory>
+pub fn one_file(alloc: Global, path: &str) -> Result<FileList, OutOfMemory>
     ensures { IfOk result (λ pairs. AllPairs (λ one other. one.0 ≢ other.0) pairs) }
 {
     let path = Bytes::from_slice(alloc, path.as_bytes())?;
