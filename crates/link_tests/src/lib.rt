@@ -3,4 +3,6 @@
 #![tactic(auto)]
 
 #[cfg(test)]
+mod each_gate;
+#[cfg(test)]
 mod runs;

@@ -1,5 +1,6 @@
 ghost use Rattle.std.specs.Prelude.{◌≢◌, AllPairs, IfOk};
 
+use crate::each_gate::EachGate;
 use link_engine::link;
 use mo_outside::{CallList, FileList, FreeGate, Gate, MeetGate, MemDiag, MemFiles, MemOut};
 use mo_types::{Arg, ArgList, Bytes, Items, OutOfMemory};
@@ -254,20 +255,24 @@ fn linked<R: AllocGlobal + Threads + Sync, G: Gate + Sync>(
     image_by(rt, &words, &mut files, gate)
 }
 
-fn two_make_what_one_makes<R: AllocGlobal + Threads + Sync>(
+fn two_make_what_one_makes<R: AllocGlobal + Threads + Sync, G: Gate + Sync>(
     rt: &R,
-    gate: &MeetGate,
+    gate: &G,
 ) -> Result<bool, OutOfMemory> {
     let by_two = linked(rt, "main.o b.o -threads 2", gate)?;
     let by_one = linked(rt, "main.o b.o -threads 1", &FreeGate)?;
     Ok(by_two.len() == IMAGE_SIZE && by_two.as_slice() == by_one.as_slice())
 }
 
-// Two workers come to the gate, and the image is that of one worker alone.
+// Two workers come to the gate, and the image is that of one worker alone. They meet three times: each reads one of the two
+// objects, races for the names of one, and writes one of the two atoms.
 #[test]
 fn workers_meet(rt: HostRuntime) -> Result<(), Fail> {
     let gate = MeetGate::new(1_000_000_000);
     assert!(rt; two_make_what_one_makes(&rt, &gate)?);
     assert!(rt; gate.met());
+    let each = EachGate::new(1_000_000_000);
+    assert!(rt; two_make_what_one_makes(&rt, &each)?);
+    assert!(rt; each.meetings() == Some(3));
     Ok(())
 }
