@@ -1,7 +1,7 @@
 //! The program, over any words, files, output and messages.
 
 ghost use Rattle.std.specs.Prelude.{◌≡◌, ◌≢◌, IfOk, IfErr};
-ghost use Rattle.mo_types.specs.declared.answer.Status.TheVariants.{OutOfMemory};
+ghost use Rattle.mo_types.specs.declared.answer.Status.TheVariants as answer;
 ghost use Rattle.lib_bind.specs.Asking.{seen};
 ghost use Rattle.link_engine.specs.Asks.{Answered, places_by};
 ghost use Rattle.link_engine.specs.Command.{command_of};
@@ -47,7 +47,7 @@ pub fn run<R: Threads + Sync, F: Files, O: Out, D: Diag>(
         (output_seen O.files O.calls O.faults D.lines D.faults out.old diag.old) (output_seen O.files O.calls O.faults D.lines D.faults out.new diag.new))
         (seen F.holds F.asked F.faults files.old) (seen F.holds F.asked F.faults files.new)) }
     ensures memory { IfErr words (λ fault. result ≡ 4) }
-    ensures stopped { IfErr words (λ fault. Stopped OutOfMemory
+    ensures stopped { IfErr words (λ fault. Stopped answer.OutOfMemory
         (output_seen O.files O.calls O.faults D.lines D.faults out.old diag.old) (output_seen O.files O.calls O.faults D.lines D.faults out.new diag.new)) }
 {
     match words {

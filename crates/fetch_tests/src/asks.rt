@@ -19,7 +19,17 @@ const ROWS: &str = "\
     b.o a.o b.o b.o a.o\ta.o\t3\tabsent there absent absent there \n\
 ";
 
-// What is answered for each path, one after the other, up to one that couldn't be read.
+// What an answer for a path says, where each file has its path as its bytes.
+fn word_of(answer: &Result<Option<Bytes>, AskFault>, path: &Bytes) -> &'static [u8] {
+    match answer {
+        Ok(Some(bytes)) => { if bytes == path { b"there " } else { b"other " } }
+        Ok(None) => b"absent ",
+        Err(AskFault::Unread) => b"unread ",
+        Err(AskFault::OutOfMemory) => b"memory ",
+    }
+}
+
+// What is answered for each path, one after the other.
 fn answers(alloc: Global, paths: &str, there: &str, failing: u64) -> Result<Vec<u8>, OutOfMemory> {
     let mut calls = Items::new(alloc);
     calls.push(failing)?;
@@ -28,14 +38,8 @@ fn answers(alloc: Global, paths: &str, there: &str, failing: u64) -> Result<Vec<
     let mut said = Vec::new(alloc);
     for path in paths.split(' ') {
         let path = Bytes::from_slice(alloc, path.as_bytes())?;
-        let answer: &[u8] = match ask(alloc, &mut files, &mut cache, &path) {
-            Ok(Some(bytes)) if bytes == path => b"there ",
-            Ok(Some(_)) => b"other ",
-            Ok(None) => b"absent ",
-            Err(AskFault::Unread) => b"unread ",
-            Err(AskFault::OutOfMemory) => return Err(OutOfMemory),
-        };
-        said.extend_from_slice(answer)?;
+        let answer = ask(alloc, &mut files, &mut cache, &path);
+        said.extend_from_slice(word_of(&answer, &path))?;
     }
     Ok(said)
 }
