@@ -1,0 +1,3 @@
+pub mod Working
+pub mod Team
+pub mod Rows
