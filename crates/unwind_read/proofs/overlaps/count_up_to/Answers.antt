@@ -1,0 +1,12 @@
+use Rattle.std.proofs.Common.{not, rules}
+use Rattle.std.proofs.lemmas.List.Sorted.{IsPartitionPoint-from_clause}
+use Rattle.reloc_read.proofs.CountLemmas.{point_counts}
+use Rattle.unwind_read.specs.Overlaps.{is_before}
+use Rattle.unwind_read.proofs.OverlapLemmas.{parted_up_to}
+use Rattle.unwind_read.proofs.overlaps.count_up_to.Goals as goal
+
+pub returns : goal.returns
+returns c =
+    point_counts (λ other. not (is_before c.args.bound.now other)) c.args.bounds.now _ c.partition_point.ensures.bound
+    (IsPartitionPoint-from_clause (λ other. not (is_before c.args.bound.now other)) _ _ c.partition_point.ensures.partitioned
+    (parted_up_to c.args.bounds.now c.args.bound.now c.requires) (λ a r q k. search rules))

@@ -1,0 +1,9 @@
+pub mod Added
+pub mod CutObject
+pub mod Entry
+pub mod Found
+pub mod Overlaps
+pub mod Pointers
+pub mod Rules
+pub mod Spots
+pub mod Unwinds
