@@ -1,7 +1,15 @@
 -- The parts of a blob, appended one after the other.
 use Rattle.std.proofs.Common.{◌≡◌, ℕ, Bool, List, [], ◌∷◌, ◌++◌, length, refl, sym, ap, ◌∙◌, append_assoc}
-use Rattle.fixup_chain.specs.Encoded.{header_bytes, joined, padded, unit_of}
-use Rattle.fixup_chain.specs.Starts.{zeros_to}
+use Rattle.std.specs.List.{flat_map}
+use Rattle.sect_place.specs.declared.layout.Segment.{Segment}
+use Rattle.fixup_chain.specs.Encoded.{blob_of, header_bytes, joined, padded, unit_of}
+use Rattle.fixup_chain.specs.ImportOrder.{Import}
+use Rattle.fixup_chain.specs.Imports.{pool_of}
+use Rattle.fixup_chain.specs.Pool.{rows_from}
+use Rattle.fixup_chain.specs.Starts.{starts_bytes, zeros_to}
+use Rattle.fixup_chain.specs.declared.import_row.ImportRow.{ImportRow}
+use Rattle.fixup_chain.specs.inner.Rows.{bytes_of, rows_at}
+use Rattle.fixup_chain.proofs.PoolLemmas.{as_many, bytes_are}
 
 step : (old new a b : List ℕ) → old ≡ a → new ≡ old ++ b → new ≡ a ++ b
 step old new a b e f = f ∙ ap (λ (z : List ℕ). z ++ b) e
@@ -36,3 +44,14 @@ joins wide count unit size starts rows pool none one two three four five six las
     e7 ∙ ap (λ (n : ℕ). six ++ zeros_to 8 n) z ∙ ap (λ (w : List ℕ). w ++ zeros_to 8 (length w)) whole ∙ sym (padded_by (joined wide count starts rows pool))
 
 pub ruleset joining = (joins)
+
+pub blob_made : (addresses : List ℕ) (base : ℕ) (segments : List Segment) (wide : Bool) (imports : List Import) (rows : List ImportRow) (starts bytes pool made : List ℕ) (count : ℕ) → rows ≡ rows_at 1 imports → count ≡ length rows → starts ≡ starts_bytes addresses base segments → bytes ≡ flat_map (bytes_of wide) rows → pool ≡ pool_of imports → made ≡ padded (joined wide count starts bytes pool) → made ≡ blob_of addresses base segments wide imports
+unfolding blob_of
+blob_made addresses base segments wide imports rows starts bytes pool made count rows_are count_is starts_are bytes_made pool_is made_is =
+    made_is
+    ∙ ap (λ (n : ℕ). padded (joined wide n starts bytes pool)) (count_is ∙ ap length rows_are ∙ as_many 1 imports)
+    ∙ ap (λ (z : List ℕ). padded (joined wide (length imports) z bytes pool)) starts_are
+    ∙ ap (λ (z : List ℕ). padded (joined wide (length imports) (starts_bytes addresses base segments) z pool)) (bytes_made ∙ ap (flat_map (bytes_of wide)) rows_are ∙ bytes_are wide 1 imports)
+    ∙ ap (λ (z : List ℕ). padded (joined wide (length imports) (starts_bytes addresses base segments) (rows_from wide 1 imports) z)) pool_is
+
+pub ruleset blobs = (blob_made, as_many)

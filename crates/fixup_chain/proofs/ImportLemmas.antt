@@ -1,25 +1,28 @@
 -- Imports, put together each once and in order.
-use Rattle.std.proofs.Common.{◌≡◌, ℕ, ◌<◌, Bool, true, false, ℤ, List, [], ◌∷◌, Contains, refl, sym, ap, subst, ◌∙◌, inl, inr}
-use Rattle.std.specs.List.{dedup_from, IsDistinct}
-use Rattle.std.specs.List.Sorted.{IsSorted, IsStrictlySortedBy}
+use Rattle.std.proofs.Common.{◌≡◌, ℕ, ◌<◌, Bool, true, false, ℤ, List, [], Contains, refl, sym, ap, subst, inl, inr}
+use Rattle.std.specs.Prelude.{IsPermutation}
+use Rattle.std.specs.List.{IsDistinct}
+use Rattle.std.specs.List.Sorted.{IsSorted}
 use Rattle.std.specs.Cmp.{int_ranks}
 use Rattle.std.specs.Cmp.Lexicographic.{slice_cmp}
 use Rattle.std.specs.Int.Signed.{◌<ℤ◌}
 use Rattle.std.specs.declared.cmp.Ordering.{Ordering}
 use Rattle.std.specs.declared.cmp.Ordering.TheVariants.{Less, Equal, Greater}
 use Rattle.std.specs.Ordering.{nat_cmp, int_cmp, bool_cmp, eq_by_cmp, is_eq, ordering_then, MatchOrdering}
-use Rattle.std.proofs.lemmas.List.Kept.{IsStrictlySortedBy-dedup}
 use Rattle.std.proofs.lemmas.List.Sorted.{Contains-permutation, IsPermutation-sym}
-use Rattle.std.specs.Prelude.{IsPermutation}
 use Rattle.list_lemmas.proofs.Inserted.{from_inserted, in_inserted}
 use Rattle.list_lemmas.proofs.Members.{in_from_Contains, Contains_from_in}
 use Rattle.list_lemmas.proofs.Ties.{same_number}
 use Rattle.indexmap.specs.IndexSet.{insert_all}
-use Rattle.fixup_chain.specs.ImportOrder.{Import, compare_imports, compare_imports_total, compare_imports_equal}
-use Rattle.fixup_chain.specs.Imports.{AreFormed, AreImports, imports_by, is_wide, pool_of}
+use Rattle.fixup_chain.specs.ImportOrder.{Import, compare_imports, compare_imports_total}
+use Rattle.fixup_chain.specs.Imports.{AreFormed, AreImports, import_of, imports_by, is_wide, pool_of}
 use Rattle.fixup_chain.specs.inner.Fed.{same_name}
-use Rattle.fixup_chain.specs.inner.Held.{gathered}
+use Rattle.fixup_chain.specs.inner.Held.{gathered, imports_in, is_same}
+use Rattle.fixup_chain.specs.inner.InOrder.{in_order}
 use Rattle.fixup_chain.specs.declared.chains.Fixup.{Fixup}
+use Rattle.fixup_chain.proofs.OneLemmas.{same_imports}
+use Rattle.fixup_chain.proofs.OrderLemmas.{from_in_order, in_in_order, order_rises}
+use Rattle.fixup_chain.proofs.RowLemmas.{distinct_rises}
 
 -- ---- imports that tie are the same
 
@@ -68,51 +71,51 @@ same_import a b e =
     let optional : a.optional ≡ b.optional = same_bool a.optional b.optional (tied by_optional three.1) in
     same_parts a.name b.name a.addend b.addend a.ordinal b.ordinal a.optional b.optional name addend ordinal optional
 
--- ---- a sorted list without repeats rises
-
-dedup_stays : {K : Type 0} (E : K → K → Bool) (flips : (x y : K) → E x y ≡ E y x) (k : K) (xs : List K) → IsDistinct E (k ∷ xs) → dedup_from E k xs ≡ k ∷ xs
-unfolding IsDistinct
-dedup_stays E flips k [] distinct = refl
-dedup_stays E flips k (x ∷ xs) distinct =
-    let other : E x k ≡ false = flips x k ∙ distinct.0.0 in
-    let rest : dedup_from E x xs ≡ x ∷ xs = dedup_stays E flips x xs distinct.1 in
-    rw (other, rest) refl
-
-pub rising : (xs : List Import) → IsSorted compare_imports xs → IsDistinct (eq_by_cmp compare_imports) xs → IsStrictlySortedBy compare_imports xs
-unfolding IsStrictlySortedBy
-rising [] sorted distinct = tt
-rising (x ∷ xs) sorted distinct =
-    subst (IsStrictlySortedBy compare_imports) (dedup_stays (eq_by_cmp compare_imports) compare_imports_equal.symm x xs distinct)
-    (IsStrictlySortedBy-dedup compare_imports_total (λ a b. refl) (x ∷ xs) sorted)
-
 -- ---- what is gathered and put in order
 
-pub ordered : (wide : Bool) (fixups : List Fixup) (before after : List Import) → before ≡ gathered wide fixups → IsPermutation before after → IsSorted compare_imports after → IsDistinct (eq_by_cmp compare_imports) after → AreImports (imports_by wide fixups) after
-unfolding gathered
-ordered wide fixups before after is moved sorted distinct = record {
-  rising = rising after sorted distinct;
+tie_same : (a b : Import) → compare_imports a b ≡ Equal → a ≡ b
+tie_same a b e = same_import a b (ap is_eq e)
+
+pub are_in : (wide : Bool) (fixups : List Fixup) → AreImports (imports_by wide fixups) (imports_in wide fixups)
+unfolding imports_in
+are_in wide fixups = record {
+  rising = order_rises compare_imports compare_imports_total (imports_by wide fixups);
+  all = λ import h.
+      Contains_from_in (in_order compare_imports (imports_by wide fixups)) import
+      (in_in_order compare_imports tie_same (imports_by wide fixups) import (in_from_Contains (imports_by wide fixups) import h));
+  only = λ import h.
+      Contains_from_in (imports_by wide fixups) import
+      (from_in_order compare_imports (imports_by wide fixups) import (in_from_Contains (in_order compare_imports (imports_by wide fixups)) import h));
+}
+
+ordered : (fixups : List Fixup) (before after : List Import) → before ≡ gathered is_same (import_of false) fixups → IsPermutation before after → IsSorted compare_imports after → IsDistinct is_same after → AreImports (imports_by false fixups) after
+unfolding gathered imports_by
+ordered fixups before after is moved sorted distinct = record {
+  rising = distinct_rises is_same compare_imports_total (λ a b. refl) after sorted distinct;
   all = λ import h.
       Contains-permutation before after import moved
       (subst (λ (xs : List Import). Contains xs import) (sym is)
-      (Contains_from_in (insert_all (eq_by_cmp compare_imports) [] (imports_by wide fixups)) import
-      (in_inserted (eq_by_cmp compare_imports) same_import [] (imports_by wide fixups) import (in_from_Contains (imports_by wide fixups) import h))));
+      (Contains_from_in (insert_all is_same [] (imports_by false fixups)) import
+      (in_inserted is_same same_import [] (imports_by false fixups) import (in_from_Contains (imports_by false fixups) import h))));
   only = λ import h.
       let there : Contains before import = Contains-permutation after before import (IsPermutation-sym before after moved) h in
-      let put : Contains (insert_all (eq_by_cmp compare_imports) [] (imports_by wide fixups)) import = subst (λ (xs : List Import). Contains xs import) is there in
-      elim (from_inserted (eq_by_cmp compare_imports) same_import [] (imports_by wide fixups) import (in_from_Contains (insert_all (eq_by_cmp compare_imports) [] (imports_by wide fixups)) import put)) [
+      let put : Contains (insert_all is_same [] (imports_by false fixups)) import = subst (λ (xs : List Import). Contains xs import) is there in
+      elim (from_inserted is_same same_import [] (imports_by false fixups) import (in_from_Contains (insert_all is_same [] (imports_by false fixups)) import put)) [
         | inl none ↦ absurd none
-        | inr given ↦ Contains_from_in (imports_by wide fixups) import given
+        | inr given ↦ Contains_from_in (imports_by false fixups) import given
       ];
 }
 
+pub ordered_in : (fixups : List Fixup) (before after : List Import) → before ≡ gathered is_same (import_of false) fixups → IsPermutation before after → IsSorted compare_imports after → IsDistinct is_same after → after ≡ imports_in false fixups
+ordered_in fixups before after is moved sorted distinct =
+    same_imports (imports_by false fixups) after (imports_in false fixups) (ordered fixups before after is moved sorted distinct) (are_in false fixups)
+
 -- ---- their form
 
-pub forms : (fixups : List Fixup) (narrow imports : List Import) (pool : List ℕ) (wide : Bool) → AreImports (imports_by false fixups) narrow → pool ≡ pool_of narrow → wide ≡ is_wide fixups pool → AreImports (imports_by wide fixups) imports → AreFormed fixups wide imports
-forms fixups narrow imports pool wide first p w are = record {
-  narrow = narrow;
-  are_narrow = first;
-  form = w ∙ ap (is_wide fixups) p;
-  are = are;
+pub forms : (fixups : List Fixup) (wide : Bool) → wide ≡ is_wide fixups (pool_of (imports_in false fixups)) → AreFormed fixups wide (imports_in wide fixups)
+forms fixups wide e = record {
+  narrow = imports_in false fixups;
+  are_narrow = are_in false fixups;
+  form = e;
+  are = are_in wide fixups;
 }
-
-pub ruleset forming = (forms)

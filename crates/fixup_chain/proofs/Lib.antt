@@ -2,12 +2,16 @@ pub mod Appends
 pub mod BlobLemmas
 pub mod EncodeLemmas
 pub mod ImportLemmas
+pub mod NameLemmas
 pub mod NearLemmas
 pub mod OneLemmas
 pub mod OpenLemmas
+pub mod OrderLemmas
 pub mod PlaceLemmas
 pub mod PoolLemmas
+pub mod RowLemmas
 pub mod StartLemmas
 pub mod TurnLemmas
 pub mod UseLemmas
 pub mod WalkLemmas
+pub mod WideLemmas

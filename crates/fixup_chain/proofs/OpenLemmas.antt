@@ -85,3 +85,7 @@ open_to segments fixups at x y some apart size is_x is_y is none = range_open se
 pub open_at : (segments : List Segment) (fixups : List Fixup) (at : ℕ) (x : Fixup) (free : Bool) → (IsTrue free → AreOpen segments fixups) → at < length fixups → x ≡ get_or fixups at x → IsTrue free → list_any (is_closed x.address) segments ≡ false
 open_at segments fixups at x free are within is holds =
     ap (λ (f : Fixup). list_any (is_closed f.address) segments) is ∙ (are holds).none at x within
+
+pub from_not : (b : Bool) → IsTrue (not b) → b ≡ false
+from_not true holds = cc
+from_not false holds = refl

@@ -1,20 +1,20 @@
--- The imports of pointers, each once in the order of the pointers, and the numbers that they have once they are in order.
-use Rattle.std.proofs.Common.{◌≡◌, ℕ, zero, suc, ◌+◌, ◌<◌, ◌≤◌, ◌^◌, ◌||◌, ◌⊎◌, if◌then◌else◌, Bool, true, false, List, [], ◌∷◌, ◌++◌, length, get_or, slice_get, map, take, drop, Some, refl, sym, ap, subst, ◌∙◌, inl, inr, arith, length-append}
-use Rattle.std.specs.Prelude.{All}
-use Rattle.std.specs.List.{list_any}
-use Rattle.std.specs.Ordering.{eq_by_cmp}
-use Rattle.std.proofs.lemmas.Bool.{cases_lt}
+-- What pointers are bound to, each once in the order of the pointers, and the numbers that it has once it is in order.
+use Rattle.std.proofs.Common.{◌≡◌, ℕ, zero, suc, ◌+◌, ◌<◌, ◌≤◌, ◌||◌, ◌⊎◌, if◌then◌else◌, Bool, true, false, List, [], ◌∷◌, ◌++◌, length, get_or, slice_get, nat_lt, map, take, drop, Option, Some, None, refl, sym, ap, subst, ◌∙◌, inl, inr, arith, length-append}
+use Rattle.std.specs.Prelude.{IfSome, position, unwrap_or}
+use Rattle.std.specs.List.{list_any, position_or_len}
+use Rattle.std.proofs.lemmas.Bool.{cases_lt, ltb-true}
 use Rattle.std.proofs.lemmas.List.{drop_all, drop_more, get_or_append_left, get_or_default, get_or_push, map-append, take_all, take_more}
-use Rattle.std.proofs.lemmas.List.Elements.{All-push}
 use Rattle.std.proofs.lemmas.List.Folds.{list_any_more}
 use Rattle.std.proofs.lemmas.Option.{get_or_from_slice_get, slice_get_within}
 use Rattle.indexmap.specs.IndexSet.{insert_all, insert_key}
-use Rattle.fixup_chain.specs.ImportOrder.{Import, compare_imports}
-use Rattle.fixup_chain.specs.Imports.{bound, import_of, imports_by, is_bound}
-use Rattle.fixup_chain.specs.Words.{number_of}
-use Rattle.fixup_chain.specs.inner.Held.{AreNumbers, ArePlaces, HasNumber, HasPlace, StandsAt, gathered, is_large, noted}
+use Rattle.fixup_chain.specs.ImportOrder.{Import}
+use Rattle.fixup_chain.specs.Imports.{bound, import_of, is_bound}
+use Rattle.fixup_chain.specs.inner.Held.{ArePlaces, HasPlace, StandsAt, gathered, is_large, is_same, noted, noted_row, rank_in}
+use Rattle.fixup_chain.specs.inner.Rows.{same_row}
 use Rattle.fixup_chain.specs.declared.chains.Fixup.{Fixup}
+use Rattle.fixup_chain.specs.declared.import_row.ImportRow.{ImportRow}
 use Rattle.fixup_chain.proofs.ImportLemmas.{same_import}
+use Rattle.fixup_chain.proofs.RowLemmas.{same_rows}
 
 clash : {P : Type 0} (b : Bool) → b ≡ false → b ≡ true → P
 clash b e f = absurd (let g : true ≡ false = sym f ∙ e in cc)
@@ -27,151 +27,181 @@ second_of b x y e = rw e refl
 
 -- ---- one more pointer
 
-pub noted_bound : (wide : Bool) (keys new : List Import) (x : Fixup) → is_bound x.goal ≡ true → new ≡ insert_key (eq_by_cmp compare_imports) keys (import_of wide x) → new ≡ noted wide keys x
+pub noted_bound : (keys new : List Import) (x : Fixup) → is_bound x.goal ≡ true → new ≡ insert_key is_same keys (import_of false x) → new ≡ noted is_same (import_of false) keys x
 unfolding noted
-noted_bound wide keys new x holds e = e ∙ sym (first_of (is_bound x.goal) (insert_key (eq_by_cmp compare_imports) keys (import_of wide x)) keys holds)
+noted_bound keys new x holds e = e ∙ sym (first_of (is_bound x.goal) (insert_key is_same keys (import_of false x)) keys holds)
 
-pub noted_other : (wide : Bool) (keys : List Import) (x : Fixup) → is_bound x.goal ≡ false → keys ≡ noted wide keys x
+pub noted_other : (keys : List Import) (x : Fixup) → is_bound x.goal ≡ false → keys ≡ noted is_same (import_of false) keys x
 unfolding noted
-noted_other wide keys x other = sym (second_of (is_bound x.goal) (insert_key (eq_by_cmp compare_imports) keys (import_of wide x)) keys other)
+noted_other keys x other = sym (second_of (is_bound x.goal) (insert_key is_same keys (import_of false x)) keys other)
 
-pub place_there : (wide : Bool) (keys : List Import) (x : Fixup) (place : ℕ) → ((k : Import) × (slice_get keys place ≡ Some k) × (eq_by_cmp compare_imports (import_of wide x) k ≡ true)) → HasPlace wide keys x place
-place_there wide keys x place (k, at, same) = record {
+pub place_there : (keys : List Import) (x : Fixup) (place : ℕ) → ((k : Import) × (slice_get keys place ≡ Some k) × (is_same (import_of false x) k ≡ true)) → HasPlace (import_of false) keys x place
+place_there keys x place (k, at, same) = record {
   there = λ holds. record {
     within = slice_get_within keys place k at;
-    is = λ d. get_or_from_slice_get keys place k d at ∙ sym (same_import (import_of wide x) k same);
+    is = λ d. get_or_from_slice_get keys place k d at ∙ sym (same_import (import_of false x) k same);
   };
 }
 
-pub place_none : (wide : Bool) (keys : List Import) (x : Fixup) (place : ℕ) → is_bound x.goal ≡ false → HasPlace wide keys x place
-place_none wide keys x place other = record { there = λ holds. clash (is_bound x.goal) other holds }
+pub place_none : (keys : List Import) (x : Fixup) (place : ℕ) → is_bound x.goal ≡ false → HasPlace (import_of false) keys x place
+place_none keys x place other = record { there = λ holds. clash (is_bound x.goal) other holds }
 
 pub ruleset noting = (noted_bound, noted_other, place_there, place_none)
 
+pub row_there : (keys : List ImportRow) (row : ImportRow) (place : ℕ) → ((k : ImportRow) × (slice_get keys place ≡ Some k) × (same_row row k ≡ true)) → StandsAt keys place row
+row_there keys row place (k, at, same) = record {
+  within = slice_get_within keys place k at;
+  is = λ d. get_or_from_slice_get keys place k d at ∙ sym (same_rows row k same);
+}
+
+pub ruleset noting_row = (row_there)
+
 -- ---- the loop that gathers
 
-pub record IsGathering (wide : Bool) (fixups : List Fixup) (at : ℕ) (now : List Import) (places : List ℕ) (large : Bool) : Type 0 where
+pub record IsGathering {K : Type 0} (same : K → K → Bool) (of : Fixup → K) (fixups : List Fixup) (at : ℕ) (now : List K) (places : List ℕ) : Type 0 where
   pub within : at ≤ length fixups
-  pub same : insert_all (eq_by_cmp compare_imports) now (imports_by wide (drop at fixups)) ≡ gathered wide fixups
+  pub same_all : insert_all same now (map of (bound (drop at fixups))) ≡ gathered same of fixups
   pub size : length places ≡ at
-  pub each : (k : ℕ) (f : Fixup) (p : ℕ) → k < at → HasPlace wide now (get_or fixups k f) (get_or places k p)
-  pub some : large ≡ list_any is_large (take at fixups)
+  pub each : (k : ℕ) (f : Fixup) (p : ℕ) → k < at → HasPlace of now (get_or fixups k f) (get_or places k p)
 
 there : (fixups : List Fixup) (i : ℕ) (x : Fixup) → i < length fixups → x ≡ get_or fixups i x → drop i fixups ≡ x ∷ drop (i + 1) fixups
 there xs i x low is = drop_more xs i x low ∙ ap (λ y. y ∷ drop (i + 1) xs) (sym is)
 
-first_is : (wide : Bool) (now : List Import) (x : Fixup) (rest : List Fixup) → insert_all (eq_by_cmp compare_imports) now (imports_by wide (x ∷ rest)) ≡ insert_all (eq_by_cmp compare_imports) (noted wide now x) (imports_by wide rest)
-unfolding imports_by bound noted
-first_is wide now x rest = by (is_bound x.goal) refl
-  where
-    by : (b : Bool) → is_bound x.goal ≡ b → insert_all (eq_by_cmp compare_imports) now (imports_by wide (x ∷ rest)) ≡ insert_all (eq_by_cmp compare_imports) (noted wide now x) (imports_by wide rest)
-    by true e = rw e refl
-    by false e = rw e refl
+none_bound : bound [] ≡ []
+unfolding bound
+none_bound = refl
 
-no_imports : (wide : Bool) → imports_by wide [] ≡ []
-unfolding imports_by bound
-no_imports wide = refl
+module _ {K : Type 0} (same : K → K → Bool) (of : Fixup → K) where
+  first_is : (now : List K) (x : Fixup) (rest : List Fixup) → insert_all same now (map of (bound (x ∷ rest))) ≡ insert_all same (noted same of now x) (map of (bound rest))
+  unfolding bound noted
+  first_is now x rest = by (is_bound x.goal) refl
+    where
+      by : (b : Bool) → is_bound x.goal ≡ b → insert_all same now (map of (bound (x ∷ rest))) ≡ insert_all same (noted same of now x) (map of (bound rest))
+      by true e = rw e refl
+      by false e = rw e refl
 
-noted_more : (wide : Bool) (keys : List Import) (x : Fixup) → (noted wide keys x ≡ keys) ⊎ (noted wide keys x ≡ keys ++ import_of wide x ∷ [])
-unfolding noted
-noted_more wide keys x = by (is_bound x.goal) (list_any (eq_by_cmp compare_imports (import_of wide x)) keys) refl refl
-  where
-    put : List Import
-    put = insert_key (eq_by_cmp compare_imports) keys (import_of wide x)
+  noted_more : (keys : List K) (x : Fixup) → (noted same of keys x ≡ keys) ⊎ (noted same of keys x ≡ keys ++ of x ∷ [])
+  unfolding noted
+  noted_more keys x = by (is_bound x.goal) (list_any (same (of x)) keys) refl refl
+    where
+      put : List K
+      put = insert_key same keys (of x)
 
-    by : (b c : Bool) → is_bound x.goal ≡ b → list_any (eq_by_cmp compare_imports (import_of wide x)) keys ≡ c → (noted wide keys x ≡ keys) ⊎ (noted wide keys x ≡ keys ++ import_of wide x ∷ [])
-    by false c e f = inl (second_of (is_bound x.goal) put keys e)
-    by true true e f =
-        inl (first_of (is_bound x.goal) put keys e ∙ first_of (list_any (eq_by_cmp compare_imports (import_of wide x)) keys) keys (keys ++ import_of wide x ∷ []) f)
-    by true false e f =
-        inr (first_of (is_bound x.goal) put keys e ∙ second_of (list_any (eq_by_cmp compare_imports (import_of wide x)) keys) keys (keys ++ import_of wide x ∷ []) f)
+      by : (b c : Bool) → is_bound x.goal ≡ b → list_any (same (of x)) keys ≡ c → (noted same of keys x ≡ keys) ⊎ (noted same of keys x ≡ keys ++ of x ∷ [])
+      by false c e f = inl (second_of (is_bound x.goal) put keys e)
+      by true true e f = inl (first_of (is_bound x.goal) put keys e ∙ first_of (list_any (same (of x)) keys) keys (keys ++ of x ∷ []) f)
+      by true false e f = inr (first_of (is_bound x.goal) put keys e ∙ second_of (list_any (same (of x)) keys) keys (keys ++ of x ∷ []) f)
 
-kept : (keys new : List Import) (place : ℕ) (import' : Import) (more : List Import) → new ≡ keys ++ more → StandsAt keys place import' → StandsAt new place import'
-kept keys new place import' more e stands = record {
-  within = (let size : length new ≡ length keys + length more = ap length e ∙ length-append keys more in let low = stands.within in omega (arith, size, low));
-  is = λ d. ap (λ (xs : List Import). get_or xs place d) e ∙ get_or_append_left keys more d place stands.within ∙ stands.is d;
-}
+  kept : (keys new : List K) (place : ℕ) (key : K) (more : List K) → new ≡ keys ++ more → StandsAt keys place key → StandsAt new place key
+  kept keys new place key more e stands = record {
+    within = (let size : length new ≡ length keys + length more = ap length e ∙ length-append keys more in let low = stands.within in omega (arith, size, low));
+    is = λ d. ap (λ (xs : List K). get_or xs place d) e ∙ get_or_append_left keys more d place stands.within ∙ stands.is d;
+  }
 
-still : (wide : Bool) (keys new : List Import) (x f : Fixup) (place : ℕ) → new ≡ noted wide keys x → HasPlace wide keys f place → HasPlace wide new f place
-still wide keys new x f place e has = elim (noted_more wide keys x) [
-  | inl same ↦ subst (λ (ks : List Import). HasPlace wide ks f place) (sym (e ∙ same)) has
-  | inr more ↦ record { there = λ holds. kept keys new place (import_of wide f) (import_of wide x ∷ []) (e ∙ more) (has.there holds) }
-]
+  still : (keys new : List K) (x f : Fixup) (place : ℕ) → new ≡ noted same of keys x → HasPlace of keys f place → HasPlace of new f place
+  still keys new x f place e has = elim (noted_more keys x) [
+    | inl stays ↦ subst (λ (ks : List K). HasPlace of ks f place) (sym (e ∙ stays)) has
+    | inr more ↦ record { there = λ holds. kept keys new place (of f) (of x ∷ []) (e ∙ more) (has.there holds) }
+  ]
 
-pub gathering_starts : (wide : Bool) (fixups : List Fixup) (none : List Import) (places : List ℕ) → none ≡ [] → places ≡ [] → IsGathering wide fixups 0 none places false
-unfolding gathered
-gathering_starts wide fixups none places e f = record {
-  within = omega arith;
-  same = rw e refl;
-  size = ap length f;
-  each = λ k g p low. absurd (omega (arith, low));
-  some = refl;
-}
+  pub gathering_begins : (fixups : List Fixup) (none : List K) (places : List ℕ) → none ≡ [] → places ≡ [] → IsGathering same of fixups 0 none places
+  unfolding gathered
+  gathering_begins fixups none places e f = record {
+    within = omega arith;
+    same_all = rw e refl;
+    size = ap length f;
+    each = λ k g p low. absurd (omega (arith, low));
+  }
 
-pub gathering_goes_on : (wide : Bool) (fixups : List Fixup) (at : ℕ) (now new : List Import) (places more : List ℕ) (large larger : Bool) (x : Fixup) (place : ℕ) → IsGathering wide fixups at now places large → at < length fixups → x ≡ get_or fixups at x → new ≡ noted wide now x → HasPlace wide new x place → more ≡ places ++ place ∷ [] → larger ≡ (large || is_large x) → IsGathering wide fixups (at + 1) new more larger
-gathering_goes_on wide fixups at now new places more large larger x place all within is new_is has more_is larger_is = record {
-  within = omega (arith, within);
-  same =
-      ap (λ ks. insert_all (eq_by_cmp compare_imports) ks (imports_by wide (drop (at + 1) fixups))) new_is
-      ∙ sym (ap (λ (fs : List Fixup). insert_all (eq_by_cmp compare_imports) now (imports_by wide fs)) (there fixups at x within is) ∙ first_is wide now x (drop (at + 1) fixups))
-      ∙ all.same;
-  size = (let n : length more ≡ length places + 1 = ap length more_is ∙ length-append places (place ∷ []) in let m = all.size in omega (arith, n, m));
-  each = each;
+  pub gathering_goes_on : (fixups : List Fixup) (at : ℕ) (now new : List K) (places more : List ℕ) (x : Fixup) (place : ℕ) → IsGathering same of fixups at now places → at < length fixups → x ≡ get_or fixups at x → new ≡ noted same of now x → HasPlace of new x place → more ≡ places ++ place ∷ [] → IsGathering same of fixups (at + 1) new more
+  gathering_goes_on fixups at now new places more x place all within is new_is has more_is = record {
+    within = omega (arith, within);
+    same_all =
+        ap (λ (ks : List K). insert_all same ks (map of (bound (drop (at + 1) fixups)))) new_is
+        ∙ sym (ap (λ (fs : List Fixup). insert_all same now (map of (bound fs))) (there fixups at x within is) ∙ first_is now x (drop (at + 1) fixups))
+        ∙ all.same_all;
+    size = (let n : length more ≡ length places + 1 = ap length more_is ∙ length-append places (place ∷ []) in let m = all.size in omega (arith, n, m));
+    each = each;
+  }
+    where
+      each : (k : ℕ) (f : Fixup) (p : ℕ) → k < at + 1 → HasPlace of new (get_or fixups k f) (get_or more k p)
+      each k f p low = elim (cases_lt k at) [
+        | inl before ↦
+            (let same_place : get_or more k p ≡ get_or places k p =
+            ap (λ (ps : List ℕ). get_or ps k p) more_is ∙ get_or_append_left places (place ∷ []) p k (let m = all.size in omega (arith, before, m)) in
+            subst (λ (n : ℕ). HasPlace of new (get_or fixups k f) n) (sym same_place) (still now new x (get_or fixups k f) (get_or places k p) new_is (all.each k f p before)))
+        | inr past ↦
+            (let here : k ≡ at = omega (arith, low, past) in
+            let that : get_or fixups k f ≡ x = ap (λ (n : ℕ). get_or fixups n f) here ∙ sym (is ∙ get_or_default fixups at x f within) in
+            let same_place : get_or more k p ≡ place = ap (λ (n : ℕ). get_or more n p) here ∙ ap (λ (ps : List ℕ). get_or ps at p) more_is ∙ get_or_push places place p at all.size in
+            subst (λ (n : ℕ). HasPlace of new (get_or fixups k f) n) (sym same_place) (subst (λ (g : Fixup). HasPlace of new g place) (sym that) has))
+      ]
+
+  pub gathering_ends : (fixups : List Fixup) (at : ℕ) (now : List K) (places : List ℕ) → IsGathering same of fixups at now places → length fixups ≤ at → now ≡ gathered same of fixups
+  gathering_ends fixups at now places all past =
+      sym (ap (insert_all same now) (ap (map of) (ap bound (drop_all at fixups past) ∙ none_bound))) ∙ all.same_all
+
+  pub places_end : (fixups : List Fixup) (at : ℕ) (now : List K) (places : List ℕ) → IsGathering same of fixups at now places → length fixups ≤ at → ArePlaces of fixups now places
+  places_end fixups at now places all past = record {
+    size = (let m = all.size in let n = all.within in omega (arith, m, n, past));
+    each = λ k f p low. all.each k f p (omega (arith, low, past));
+  }
+
+-- those of the narrow form, and whether a word has no room for some addend
+pub record IsCollecting (fixups : List Fixup) (at : ℕ) (now : List Import) (places : List ℕ) (large : Bool) : Type 0 where
+  pub gathers : IsGathering is_same (import_of false) fixups at now places
+  pub some : large ≡ list_any is_large (take at fixups)
+
+pub collecting_starts : (fixups : List Fixup) (none : List Import) (places : List ℕ) → none ≡ [] → places ≡ [] → IsCollecting fixups 0 none places false
+collecting_starts fixups none places e f = record { gathers = gathering_begins is_same (import_of false) fixups none places e f; some = refl }
+
+pub collecting_goes_on : (fixups : List Fixup) (at : ℕ) (now new : List Import) (places more : List ℕ) (large larger : Bool) (x : Fixup) (place : ℕ) → IsCollecting fixups at now places large → at < length fixups → x ≡ get_or fixups at x → new ≡ noted is_same (import_of false) now x → HasPlace (import_of false) new x place → more ≡ places ++ place ∷ [] → larger ≡ (large || is_large x) → IsCollecting fixups (at + 1) new more larger
+collecting_goes_on fixups at now new places more large larger x place all within is new_is has more_is larger_is = record {
+  gathers = gathering_goes_on is_same (import_of false) fixups at now new places more x place all.gathers within is new_is has more_is;
   some = larger_is ∙ ap (λ (b : Bool). b || is_large x) all.some ∙ ap (λ (f : Fixup). list_any is_large (take at fixups) || is_large f) is ∙ sym (list_any_more is_large fixups at x within);
 }
+
+pub imports_end : (fixups : List Fixup) (at : ℕ) (now : List Import) (places : List ℕ) (large : Bool) → IsCollecting fixups at now places large → length fixups ≤ at → now ≡ gathered is_same (import_of false) fixups
+imports_end fixups at now places large all past = gathering_ends is_same (import_of false) fixups at now places all.gathers past
+
+pub import_places_end : (fixups : List Fixup) (at : ℕ) (now : List Import) (places : List ℕ) (large : Bool) → IsCollecting fixups at now places large → length fixups ≤ at → ArePlaces (import_of false) fixups now places
+import_places_end fixups at now places large all past = places_end is_same (import_of false) fixups at now places all.gathers past
+
+pub large_ends : (fixups : List Fixup) (at : ℕ) (now : List Import) (places : List ℕ) (large : Bool) → IsCollecting fixups at now places large → length fixups ≤ at → large ≡ list_any is_large fixups
+large_ends fixups at now places large all past = all.some ∙ ap (list_any is_large) (take_all at fixups past)
+
+pub ruleset collecting = (collecting_starts, collecting_goes_on, imports_end, import_places_end, large_ends)
+
+-- ---- one import of the wide form more
+
+pub row_noted : (of : Fixup → ImportRow) (keys new : List ImportRow) (x : Fixup) (row : Option ImportRow) → row ≡ (if is_bound x.goal then Some (of x) else None) → new ≡ noted_row keys row → new ≡ noted same_row of keys x
+unfolding noted
+row_noted of keys new x row e n = n ∙ by (is_bound x.goal) row e
   where
-    each : (k : ℕ) (f : Fixup) (p : ℕ) → k < at + 1 → HasPlace wide new (get_or fixups k f) (get_or more k p)
-    each k f p low = elim (cases_lt k at) [
-      | inl before ↦
-          (let same : get_or more k p ≡ get_or places k p =
-          ap (λ (ps : List ℕ). get_or ps k p) more_is ∙ get_or_append_left places (place ∷ []) p k (let m = all.size in omega (arith, before, m)) in
-          subst (λ (n : ℕ). HasPlace wide new (get_or fixups k f) n) (sym same) (still wide now new x (get_or fixups k f) (get_or places k p) new_is (all.each k f p before)))
-      | inr past ↦
-          (let here : k ≡ at = omega (arith, low, past) in
-          let that : get_or fixups k f ≡ x = ap (λ (n : ℕ). get_or fixups n f) here ∙ sym (is ∙ get_or_default fixups at x f within) in
-          let same : get_or more k p ≡ place = ap (λ (n : ℕ). get_or more n p) here ∙ ap (λ (ps : List ℕ). get_or ps at p) more_is ∙ get_or_push places place p at all.size in
-          subst (λ (n : ℕ). HasPlace wide new (get_or fixups k f) n) (sym same) (subst (λ (g : Fixup). HasPlace wide new g place) (sym that) has))
-    ]
+    by : (b : Bool) (row : Option ImportRow) → row ≡ (if b then Some (of x) else None) → noted_row keys row ≡ (if b then insert_key same_row keys (of x) else keys)
+    by true row e = ap (noted_row keys) e
+    by false row e = ap (noted_row keys) e
 
-pub gathering_ends : (wide : Bool) (fixups : List Fixup) (at : ℕ) (now : List Import) (places : List ℕ) (large : Bool) → IsGathering wide fixups at now places large → length fixups ≤ at → now ≡ gathered wide fixups
-gathering_ends wide fixups at now places large all past =
-    sym (ap (insert_all (eq_by_cmp compare_imports) now) (ap (imports_by wide) (drop_all at fixups past) ∙ no_imports wide)) ∙ all.same
-
-pub places_end : (wide : Bool) (fixups : List Fixup) (at : ℕ) (now : List Import) (places : List ℕ) (large : Bool) → IsGathering wide fixups at now places large → length fixups ≤ at → ArePlaces wide fixups now places
-places_end wide fixups at now places large all past = record {
-  size = (let m = all.size in let n = all.within in omega (arith, m, n, past));
-  each = λ k f p low. all.each k f p (omega (arith, low, past));
+pub row_placed : (of : Fixup → ImportRow) (keys : List ImportRow) (x : Fixup) (row : Option ImportRow) (place : ℕ) → row ≡ (if is_bound x.goal then Some (of x) else None) → IfSome row (StandsAt keys place) → HasPlace of keys x place
+row_placed of keys x row place e stands = record {
+  there = λ holds. subst (λ (r : Option ImportRow). IfSome r (StandsAt keys place)) (e ∙ first_of (is_bound x.goal) (Some (of x)) None holds) stands;
 }
-
-pub large_ends : (wide : Bool) (fixups : List Fixup) (at : ℕ) (now : List Import) (places : List ℕ) (large : Bool) → IsGathering wide fixups at now places large → length fixups ≤ at → large ≡ list_any is_large fixups
-large_ends wide fixups at now places large all past = all.some ∙ ap (list_any is_large) (take_all at fixups past)
-
-pub ruleset gathering = (gathering_starts, gathering_goes_on, gathering_ends, places_end, large_ends)
-
--- the same of a copy of the imports
-pub used : (wide : Bool) (fixups : List Fixup) (keys copies : List Import) (places : List ℕ) → ArePlaces wide fixups keys places → copies ≡ keys → ArePlaces wide fixups copies places
-used wide fixups keys copies places are same = subst (λ (ks : List Import). ArePlaces wide fixups ks places) (sym same) are
 
 -- ---- the numbers
 
 pub record IsNumbering (X : Type 0) (f : X → ℕ) (xs : List X) (at : ℕ) (made : List ℕ) : Type 0 where
   pub same : made ≡ map f (take at xs)
-  pub small : All (λ (n : ℕ). n < 2 ^ 24) made
 
 pub numbering_starts : (X : Type 0) (f : X → ℕ) (xs : List X) (made : List ℕ) → made ≡ [] → IsNumbering X f xs 0 made
-numbering_starts X f xs made e = record {
-  same = e;
-  small = λ k d low. (let size : length made ≡ 0 = ap length e in absurd (omega (arith, low, size)));
-}
+numbering_starts X f xs made e = record { same = e }
 
-pub numbering_goes_on : (X : Type 0) (f : X → ℕ) (xs : List X) (at : ℕ) (made new : List ℕ) (x : X) (n : ℕ) → IsNumbering X f xs at made → at < length xs → x ≡ get_or xs at x → n ≡ f x → n < 2 ^ 24 → new ≡ made ++ n ∷ [] → IsNumbering X f xs (at + 1) new
-numbering_goes_on X f xs at made new x n all within is value few grown = record {
+pub numbering_goes_on : (X : Type 0) (f : X → ℕ) (xs : List X) (at : ℕ) (made new : List ℕ) (x : X) (n : ℕ) → IsNumbering X f xs at made → at < length xs → x ≡ get_or xs at x → n ≡ f x → new ≡ made ++ n ∷ [] → IsNumbering X f xs (at + 1) new
+numbering_goes_on X f xs at made new x n all within is value grown = record {
   same =
       grown
       ∙ ap (λ (ns : List ℕ). ns ++ n ∷ []) all.same
       ∙ ap (λ (m : ℕ). map f (take at xs) ++ m ∷ []) (value ∙ ap f is)
       ∙ sym (ap (map f) (take_more xs at x within) ∙ map-append f (take at xs) (get_or xs at x ∷ []));
-  small = subst (All (λ (m : ℕ). m < 2 ^ 24)) (sym grown) (All-push (λ (m : ℕ). m < 2 ^ 24) made n all.small few);
 }
 
 pub numbering_ends : (X : Type 0) (f : X → ℕ) (xs : List X) (at : ℕ) (made : List ℕ) → IsNumbering X f xs at made → length xs ≤ at → made ≡ map f xs
@@ -184,36 +214,44 @@ mapped f [] i d e low = absurd (omega (arith, low))
 mapped f (x ∷ xs) zero d e low = refl
 mapped f (x ∷ xs) (suc i) d e low = mapped f xs i d e (omega (arith, low))
 
-same_size : {X Y : Type 0} (f : X → Y) (xs : List X) → length (map f xs) ≡ length xs
+pub same_size : {X Y : Type 0} (f : X → Y) (xs : List X) → length (map f xs) ≡ length xs
 same_size f [] = refl
 same_size f (x ∷ xs) = ap suc (same_size f xs)
 
-pub numbers_are : (wide : Bool) (fixups : List Fixup) (imports used : List Import) (places all numbers : List ℕ) → ArePlaces wide fixups used places → all ≡ map (number_of imports) used → numbers ≡ map (λ (place : ℕ). get_or all place 0) places → All (λ (n : ℕ). n < 2 ^ 24) numbers → AreNumbers wide fixups imports numbers
-numbers_are wide fixups imports used places all numbers are all_is numbers_is small = record {
-  size = size;
-  each = λ k f n low. record {
-    is = λ holds. is k f n low holds;
-    small = small k n (omega (arith, low, size));
-  };
+at_most : {X : Type 0} (f : X → ℕ) (n : ℕ) → ((x : X) → f x ≤ n) → (xs : List X) (i : ℕ) → get_or (map f xs) i 0 ≤ n
+at_most f n low [] i = omega arith
+at_most f n low (x ∷ xs) zero = low x
+at_most f n low (x ∷ xs) (suc i) = at_most f n low xs i
+
+some_at_most : (o : Option ℕ) (n : ℕ) → ((k : ℕ) → o ≡ Some k → k ≤ n) → unwrap_or o 0 ≤ n
+some_at_most None n low = omega arith
+some_at_most (Some k) n low = low k refl
+
+-- each pointer has the rank of what it is bound to
+pub record AreRanks {K : Type 0} (same : K → K → Bool) (of : Fixup → K) (fixups : List Fixup) (keys : List K) (numbers : List ℕ) : Type 0 where
+  pub size : length numbers ≡ length fixups
+  pub is : (k : ℕ) (f : Fixup) (n : ℕ) → k < length fixups → is_bound (get_or fixups k f).goal ≡ true → get_or numbers k n ≡ rank_in same keys (of (get_or fixups k f))
+  pub small : (k : ℕ) (n : ℕ) → k < length fixups → get_or numbers k n ≤ length keys
+
+rank_low : {K : Type 0} (same : K → K → Bool) (keys : List K) (key : K) → rank_in same keys key ≤ length keys
+unfolding rank_in
+rank_low same keys key = by (position_or_len (same key) keys) (length keys) (nat_lt (position_or_len (same key) keys) (length keys)) refl
+  where
+    by : (m n : ℕ) (b : Bool) → nat_lt m n ≡ b → unwrap_or (if b then Some m else None) 0 ≤ n
+    by m n true e = omega (arith, ltb-true m n e)
+    by m n false e = omega arith
+
+pub numbers_ranked : {K : Type 0} (same : K → K → Bool) (of : Fixup → K) (fixups : List Fixup) (keys used : List K) (places ranks numbers : List ℕ) → ArePlaces of fixups used places → ranks ≡ map (rank_in same keys) used → numbers ≡ map (λ (place : ℕ). get_or ranks place 0) places → AreRanks same of fixups keys numbers
+numbers_ranked {K = K} same of fixups keys used places ranks numbers are ranks_are numbers_are = record {
+  size = ap length numbers_are ∙ same_size (λ (place : ℕ). get_or ranks place 0) places ∙ are.size;
+  is = λ k f n low holds.
+      let stands = (are.each k f 0 low).there holds in
+      at_rank k n low ∙ mapped (rank_in same keys) used (get_or places k 0) 0 (of (get_or fixups k f)) stands.within ∙ ap (rank_in same keys) (stands.is (of (get_or fixups k f)));
+  small = λ k n low. subst (λ (m : ℕ). m ≤ length keys) (sym (at_rank k n low)) (at_most (rank_in same keys) (length keys) (rank_low same keys) used (get_or places k 0));
 }
   where
-    at : ℕ → ℕ
-    at place = get_or all place 0
-
-    size : length numbers ≡ length fixups
-    size = ap length numbers_is ∙ same_size (λ (place : ℕ). get_or all place 0) places ∙ are.size
-
-    is : (k : ℕ) (f : Fixup) (n : ℕ) → k < length fixups → is_bound (get_or fixups k f).goal ≡ true → get_or numbers k n ≡ number_of imports (import_of wide (get_or fixups k f))
-    is k f n low holds =
-        let stands = (are.each k f 0 low).there holds in
-        let import' : Import = import_of wide (get_or fixups k f) in
-        ap (λ (ns : List ℕ). get_or ns k n) numbers_is
-        ∙ mapped (λ (place : ℕ). get_or all place 0) places k n 0 (let m = are.size in omega (arith, m, low))
-        ∙ ap (λ (ns : List ℕ). get_or ns (get_or places k 0) 0) all_is
-        ∙ mapped (number_of imports) used (get_or places k 0) 0 import' stands.within
-        ∙ ap (number_of imports) (stands.is import')
-
--- the number of one of them
-pub number_of_one : (wide : Bool) (fixups : List Fixup) (imports : List Import) (numbers : List ℕ) (at n : ℕ) (x : Fixup) → AreNumbers wide fixups imports numbers → at < length fixups → x ≡ get_or fixups at x → HasNumber wide imports x (get_or numbers at n)
-number_of_one wide fixups imports numbers at n x are within is =
-    subst (λ (f : Fixup). HasNumber wide imports f (get_or numbers at n)) (sym is) (are.each at x n within)
+    at_rank : (k n : ℕ) → k < length fixups → get_or numbers k n ≡ get_or (map (rank_in same keys) used) (get_or places k 0) 0
+    at_rank k n low =
+        ap (λ (ns : List ℕ). get_or ns k n) numbers_are
+        ∙ mapped (λ (place : ℕ). get_or ranks place 0) places k n 0 (let m = are.size in omega (arith, m, low))
+        ∙ ap (λ (ns : List ℕ). get_or ns (get_or places k 0) 0) ranks_are

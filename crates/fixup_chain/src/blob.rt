@@ -2,7 +2,6 @@
 ghost use Rattle.std.specs.Prelude.{◌≡◌, ◌++◌, IfOk, OnOk};
 ghost use Rattle.fixup_chain.specs.Encoded as encoded;
 
-use crate::pool::Table;
 use crate::starts::put_zeros;
 use image_format::ChainedFixupsHeader;
 use image_format::fixup_chains::{DYLD_CHAINED_IMPORT, DYLD_CHAINED_IMPORT_ADDEND64};
@@ -47,17 +46,18 @@ pub(crate) fn joined(
     wide: bool,
     count: u32,
     starts: &[u8],
-    table: &Table,
+    rows: &[u8],
+    pool: &[u8],
 ) -> Result<Vec<u8>, OutOfMemory>
-    ensures { IfOk result (λ made. made.items ≡ encoded.padded (encoded.joined wide count starts.now table.now.rows.items table.now.pool.items)) }
+    ensures { IfOk result (λ made. made.items ≡ encoded.padded (encoded.joined wide count starts.now rows.now pool.now)) }
 {
     let mut made = Vec::new(alloc);
-    put_header(&mut made, wide, starts.len(), table.rows.len(), count)?;
+    put_header(&mut made, wide, starts.len(), rows.len(), count)?;
     made.extend_from_slice(&[0, 0, 0, 0])?;
     made.extend_from_slice(starts)?;
     put_zeros(&mut made, if wide { 8 } else { 4 }, starts.len())?;
-    made.extend_from_slice(table.rows.as_slice())?;
-    made.extend_from_slice(table.pool.as_slice())?;
+    made.extend_from_slice(rows)?;
+    made.extend_from_slice(pool)?;
     let size = made.len();
     put_zeros(&mut made, 8, size)?;
     Ok(made)

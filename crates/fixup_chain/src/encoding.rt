@@ -6,9 +6,9 @@ ghost use Rattle.fixup_chain.specs.Encoded.{AreApart};
 ghost use Rattle.fixup_chain.specs.Faults as faults;
 ghost use Rattle.fixup_chain.specs.Imports.{pool_of};
 ghost use Rattle.fixup_chain.specs.Places.{addresses_of};
-ghost use Rattle.fixup_chain.specs.Pool.{rows_from};
 ghost use Rattle.fixup_chain.specs.Words as words;
-ghost use Rattle.fixup_chain.specs.inner.Held.{AreNumbers};
+ghost use Rattle.fixup_chain.specs.inner.Held.{AreNumbers, imports_in};
+ghost use Rattle.fixup_chain.specs.inner.Rows.{rows_at};
 ghost use Rattle.fixup_chain.specs.inner.Turn.{IsFirst};
 ghost use Rattle.sect_place.specs.Addresses.{AreOnce};
 
@@ -17,9 +17,10 @@ use crate::chains::{ChainFault, ChainWord, Chains, Fixup, FixupList, WordList};
 use crate::faults::{are_open, first_fault, first_with};
 use crate::imports::{Formed, imports_of};
 use crate::places::steps_to_next;
+use crate::rows::row_bytes;
 use crate::starts::starts_of;
 use crate::targets::{base_of, target_of};
-use crate::words::{numbers_of, word_by};
+use crate::words::word_by;
 use mo_types::{Bytes, Items, OutOfMemory, Which};
 use sect_place::Layout;
 use std::alloc::Global;
@@ -40,15 +41,16 @@ fn walk(
     alloc: Global,
     layout: &Layout,
     base: u64,
-    formed: &Formed<'_>,
-    numbers: &[u32],
+    wide: bool,
+    numbers: &[usize],
     fixups: &[Fixup],
 ) -> Result<Walked, OutOfMemory>
     requires apart { AreApart fixups.now }
     requires once { AreOnce layout.now.placed }
     requires base { base ≡ faults.base_of layout.now.segments }
-    requires numbers { AreNumbers formed.now.wide fixups.now formed.now.imports.keys numbers.now }
-    ensures words { IfOk result (λ walked. walked.words ≡ words.words_of (faults.target_of layout.now) formed.now.wide formed.now.imports.keys fixups.now) }
+    requires few { length (imports_in wide fixups.now) < encoded.IMPORTS }
+    requires numbers { AreNumbers wide fixups.now (imports_in wide fixups.now) numbers.now }
+    ensures words { IfOk result (λ walked. walked.words ≡ words.words_of (faults.target_of layout.now) wide (imports_in wide fixups.now) fixups.now) }
     ensures first { IfOk result (λ walked. IsFirst layout.now fixups.now (length fixups.now) walked.first) }
 {
     let free = are_open(layout.segments.as_slice(), fixups);
@@ -60,7 +62,7 @@ fn walk(
         let next = steps_to_next(fixups, at, fixup.address);
         words.push(ChainWord {
             address: fixup.address,
-            word: word_by(formed.wide, numbers[at], target, next, fixup),
+            word: word_by(wide, numbers[at] as u32, target, next, fixup),
         })?;
     }
     Ok(Walked {
@@ -70,23 +72,32 @@ fn walk(
 }
 
 // The part that tells the loader of the chains of an image that begins at `base`.
-#[tactic(auto, unfolding(crate::specs::Encoded::blob_of))]
+#[tactic(auto, using(crate::proofs::BlobLemmas::blobs))]
 fn blob_of(
     alloc: Global,
     layout: &Layout,
     base: u64,
-    formed: &Formed<'_>,
+    formed: &Formed,
     fixups: &[Fixup],
 ) -> Result<Bytes, OutOfMemory>
     requires apart { AreApart fixups.now }
-    requires few { length formed.now.imports.keys < encoded.IMPORTS }
-    requires rows { formed.now.table.rows.items ≡ rows_from formed.now.wide 1 formed.now.imports.keys }
-    requires pool { formed.now.table.pool.items ≡ pool_of formed.now.imports.keys }
-    ensures { IfOk result (λ blob. blob ≡ encoded.blob_of (addresses_of fixups.now) base layout.now.segments formed.now.wide formed.now.imports.keys) }
+    requires few { length formed.now.rows.items < encoded.IMPORTS }
+    requires rows { formed.now.rows.items ≡ rows_at 1 (imports_in formed.now.wide fixups.now) }
+    requires pool { formed.now.pool.items ≡ pool_of (imports_in formed.now.wide fixups.now) }
+    ensures { IfOk result (λ blob. blob ≡ encoded.blob_of (addresses_of fixups.now) base layout.now.segments formed.now.wide (imports_in formed.now.wide fixups.now)) }
 {
     let starts = starts_of(alloc, fixups, base, layout.segments.as_slice())?;
-    let count = formed.imports.len() as u32;
-    let blob = joined(alloc, formed.wide, count, starts.as_slice(), &formed.table)?;
+    let rows = row_bytes(alloc, formed.wide, formed.rows.as_slice())?;
+    let count = formed.rows.len() as u32;
+    let pool = formed.pool.as_slice();
+    let blob = joined(
+        alloc,
+        formed.wide,
+        count,
+        starts.as_slice(),
+        rows.as_slice(),
+        pool,
+    )?;
     Bytes::from_vec(blob)
 }
 
@@ -97,6 +108,7 @@ fn blob_of(
 /// multiple of 4 bytes, on two pages of 0x4000 bytes, or on page 0xffff of its segment or a later one (`FixupPlace`); or
 /// where it is rebased to an offset that isn't from 0 to 2^36 - 1 (`RebaseTarget`, before the other). That of the slot
 /// with the least address comes first, then that of the least atom and place.
+#[tactic(auto, using(crate::proofs::EncodeLemmas::encoding))]
 pub fn encode(alloc: Global, fixups: &FixupList, layout: &Layout) -> Result<Chains, ChainFault>
     requires apart { AreApart fixups.now }
     requires once { AreOnce layout.now.placed }
@@ -106,11 +118,11 @@ pub fn encode(alloc: Global, fixups: &FixupList, layout: &Layout) -> Result<Chai
     let fixups = fixups.as_slice();
     let base = base_of(layout.segments.as_slice());
     let formed = imports_of(alloc, fixups)?;
-    if formed.imports.len() >= IMPORTS {
+    if formed.rows.len() >= IMPORTS {
         return Err(ChainFault::Limit(Which::Imports));
     }
-    let numbers = numbers_of(alloc, &formed, fixups)?;
-    let walked = walk(alloc, layout, base, &formed, numbers.as_slice(), fixups)?;
+    let numbers = formed.numbers.as_slice();
+    let walked = walk(alloc, layout, base, formed.wide, numbers, fixups)?;
     if let Some(fault) = first_fault(layout, base, fixups, walked.first) {
         return Err(fault);
     }

@@ -87,10 +87,7 @@ fn are_open_to(segments: &[Segment], fixups: &[Fixup], last: usize) -> bool
 {
     let begin = place_of(fixups, 0);
     let end = place_of(fixups, last);
-    if may_any_close(segments, begin, end) {
-        return false;
-    }
-    true
+    !may_any_close(segments, begin, end)
 }
 
 /// Whether the segments are open to all pointers, by a test that may miss that they are.

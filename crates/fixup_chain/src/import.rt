@@ -1,42 +1,43 @@
-ghost use Rattle.std.specs.Prelude.{◌≡◌, ◌≤◌, refl};
+ghost use Rattle.std.specs.Prelude.{◌≡◌, false, refl};
 ghost use Rattle.std.specs.Cmp.{partial_equiv_from_equiv};
 ghost use Rattle.std.specs.Ordering.{as_partial_cmp, eq_by_cmp};
 ghost use Rattle.fixup_chain.specs.ImportOrder.{compare_imports, compare_imports_total, compare_imports_equal, compare_imports_partial};
 ghost use Rattle.fixup_chain.specs.Imports.{import_of};
+ghost use Rattle.fixup_chain.specs.inner.Rows.{row_at};
 
 use crate::chains::Fixup;
 use crate::goals::{optional_of, ordinal_of};
+use crate::import_row::ImportRow;
 use mo_types::hashed_front;
 use std::cmp::Ordering;
 use std::hash::{Hash, Hasher};
 use std::marker::Model;
 
-/// What a pointer is bound to, in the order of the imports.
+/// What a pointer is bound to, in the order of the imports: in the narrow form, without its addend.
 #[derive(Drop)]
 pub(crate) struct Import<'a> {
     name: &'a [u8],
-    addend: i64,
     ordinal: u16,
     optional: bool,
 }
 
 impl<'a> Model for Import<'a> {
+    ghost use Rattle.std.specs.Prelude.{pos};
     ghost use Rattle.fixup_chain.specs.ImportOrder as spec;
 
     ghost Value = { spec.Import };
 
-    ghost view = { λ import. record { name = import.name.now; addend = import.addend; ordinal = import.ordinal; optional = import.optional } };
+    ghost view = { λ import. record { name = import.name.now; addend = pos 0; ordinal = import.ordinal; optional = import.optional } };
 }
 
 impl<'a> Import<'a> {
-    /// What a pointer is bound to, in the wide form with its addend.
+    /// What a pointer is bound to.
     #[tactic(auto, unfolding(crate::specs::Imports::import_of))]
-    pub(crate) fn of(wide: bool, fixup: &'a Fixup) -> Import<'a>
-        ensures { result ≡ import_of wide fixup.now }
+    pub(crate) fn of(fixup: &'a Fixup) -> Import<'a>
+        ensures { result ≡ import_of false fixup.now }
     {
         Import {
             name: fixup.goal.name(),
-            addend: if wide { fixup.addend } else { 0 },
             ordinal: ordinal_of(&fixup.goal),
             optional: optional_of(&fixup.goal),
         }
@@ -48,7 +49,6 @@ impl<'a> Import<'a> {
     {
         Import {
             name: self.name,
-            addend: self.addend,
             ordinal: self.ordinal,
             optional: self.optional,
         }
@@ -60,22 +60,16 @@ impl<'a> Import<'a> {
         self.name
     }
 
-    pub(crate) fn addend(&self) -> i64
-        ensures { result ≡ self.now.addend }
+    /// The import by its name's place in the pool.
+    pub(crate) fn row(&self, place: usize) -> ImportRow
+        ensures { result ≡ row_at place self.now }
     {
-        self.addend
-    }
-
-    pub(crate) fn ordinal(&self) -> u16
-        ensures { result ≡ self.now.ordinal }
-    {
-        self.ordinal
-    }
-
-    pub(crate) fn optional(&self) -> bool
-        ensures { result ≡ self.now.optional }
-    {
-        self.optional
+        ImportRow {
+            name: place,
+            addend: 0,
+            ordinal: self.ordinal,
+            optional: self.optional,
+        }
     }
 }
 
@@ -115,11 +109,8 @@ impl<'a> Ord for Import<'a> {
     #[tactic(auto, unfolding(crate::specs::ImportOrder::compare_imports))]
     fn cmp(&self, other: &Self) -> Ordering {
         match self.name.cmp(other.name) {
-            Ordering::Equal => match self.addend.cmp(&other.addend) {
-                Ordering::Equal => match self.ordinal.cmp(&other.ordinal) {
-                    Ordering::Equal => self.optional.cmp(&other.optional),
-                    unequal => unequal,
-                },
+            Ordering::Equal => match self.ordinal.cmp(&other.ordinal) {
+                Ordering::Equal => self.optional.cmp(&other.optional),
                 unequal => unequal,
             },
             unequal => unequal,

@@ -25,12 +25,16 @@ mod encoding;
 mod faults;
 mod goals;
 mod import;
+mod import_row;
 mod imports;
 mod laws;
+mod numbers;
 mod places;
 mod pool;
+mod rows;
 mod starts;
 mod targets;
+mod wide;
 mod words;
 
 pub use chains::{ChainFault, ChainWord, Chains, Fixup, FixupList, WordList};

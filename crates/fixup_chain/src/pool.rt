@@ -1,50 +1,20 @@
-//! The bytes of the imports and of their names.
+//! The pool of the names, and the imports by their names' places there.
 ghost use Rattle.std.specs.Prelude.{◌≡◌, ◌++◌, slice_get, IfOk, OnOk};
-ghost use Rattle.fixup_chain.specs.Imports as spec;
-ghost use Rattle.fixup_chain.specs.Pool as pool;
 ghost use Rattle.std.specs.Option.{option_copied};
+ghost use Rattle.fixup_chain.specs.Imports as spec;
 ghost use Rattle.fixup_chain.specs.inner.Held.{name_before};
+ghost use Rattle.fixup_chain.specs.inner.Rows.{rows_at};
 
 use crate::import::Import;
-use image_format::{ChainedImport, ChainedImportAddend64};
+use crate::import_row::ImportRow;
 use mo_types::OutOfMemory;
 use std::alloc::Global;
 
-/// The bytes of imports, and of the pool of their names.
+/// Imports by the places of their names, and the pool that has these.
 #[derive(Drop)]
-pub(crate) struct Table {
-    pub(crate) rows: Vec<u8>,
+pub(crate) struct Pooled {
+    pub(crate) rows: Vec<ImportRow>,
     pub(crate) pool: Vec<u8>,
-}
-
-// Appends an import whose name stands at a place of the pool.
-#[tactic(auto, unfolding(crate::specs::Pool::row_bytes))]
-fn put_row(
-    out: &mut Vec<u8>,
-    wide: bool,
-    place: usize,
-    import: &Import<'_>,
-) -> Result<(), OutOfMemory>
-    ensures { OnOk result (out.new.items ≡ out.old.items ++ pool.row_bytes wide place import.now) }
-{
-    if wide {
-        ChainedImportAddend64 {
-            lib_ordinal: import.ordinal(),
-            weak_import: import.optional(),
-            reserved: 0,
-            name_offset: (place % 0x1_0000_0000) as u32,
-            addend: import.addend().cast_unsigned(),
-        }
-        .write(out)?;
-    } else {
-        ChainedImport {
-            lib_ordinal: (import.ordinal() % 0x100) as u8,
-            weak_import: import.optional(),
-            name_offset: (place % 0x80_0000) as u32,
-        }
-        .write(out)?;
-    }
-    Ok(())
 }
 
 // Appends the name of an import with a NUL, if the next import has another one.
@@ -73,22 +43,18 @@ fn import_at<'b, 'a>(imports: &'b [Import<'a>], at: usize) -> Option<&'b Import<
     imports.get(at)
 }
 
-/// The bytes of imports in their order.
-#[tactic(auto, using(crate::proofs::PoolLemmas::tabling))]
-pub(crate) fn table_of(
-    alloc: Global,
-    wide: bool,
-    imports: &[Import<'_>],
-) -> Result<Table, OutOfMemory>
-    ensures rows { IfOk result (λ table. table.rows.items ≡ pool.rows_from wide 1 imports.now) }
-    ensures pool { IfOk result (λ table. table.pool.items ≡ spec.pool_of imports.now) }
+/// Imports in their order, and the pool of their names.
+#[tactic(auto, using(crate::proofs::PoolLemmas::pooling))]
+pub(crate) fn pool_of(alloc: Global, imports: &[Import<'_>]) -> Result<Pooled, OutOfMemory>
+    ensures rows { IfOk result (λ all. all.rows.items ≡ rows_at 1 imports.now) }
+    ensures pool { IfOk result (λ all. all.pool.items ≡ spec.pool_of imports.now) }
 {
-    let mut rows = Vec::new(alloc);
+    let mut rows = Vec::with_capacity(alloc, imports.len())?;
     let mut pool = Vec::new(alloc);
     pool.push(0)?;
     for (at, import) in imports.iter().enumerate() {
-        put_row(&mut rows, wide, pool.as_slice().len(), import)?;
+        rows.push(import.row(pool.as_slice().len()))?;
         put_name(&mut pool, import, import_at(imports, at + 1))?;
     }
-    Ok(Table { rows, pool })
+    Ok(Pooled { rows, pool })
 }

@@ -1,39 +1,64 @@
 -- How the code holds imports.
-use Rattle.std.specs.Prelude.{ℕ, ◌≡◌, ◌<◌, ◌^◌, ◌&&◌, Bool, true, not, List, [], ◌∷◌, ◌++◌, length, slice_index_or, Option, Some, None, if◌then◌else◌}
+use Rattle.std.specs.Prelude.{ℕ, ◌≡◌, ◌<◌, ◌≤◌, ◌&&◌, Bool, true, false, not, List, [], ◌∷◌, ◌++◌, length, map, position, slice_index_or, Option, Some, None, unwrap_or, if◌then◌else◌}
 use Rattle.std.specs.Str.{bytes_eq}
 use Rattle.std.specs.Ordering.{eq_by_cmp}
 use Rattle.indexmap.specs.IndexSet.{insert_all, insert_key}
 use Rattle.fixup_chain.specs.ImportOrder.{Import, compare_imports}
-use Rattle.fixup_chain.specs.Imports.{import_of, imports_by, is_bound, is_small}
+use Rattle.fixup_chain.specs.Imports.{bound, import_of, imports_by, is_bound, is_small}
 use Rattle.fixup_chain.specs.Words.{number_of}
 use Rattle.fixup_chain.specs.declared.chains.Fixup.{Fixup}
+use Rattle.fixup_chain.specs.declared.import_row.ImportRow.{ImportRow}
+use Rattle.fixup_chain.specs.inner.InOrder.{in_order}
+use Rattle.fixup_chain.specs.inner.Rows.{names_of, row_in, same_row}
 
--- the imports of some pointers, each once, in the order of the pointers
-unfoldable pub gathered : Bool → List Fixup → List Import
-gathered wide fixups = insert_all (eq_by_cmp compare_imports) [] (imports_by wide fixups)
+-- the imports of some pointers in a form, in their order
+unfoldable pub imports_in : Bool → List Fixup → List Import
+imports_in wide fixups = in_order compare_imports (imports_by wide fixups)
 
--- some imports and that of one more pointer
-unfoldable pub noted : Bool → List Import → Fixup → List Import
-noted wide imports fixup = if is_bound fixup.goal then insert_key (eq_by_cmp compare_imports) imports (import_of wide fixup) else imports
+-- an import of the wide form by its name's place
+unfoldable pub row_of : List Fixup → Fixup → ImportRow
+row_of fixups fixup = row_in (names_of (imports_in false fixups)) (import_of true fixup)
 
--- an import stands at a place of a list
-pub record StandsAt (imports : List Import) (place : ℕ) (import : Import) : Type 0 where
-  pub within : place < length imports
-  pub is : (d : Import) → slice_index_or imports place d ≡ import
+-- imports are the same
+abbrev pub is_same : Import → Import → Bool
+is_same = eq_by_cmp compare_imports
 
--- the import of a pointer that is bound stands at a place of a list
-pub record HasPlace (wide : Bool) (imports : List Import) (fixup : Fixup) (place : ℕ) : Type 0 where
-  pub there : is_bound fixup.goal ≡ true → StandsAt imports place (import_of wide fixup)
+module _ {K : Type 0} (same : K → K → Bool) where
+  -- what some pointers are bound to, each once, in the order of the pointers
+  unfoldable pub gathered : (Fixup → K) → List Fixup → List K
+  gathered of fixups = insert_all same [] (map of (bound fixups))
+
+  -- some of it, and what one more pointer is bound to
+  unfoldable pub noted : (Fixup → K) → List K → Fixup → List K
+  noted of keys fixup = if is_bound fixup.goal then insert_key same keys (of fixup) else keys
+
+  -- the index of a value among some, or 0
+  unfoldable pub rank_in : List K → K → ℕ
+  rank_in keys key = unwrap_or (position (same key) keys) 0
+
+-- imports and one more, if there is one
+abbrev pub noted_row : List ImportRow → Option ImportRow → List ImportRow
+noted_row rows None = rows
+noted_row rows (Some row) = insert_key same_row rows row
+
+-- a value stands at a place of a list
+pub record StandsAt {K : Type 0} (keys : List K) (place : ℕ) (key : K) : Type 0 where
+  pub within : place < length keys
+  pub is : (d : K) → slice_index_or keys place d ≡ key
+
+-- what a pointer is bound to, if it is, stands at a place of a list
+pub record HasPlace {K : Type 0} (of : Fixup → K) (keys : List K) (fixup : Fixup) (place : ℕ) : Type 0 where
+  pub there : is_bound fixup.goal ≡ true → StandsAt keys place (of fixup)
 
 -- pointers have a place each
-pub record ArePlaces (wide : Bool) (fixups : List Fixup) (imports : List Import) (places : List ℕ) : Type 0 where
+pub record ArePlaces {K : Type 0} (of : Fixup → K) (fixups : List Fixup) (keys : List K) (places : List ℕ) : Type 0 where
   pub size : length places ≡ length fixups
-  pub each : (k : ℕ) (f : Fixup) (p : ℕ) → k < length fixups → HasPlace wide imports (slice_index_or fixups k f) (slice_index_or places k p)
+  pub each : (k : ℕ) (f : Fixup) (p : ℕ) → k < length fixups → HasPlace of keys (slice_index_or fixups k f) (slice_index_or places k p)
 
 -- the number of a pointer's import, if it is bound
 pub record HasNumber (wide : Bool) (imports : List Import) (fixup : Fixup) (number : ℕ) : Type 0 where
   pub is : is_bound fixup.goal ≡ true → number ≡ number_of imports (import_of wide fixup)
-  pub small : number < 2 ^ 24
+  pub small : number ≤ length imports
 
 -- pointers have a number each
 pub record AreNumbers (wide : Bool) (fixups : List Fixup) (imports : List Import) (numbers : List ℕ) : Type 0 where

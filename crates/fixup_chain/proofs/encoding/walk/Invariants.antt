@@ -1,5 +1,6 @@
+use Rattle.fixup_chain.specs.inner.Held.{imports_in}
 use Rattle.fixup_chain.proofs.WalkLemmas.{IsWalk}
 use Rattle.fixup_chain.proofs.encoding.walk.Given as goal
 
 abbrev pub invariant-loop-at : goal.invariant-loop-at
-invariant-loop-at l = IsWalk l.layout l.formed.wide l.formed.imports.keys l.fixups l.at l.words.items l.first
+invariant-loop-at l = IsWalk l.layout l.wide (imports_in l.wide l.fixups) l.fixups l.at l.words.items l.first
