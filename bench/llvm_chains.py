@@ -201,7 +201,7 @@ def compare(version, pointers, known):
     return digest in known and not wrong and in_order
 
 
-def shape(count, step, names, blocks, spread, low):
+def shape(count, step, names, blocks, spread, low, last=b""):
     """Pointers `step` bytes apart, every second one bound, as the tests' `Shape` says."""
     pointers = []
     for k in range(count):
@@ -211,7 +211,7 @@ def shape(count, step, names, blocks, spread, low):
             pointers.append(bind(address, name, number % 240 + 1, k % spread - low, number % 7 == 0))
         else:
             pointers.append(rebase(address, ATOM + 8 * k - k))
-    return pointers
+    return pointers + [bind(DATA + count * step, last, FLAT)] * bool(last)
 
 
 def cases():
@@ -233,6 +233,8 @@ def cases():
     yield shape(4000, 40, 100, 0, 3, 1)
     yield shape(4190, 8, 2095, 8, 1, 0)
     yield shape(4190, 8, 2094, 8, 1, 0)
+    yield shape(4188, 8, 2094, 8, 1, 0, b"z" * 41)
+    yield shape(4188, 8, 2094, 8, 1, 0, b"z" * 42)
     yield shape(9000, 5000, 7, 0, 2, 0)
 
 

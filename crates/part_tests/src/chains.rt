@@ -171,8 +171,8 @@ struct Case {
 
 // Pointers of all kinds: an addend at the bounds of a word's, a name with two of them, all ordinals in both forms of the
 // imports, and in the wide one those above 253, which the narrow one has no room for, segments without pointers between
-// others, a page's last place, and the last page and the last target there are. The digests are of a writer in Python that was made apart from this one; `llvm-objdump` reads the same binds where
-// the imports are in the narrow form.
+// others, a page's last place, and the last page and the last target there are. The digests are of the writer in
+// `bench/llvm_chains.py`, which stands apart from the crate and has LLVM list the same pointers.
 const CASES: [Case; 11] = [
     Case {
         rows: &[(None, 0, CONST, PUTS, 255)],
@@ -250,7 +250,8 @@ const CASES: [Case; 11] = [
 ];
 
 // So many pointers, each `step` bytes after the one before, every second one bound to one of some names with so many
-// blocks of 500 letters, with addends from `-low` on that repeat after `spread` pointers.
+// blocks of 500 letters, with addends from `-low` on that repeat after `spread` pointers; and one that is bound to a last
+// name, if it has letters.
 struct Shape {
     count: u32,
     step: u32,
@@ -258,12 +259,13 @@ struct Shape {
     blocks: u32,
     spread: u32,
     low: i64,
+    last: &'static [u8],
     digest: &'static str,
 }
 
-// Imports of both forms, by their addends and by their pools, the greatest narrow one and the least wide one of names
-// of this size.
-const SHAPES: [Shape; 6] = [
+// Imports of both forms, by their addends and by their pools: of 2^23 - 1 bytes, which is the greatest one whose places
+// the narrow form has room for, of 2^23 bytes, and of those beside with names of one size.
+const SHAPES: [Shape; 8] = [
     Shape {
         count: 3000,
         step: 24,
@@ -271,6 +273,7 @@ const SHAPES: [Shape; 6] = [
         blocks: 0,
         spread: 256,
         low: 0,
+        last: b"",
         digest: "1d3c1846257e5c325b84ee96b9d04a4b0865b757f9e12aea592be3fab665086f",
     },
     Shape {
@@ -280,6 +283,7 @@ const SHAPES: [Shape; 6] = [
         blocks: 0,
         spread: 257,
         low: 0,
+        last: b"",
         digest: "b05329e3622fc98123be02485b2504436550deac0628c29f7f5cfc2f13f3d07b",
     },
     Shape {
@@ -289,6 +293,7 @@ const SHAPES: [Shape; 6] = [
         blocks: 0,
         spread: 3,
         low: 1,
+        last: b"",
         digest: "9a7aad068d2985fd8fcb17303d99a98b5816004dd43b6f39ffca9f89ca8c62c7",
     },
     Shape {
@@ -298,6 +303,7 @@ const SHAPES: [Shape; 6] = [
         blocks: 8,
         spread: 1,
         low: 0,
+        last: b"",
         digest: "29a7209254feb5bd482b8dfe5e7694fbceeb05d4a20921eab0bc74f12f4b5f73",
     },
     Shape {
@@ -307,7 +313,28 @@ const SHAPES: [Shape; 6] = [
         blocks: 8,
         spread: 1,
         low: 0,
+        last: b"",
         digest: "39334de47b8a3cc61ce2170e18724227ea2b49dcb519022cd256f2a0774016ef",
+    },
+    Shape {
+        count: 4188,
+        step: 8,
+        names: 2094,
+        blocks: 8,
+        spread: 1,
+        low: 0,
+        last: b"zzzzzzzzzzzzzzzzzzzzzzzzzzzzzzzzzzzzzzzzz",
+        digest: "b646c84c39cd3107df62a96cf19ec389887459f1f4610a1d76067e7c28cd3c69",
+    },
+    Shape {
+        count: 4188,
+        step: 8,
+        names: 2094,
+        blocks: 8,
+        spread: 1,
+        low: 0,
+        last: b"zzzzzzzzzzzzzzzzzzzzzzzzzzzzzzzzzzzzzzzzzz",
+        digest: "42e724ace1eeb91ca40835d1c93572a1587081cc8dca0f6a0864f28f6b654f21",
     },
     Shape {
         count: 9000,
@@ -316,6 +343,7 @@ const SHAPES: [Shape; 6] = [
         blocks: 0,
         spread: 2,
         low: 0,
+        last: b"",
         digest: "65003ee9020c6e2b9d8332de4662ad4c16c48b3c91a068b0302d9de4b16e8fdc",
     },
 ];
@@ -362,6 +390,15 @@ fn shaped(alloc: Global, shape: &Shape) -> Result<Vec<Fixup>, OutOfMemory> {
             } else {
                 -i64::from(k)
             },
+        })?;
+    }
+    if !shape.last.is_empty() {
+        fixups.push(Fixup {
+            atom: None,
+            place: 0,
+            address: DATA + u64::from(shape.count) * u64::from(shape.step),
+            goal: Goal::Flat(Bytes::from_static(shape.last)),
+            addend: 0,
         })?;
     }
     Ok(fixups)
