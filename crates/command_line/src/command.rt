@@ -59,8 +59,6 @@ pub struct Command {
     pub compatible: u32,
     /// How many bytes are kept free after the load commands.
     pub headerpad: u32,
-    /// How many workers there are.
-    pub threads: u32,
     /// How far a branch reaches, in bytes.
     pub reach: u32,
     /// How many functions are made as inputs, or 0.

@@ -1,5 +1,5 @@
 use command_line::{Command, InputForm, paths_for};
-use mo_cmd::{Rows, UsageFault, read_all_words, read_list, read_words};
+use mo_cmd::{CommandLine, Rows, UsageFault, read_list, read_words};
 use mo_types::{Arg, ArgList, Bytes, Feature, Items, NameList, ObjFault, OutOfMemory, UsageRule};
 use std::alloc::Global;
 use std::test::Fail;
@@ -302,10 +302,11 @@ fn shown(alloc: Global, command: &Command) -> Result<Vec<u8>, OutOfMemory> {
     Ok(text)
 }
 
-fn numbers(alloc: Global, command: &Command) -> Result<Vec<u8>, OutOfMemory> {
+fn numbers(alloc: Global, line: &CommandLine) -> Result<Vec<u8>, OutOfMemory> {
+    let command = &line.command;
     let (min, sdk) = (command.min, command.sdk);
     let (current, compatible) = (command.current, command.compatible);
-    let (pad, threads) = (command.headerpad, command.threads);
+    let (pad, threads) = (command.headerpad, line.threads);
     let (reach, made) = (command.reach, command.generate);
     let text = format!(in alloc;
         "{min} {sdk} {current} {compatible} {pad} {threads} {reach} {made}"
@@ -347,12 +348,12 @@ enum Told {
     Counts,
 }
 
-fn command_text(alloc: Global, told: Told, command: &Command) -> Result<Vec<u8>, OutOfMemory> {
+fn line_text(alloc: Global, told: Told, line: &CommandLine) -> Result<Vec<u8>, OutOfMemory> {
     match told {
-        Told::Texts => shown(alloc, command),
-        Told::Numbers => numbers(alloc, command),
-        Told::Paths => all_paths(alloc, command),
-        Told::Counts => counts(alloc, command),
+        Told::Texts => shown(alloc, &line.command),
+        Told::Numbers => numbers(alloc, line),
+        Told::Paths => all_paths(alloc, &line.command),
+        Told::Counts => counts(alloc, &line.command),
     }
 }
 
@@ -367,20 +368,25 @@ fn fault_text(alloc: Global, word: u64, rule: UsageRule) -> Result<Vec<u8>, OutO
     Ok(format!(in alloc; "{word} {rule}")?.into_bytes())
 }
 
-// What is told of a command, or its fault.
+// What is told of a command line, or its fault.
 fn text_of(
     alloc: Global,
     told: Told,
-    read: &Result<Command, UsageFault>,
+    read: &Result<CommandLine, UsageFault>,
 ) -> Result<Vec<u8>, OutOfMemory> {
     match read {
-        Ok(command) => command_text(alloc, told, command),
+        Ok(line) => line_text(alloc, told, line),
         Err(UsageFault::At { word, rule }) => fault_text(alloc, *word, *rule),
         Err(UsageFault::OutOfMemory) => Err(OutOfMemory),
     }
 }
 
-fn tells(alloc: Global, told: Told, read: &Result<Command, UsageFault>, expected: &str) -> bool {
+fn tells(
+    alloc: Global,
+    told: Told,
+    read: &Result<CommandLine, UsageFault>,
+    expected: &str,
+) -> bool {
     match text_of(alloc, told, read) {
         Ok(text) => text.as_slice() == expected.as_bytes(),
         Err(_) => false,
@@ -388,7 +394,7 @@ fn tells(alloc: Global, told: Told, read: &Result<Command, UsageFault>, expected
 }
 
 fn all_tell(alloc: Global, told: Told, words: &ArgList, expected: &str) -> bool {
-    let read = read_all_words(alloc, words);
+    let read = read_words(alloc, Rows::All, words);
     tells(alloc, told, &read, expected)
 }
 

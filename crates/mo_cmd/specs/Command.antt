@@ -11,6 +11,7 @@ use Rattle.mo_cmd.specs.declared.usage_fault.UsageFault.TheVariants.{At}
 use Rattle.mo_cmd.specs.declared.faults.Whole.{Whole}
 use Rattle.mo_cmd.specs.declared.build.Switches.{Switches}
 use Rattle.mo_cmd.specs.declared.build.Numbers.{Numbers}
+use Rattle.mo_cmd.specs.declared.read.CommandLine.{CommandLine}
 use Rattle.mo_cmd.specs.declared.lists.Texts.{Texts}
 use Rattle.mo_cmd.specs.declared.lists.Names.{Names}
 use Rattle.mo_cmd.specs.declared.lists.Exports.{Exports}
@@ -180,7 +181,6 @@ assembled switches numbers texts names exports inputs = record {
   current = numbers.current;
   compatible = numbers.compatible;
   headerpad = numbers.headerpad;
-  threads = numbers.threads;
   reach = numbers.reach;
   generate = numbers.generate;
   roots = names.roots;
@@ -244,6 +244,10 @@ decided_of words parts items =
 unfoldable pub command_by : Rows → List (List ℕ) → Result Command UsageFault
 command_by rows words = decided_of words (parts_of rows words) (items_of rows words)
 
+-- how many workers they name, four where they name none
+unfoldable pub workers_by : Rows → List (List ℕ) → ℕ
+workers_by rows words = (numbers_of (items_of rows words)).threads
+
 -- with all rows
 abbrev pub whole_command_of : List (List ℕ) → Result Command UsageFault
 whole_command_of words = command_by All words
@@ -251,3 +255,8 @@ whole_command_of words = command_by All words
 abbrev pub IsUsage : UsageFault → Type 0
 IsUsage (At word rule) = Unit {0}
 IsUsage _ = ⊥
+
+-- the command that was read
+abbrev pub command_in : Result CommandLine UsageFault → Result Command UsageFault
+command_in (Ok line) = Ok line.command
+command_in (Err fault) = Err fault

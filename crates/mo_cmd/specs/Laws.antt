@@ -42,7 +42,7 @@ AreConsumed rows = (words : List (List ℕ)) → spellings (items_of rows words)
 abbrev pub IsOfItems : Rows → Type 0
 IsOfItems rows = (words : List (List ℕ)) (command : Command) → command_by rows words ≡ Ok command → command ≡ command_from (items_of rows words)
 
--- the defaults of ld(1): an executable a.out with the entry _main, for macOS 11.0, a pad of 32 bytes, four workers, a
+-- the defaults of ld(1): an executable a.out with the entry _main, for macOS 11.0, a pad of 32 bytes, a
 -- branch's reach of 2^27 bytes, and nothing else
 abbrev pub default_command : List ℕ → Command
 default_command path = record {
@@ -61,7 +61,6 @@ default_command path = record {
   current = 0;
   compatible = 0;
   headerpad = 32;
-  threads = 4;
   reach = 2 ^ 27;
   generate = 0;
   roots = [];

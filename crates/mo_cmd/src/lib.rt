@@ -2,7 +2,8 @@
 //!
 //! `read_words` answers exactly the command of the definition for the words after the program's name, or the first
 //! fault (`command_by`, in `specs/Command.antt`), by the `Rows` of the table of options that a form of the link has: a
-//! word that these don't have is unknown. `read_all_words` is the same by all rows (`whole_command_of`).
+//! word that these don't have is unknown. `read_all_words` is the same by all rows (`whole_command_of`). How many workers the
+//! words name (`workers_by`) is no part of a command: so no definition of the link can look at it.
 //!
 //! The module `parts` tells what each word is: an option, one of its values, a path, or unknown. `faults` finds the
 //! first rule of the first part that breaks one; a `UsageFault` has the number of the word, counted from 1, or 0 for a
@@ -41,5 +42,5 @@ pub use name_list::read_list;
 pub use numbers::version;
 pub use options::{CommandField, CommandOption};
 pub use parts::Rows;
-pub use read::{read_all_words, read_words};
+pub use read::{CommandLine, read_all_words, read_words};
 pub use usage_fault::UsageFault;

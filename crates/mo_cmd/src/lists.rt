@@ -236,7 +236,6 @@ pub fn assembled(
         current: numbers.current,
         compatible: numbers.compatible,
         headerpad: numbers.headerpad,
-        threads: numbers.threads,
         reach: numbers.reach,
         generate: numbers.generate,
         roots: names.roots,

@@ -1,9 +1,9 @@
 //! Reading words: their parts, the fault of the first part that has one, and the command.
 
-ghost use Rattle.std.specs.Prelude.{◌≡◌, ◌<◌, All, length};
+ghost use Rattle.std.specs.Prelude.{◌≡◌, ◌<◌, All, IfOk, length};
 ghost use Rattle.mo_types.specs.Gives.{Gives};
 ghost use Rattle.mo_cmd.specs.Command as command;
-ghost use Rattle.mo_cmd.specs.Command.{IsUsage, command_by, whole_command_of};
+ghost use Rattle.mo_cmd.specs.Command.{IsUsage, command_by, command_in, whole_command_of, workers_by};
 ghost use Rattle.mo_cmd.specs.Sorted.{IsSorted, sorted_items};
 
 use crate::build::{Numbers, Switches, has_input, numbers_of, switches_of, whole_of};
@@ -15,6 +15,13 @@ use crate::usage_fault::UsageFault;
 use command_line::Command;
 use mo_types::{Arg, ArgList, UsageRule};
 use std::alloc::Global;
+
+/// A command line: the command, of which alone the image is made, and how many workers make it, 1 to 64.
+#[derive(Debug, Drop)]
+pub struct CommandLine {
+    pub command: Command,
+    pub threads: u32,
+}
 
 fn or_no_input(has_input: bool, fault: Option<UsageFault>) -> Option<UsageFault>
     ensures { result ≡ command.or_no_input has_input fault }
@@ -44,8 +51,9 @@ fn line_fault(
 }
 
 #[tactic(auto, using(crate::proofs::ReadLemmas::reading))]
-fn read_by(alloc: Global, rows: Rows, words: &[Arg]) -> Result<Command, UsageFault>
-    ensures { Gives IsUsage result (command_by rows words.now) }
+fn read_by(alloc: Global, rows: Rows, words: &[Arg]) -> Result<CommandLine, UsageFault>
+    ensures command { Gives IsUsage (command_in result) (command_by rows words.now) }
+    ensures workers { IfOk result (λ line. line.threads ≡ workers_by rows words.now) }
 {
     let parts = parts_of(alloc, rows, words)?;
     let sorted = Sorted::new(alloc, parts)?;
@@ -53,21 +61,28 @@ fn read_by(alloc: Global, rows: Rows, words: &[Arg]) -> Result<Command, UsageFau
     let numbers = numbers_of(words, &sorted);
     match line_fault(words, &sorted, switches, numbers) {
         Some(fault) => Err(fault),
-        None => Ok(command_from(alloc, words, &sorted, switches, numbers)?),
+        None => Ok(CommandLine {
+            command: command_from(alloc, words, &sorted, switches, numbers)?,
+            threads: numbers.threads,
+        }),
     }
 }
 
 /// Reads the words of a command line after the program's name (ld(1)), by the options that a form of the link has: any
 /// other one is unknown. The fault of the least word decides.
-pub fn read_words(alloc: Global, rows: Rows, words: &ArgList) -> Result<Command, UsageFault>
-    ensures { Gives IsUsage result (command_by rows words.now) }
+pub fn read_words(alloc: Global, rows: Rows, words: &ArgList) -> Result<CommandLine, UsageFault>
+    ensures command { Gives IsUsage (command_in result) (command_by rows words.now) }
+    ensures workers { IfOk result (λ line. line.threads ≡ workers_by rows words.now) }
 {
     read_by(alloc, rows, words.as_slice())
 }
 
-/// Reads the words of a command line after the program's name, by all options.
+/// Reads the command of the words of a command line after the program's name, by all options.
 pub fn read_all_words(alloc: Global, words: &ArgList) -> Result<Command, UsageFault>
     ensures { Gives IsUsage result (whole_command_of words.now) }
 {
-    read_words(alloc, Rows::All, words)
+    match read_words(alloc, Rows::All, words) {
+        Ok(line) => Ok(line.command),
+        Err(fault) => Err(fault),
+    }
 }
