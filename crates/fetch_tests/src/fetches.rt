@@ -2,6 +2,7 @@
 ghost use Rattle.std.specs.Prelude.{◌≢◌, AllPairs, IfOk};
 
 use command_line::Command;
+use file_cache::FileCache;
 use input_fetch::{ContentList, FetchStop, fetch_inputs};
 use mo_cmd::read_all_words;
 use mo_outside::{FileList, MemFiles};
@@ -15,7 +16,8 @@ const ROWS: &str = "\
     a.o\ta.o\t0\ta.o \n\
     a.o a.o\ta.o\t0\ta.o a.o \n\
     a.o a.o\ta.o\t1\tunread a.o\n\
-    a.o a.o\ta.o\t2\tunread a.o\n\
+    a.o a.o\ta.o\t2\ta.o a.o \n\
+    a.o b.o a.o\tb.o\t0\tmissing a.o\n\
     a.o a.o\ta.o\t3\ta.o a.o \n\
     a.o b.o\ta.o\t0\tmissing b.o\n\
     a.o b.o\tb.o\t0\tmissing a.o\n\
@@ -87,7 +89,8 @@ fn fetched(
     let mut calls = Items::new(alloc);
     calls.push(failing)?;
     let mut files = MemFiles::new(one_file(alloc, path)?, calls);
-    fetch_inputs(alloc, &mut files, command)
+    let mut cache = FileCache::new(alloc);
+    fetch_inputs(alloc, &mut files, &mut cache, command)
 }
 
 fn said_of(

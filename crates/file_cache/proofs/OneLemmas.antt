@@ -1,11 +1,11 @@
 -- One path.
-use Rattle.std.proofs.Common.{◌≡◌, ◌≢◌, ℕ, ◌≤◌, ◌<◌, ◌++◌, ◌∷◌, [], List, map, take, All, Bool, true, false, cond, ◌||◌, Option, Some, None, Result, Ok, Err, IfOk, IsErrAnd, IsErrOf, OnOk, refl, sym, ap, ◌∙◌, subst, arith, bytes_eq, if◌then◌else◌}
+use Rattle.std.proofs.Common.{◌≡◌, ◌≢◌, ℕ, ◌≤◌, ◌<◌, ◌++◌, ◌∷◌, [], List, map, All, Bool, true, false, cond, ◌||◌, Option, Some, None, Result, Ok, Err, IfOk, IsErrAnd, IsErrOf, OnOk, refl, sym, ap, ◌∙◌, subst, arith, bytes_eq, if◌then◌else◌}
 use Rattle.std.specs.List.{list_any}
 use Rattle.std.proofs.lemmas.List.{append-nil, map-append}
 use Rattle.std.proofs.lemmas.Result.{err_from_is_err_and}
 use Rattle.std.proofs.lemmas.Slice.Eq.{bytes_eq-Decides}
 use Rattle.indexmap.specs.IndexMap.{insert_entry}
-use Rattle.mo_outside.specs.Answers.{Agrees, Answer, Chain, Exchange, answer_of}
+use Rattle.mo_outside.specs.Answers.{Agrees, Answer, Exchange, answer_of}
 use Rattle.mo_outside.specs.Answers as answer
 use Rattle.mo_outside.specs.Faults.{Rises}
 use Rattle.mo_outside.specs.Files.{FileMap, Fetches}
@@ -14,11 +14,11 @@ use Rattle.mo_outside.specs.Tells.{Tells}
 use Rattle.mo_outside.specs.declared.traits.FetchFault.{FetchFault}
 use Rattle.mo_types.specs.Gives.{Gives}
 use Rattle.file_cache.specs.Kept.{FilesSeen, answer_kept, exchange_kept, kept_at}
-use Rattle.file_cache.specs.Program.{File, There, Absent, Unread, Program, file_at, read_as}
-use Rattle.file_cache.specs.Runs.{AllRead, Asks, Gave, IsOfBytes, IsTold, IsUnread, Runs, Says, fresh, paths_in, unread}
+use Rattle.file_cache.specs.Program.{File, Unread, Program, file_at, read_as}
+use Rattle.file_cache.specs.Runs.{Asks, Gave, IsOfBytes, IsTold, IsUnread, Runs, Says, fresh, paths_in, unread}
 use Rattle.file_cache.specs.declared.asking.AskFault.{AskFault}
 use Rattle.file_cache.specs.declared.asking.AskFault.TheVariants as fault
-use Rattle.file_cache.proofs.RunLemmas.{gave-second, kept_still, none_told}
+use Rattle.file_cache.proofs.RunLemmas.{gave-second, none_told, short_start}
 
 -- ---- what is kept
 
@@ -85,6 +85,7 @@ kept_run fetches path file pairs seen kept there = record {
   agree = tt;
   bytes = tt;
   logged = none_told seen.told;
+  once = tt;
   gives = λ look gave. told_end (look path) file (told_there look path file pairs (subst (Gave look) kept (gave_before look seen.kept gave)) there);
   whole = λ is look gave. none;
   some = λ look gave. (1, none);
@@ -103,21 +104,8 @@ pub no_run : {S A : Type 0} (fetches : S → List ℕ → Answer → S → Type 
     → IsErrAnd result (λ why. why ≡ fault.OutOfMemory) → Runs fetches IsUnread program result seen seen
 no_run {A = A} fetches program result seen is =
     let passed = err_from_is_err_and result is in
-    subst (λ (r : Result A AskFault). Runs fetches IsUnread program r seen seen) (sym (passed.1 ∙ ap Err passed.2)) (record {
-      asked = [];
-      chain = refl;
-      agree = tt;
-      bytes = tt;
-      logged = none_told seen.told;
-      gives = λ look gave kind. absurd kind;
-      whole = λ kind look gave. absurd kind;
-      some = λ look gave. (0, refl);
-      kept = tt;
-      holds = refl;
-      rises = omega arith;
-      still = λ read. refl;
-      failed = λ unread. absurd (unread tt);
-    })
+    subst (λ (r : Result A AskFault). Runs fetches IsUnread program r seen seen) (sym (passed.1 ∙ ap Err passed.2))
+    (short_start fetches IsUnread program fault.OutOfMemory seen (λ kind. kind))
 
 -- ---- the files are asked
 
@@ -178,6 +166,7 @@ asked_run fetches pairs result path sent bytes fetched old new same kept none sh
   agree = (subst (λ (p : List ℕ). Agrees old.holds p (answer_of fetched bytes)) same (agrees old.holds sent bytes fetched tells), tt);
   bytes = (are_bytes bytes fetched low, tt);
   logged = subst (λ (p : List ℕ). Tells (Asks (p ∷ [])) old.told new.told) same (one_told sent old.told new.told logs);
+  once = (fresh_one, tt);
   gives = λ look gave. said_end result (answer_of fetched bytes) (look path) says (gave-second look old.kept ((path, answer_of fetched bytes) ∷ []) gave).0;
   whole = λ is look gave. one;
   some = λ look gave. (1, one);
@@ -188,8 +177,11 @@ asked_run fetches pairs result path sent bytes fetched old new same kept none sh
   failed = λ unread. unread_rises fetched bytes old.faults new.faults failed (λ there. unread (there, tt));
 }
   where
+    fresh_one : list_any (bytes_eq path) (paths_in old.kept) ≡ false
+    fresh_one = ap (λ (k : List Exchange). list_any (bytes_eq path) (paths_in k)) kept ∙ not_known path pairs none
+
     one : path ∷ [] ≡ fresh (paths_in old.kept) (path ∷ [])
-    one = sym (ap (λ test. if test then [] else path ∷ []) (ap (λ (k : List Exchange). list_any (bytes_eq path) (paths_in k)) kept ∙ not_known path pairs none))
+    one = sym (ap (λ test. if test then [] else path ∷ []) fresh_one)
 
 -- the same, where a fault is handed on
 pub asked_stopped : {S : Type 0} (fetches : S → List ℕ → Answer → S → Type 0) (pairs : List (List ℕ × Option (List ℕ))) (result : Result (Option (List ℕ)) AskFault) (why : AskFault) (path sent bytes : List ℕ)

@@ -1,19 +1,21 @@
 -- Programs that are run one after the other.
-use Rattle.std.proofs.Common.{◌≡◌, ◌≢◌, ◌⊎◌, inl, inr, if◌then◌else◌, ℕ, zero, suc, ◌+◌, ◌≤◌, ◌<◌, ◌++◌, ◌∷◌, [], List, map, length, min, take, All, Bool, true, false, cond, ◌||◌, Option, Some, None, Result, Ok, Err, IfOk, IsErrAnd, IsErrOf, OnOk, refl, sym, ap, ◌∙◌, subst, arith, append_assoc, bytes_eq}
+use Rattle.std.proofs.Common.{◌≡◌, ◌≢◌, ◌⊎◌, inl, inr, if◌then◌else◌, ℕ, zero, suc, ◌+◌, ◌≤◌, ◌++◌, ◌∷◌, [], List, length, min, take, Bool, true, false, cond, ◌||◌, Option, Some, None, Result, Ok, Err, IsErrAnd, OnOk, refl, sym, ap, ◌∙◌, subst, arith, append_assoc, bytes_eq}
 use Rattle.std.specs.List.{list_any}
-use Rattle.std.proofs.lemmas.List.{append-nil, map-append, take-append-le, take_min}
+use Rattle.std.specs.Map.{lookup}
+use Rattle.std.proofs.lemmas.List.{append-nil, map-append, take-append-le, take_all, take_min}
+use Rattle.std.proofs.lemmas.Slice.Eq.{bytes_eq-Decides}
 use Rattle.std.proofs.lemmas.Result.{err_from_is_err_and}
-use Rattle.mo_outside.specs.Answers.{Agrees, Answer, Chain, Exchange, answer_of}
+use Rattle.mo_outside.specs.Answers.{Answer, Chain, Exchange}
 use Rattle.mo_outside.specs.Answers as answer
 use Rattle.mo_outside.specs.Faults.{Rises}
-use Rattle.mo_outside.specs.Files.{FileMap, Fetches, fetched}
-use Rattle.mo_outside.specs.Log.{Logs}
+use Rattle.mo_outside.specs.Files.{FileMap}
 use Rattle.mo_outside.specs.Tells.{Tells}
-use Rattle.mo_outside.specs.declared.traits.FetchFault.{FetchFault}
 use Rattle.mo_types.specs.Gives.{Gives}
 use Rattle.file_cache.specs.Kept.{FilesSeen}
-use Rattle.file_cache.specs.Program.{File, There, Absent, Unread, Program, ◌>>=◌, and_then, ends}
-use Rattle.file_cache.specs.Runs.{AllAgree, AllRead, AreNew, AreOfBytes, Asks, Gave, IsReal, Runs, file_in, fresh, paths_in, standing}
+use Rattle.file_cache.specs.Program.{File, There, Absent, Unread, Program, ◌>>=◌, and_then, ends, file_at, read_as}
+use Rattle.file_cache.specs.Runs.{AllAgree, AllRead, AreNew, AreOfBytes, Asks, Gave, IsTold, IsUnread, Passes, Runs, file_in, file_told, fresh, paths_in, standing, told_as, unread}
+use Rattle.file_cache.specs.declared.asking.AskFault.{AskFault}
+use Rattle.file_cache.specs.declared.asking.AskFault.TheVariants as fault
 
 -- ---- paths that are asked for once
 
@@ -66,6 +68,7 @@ none_run fetches real result end seen gives = record {
   agree = tt;
   bytes = tt;
   logged = none_told seen.told;
+  once = tt;
   gives = λ look gave. gives;
   whole = λ is look gave. refl;
   some = λ look gave. (0, refl);
@@ -76,36 +79,55 @@ none_run fetches real result end seen gives = record {
   failed = λ unread. absurd (unread tt);
 }
 
+-- memory ran out before anything was asked for
+pub short_start : {S A E : Type 0} (fetches : S → List ℕ → Answer → S → Type 0) (real : E → Type 0) (program : Program A E) (why : E) (seen : FilesSeen S) → ¬ real why → Runs fetches real program (Err why) seen seen
+short_start fetches real program why seen short = record {
+  asked = [];
+  chain = refl;
+  agree = tt;
+  bytes = tt;
+  logged = none_told seen.told;
+  once = tt;
+  gives = λ look gave is. absurd (short is);
+  whole = λ is look gave. absurd (short is);
+  some = λ look gave. (0, refl);
+  kept = tt;
+  holds = refl;
+  rises = omega arith;
+  still = λ read. refl;
+  failed = λ unread. absurd (unread tt);
+}
+
 -- ---- a program, and then another one
 
-chain-append : {S : Type 0} (fetches : S → List ℕ → Answer → S → Type 0) (first second : List Exchange) (a b c : S) → Chain fetches a first b → Chain fetches b second c → Chain fetches a (first ++ second) c
+pub chain-append : {S : Type 0} (fetches : S → List ℕ → Answer → S → Type 0) (first second : List Exchange) (a b c : S) → Chain fetches a first b → Chain fetches b second c → Chain fetches a (first ++ second) c
 chain-append fetches [] second a b c same rest = subst (λ x. Chain fetches x second c) same rest
 chain-append fetches (one ∷ first) second a b c (next, shows, more) rest = (next, shows, chain-append fetches first second next b c more rest)
 
-agree-append : (held : Option FileMap) (first second : List Exchange) → AllAgree held first → AllAgree held second → AllAgree held (first ++ second)
+pub agree-append : (held : Option FileMap) (first second : List Exchange) → AllAgree held first → AllAgree held second → AllAgree held (first ++ second)
 agree-append held [] second all rest = rest
 agree-append held (one ∷ first) second (here, all) rest = (here, agree-append held first second all rest)
 
-bytes-append : (first second : List Exchange) → AreOfBytes first → AreOfBytes second → AreOfBytes (first ++ second)
+pub bytes-append : (first second : List Exchange) → AreOfBytes first → AreOfBytes second → AreOfBytes (first ++ second)
 bytes-append [] second all rest = rest
 bytes-append (one ∷ first) second (here, all) rest = (here, bytes-append first second all rest)
 
-read-both : (first second : List Exchange) → AllRead (first ++ second) → AllRead first × AllRead second
+pub read-both : (first second : List Exchange) → AllRead (first ++ second) → AllRead first × AllRead second
 read-both [] second all = (tt, all)
 read-both (one ∷ first) second (here, all) = let both = read-both first second all in ((here, both.0), both.1)
 
-read-append : (first second : List Exchange) → AllRead first → AllRead second → AllRead (first ++ second)
+pub read-append : (first second : List Exchange) → AllRead first → AllRead second → AllRead (first ++ second)
 read-append [] second all rest = rest
 read-append (one ∷ first) second (here, all) rest = (here, read-append first second all rest)
 
-tells-append : (first second : List (List ℕ)) (x y z : Option (List (List ℕ))) → Tells (Asks first) x y → Tells (Asks second) y z → Tells (Asks (first ++ second)) x z
+pub tells-append : (first second : List (List ℕ)) (x y z : Option (List (List ℕ))) → Tells (Asks first) x y → Tells (Asks second) y z → Tells (Asks (first ++ second)) x z
 tells-append first second x y None p q = tt
 tells-append first second x None (Some c) p q = absurd q
 tells-append first second None (Some b) (Some c) p q = absurd p
 tells-append first second (Some a) (Some b) (Some c) p q =
     record { asked = q.asked ∙ ap (λ (paths : List (List ℕ)). paths ++ second) p.asked ∙ append_assoc a first second }
 
-gave-first : (look : List ℕ → File) (first second : List Exchange) → Gave look (first ++ second) → Gave look first
+pub gave-first : (look : List ℕ → File) (first second : List Exchange) → Gave look (first ++ second) → Gave look first
 gave-first look [] second all = tt
 gave-first look (one ∷ first) second (here, all) = (here, gave-first look first second all)
 
@@ -113,11 +135,11 @@ pub gave-second : (look : List ℕ → File) (first second : List Exchange) → 
 gave-second look [] second all = all
 gave-second look (one ∷ first) second (here, all) = gave-second look first second all
 
-paths-append : (first second : List Exchange) → paths_in (first ++ second) ≡ paths_in first ++ paths_in second
+pub paths-append : (first second : List Exchange) → paths_in (first ++ second) ≡ paths_in first ++ paths_in second
 paths-append first second = map-append (λ (one : Exchange). one.0) first second
 
 -- each file could be read, or one couldn't
-read_or_not : (asked : List Exchange) → AllRead asked ⊎ ¬ AllRead asked
+pub read_or_not : (asked : List Exchange) → AllRead asked ⊎ ¬ AllRead asked
 read_or_not [] = inl tt
 read_or_not (one ∷ asked) = by one.1 (read_or_not asked)
   where
@@ -128,15 +150,20 @@ read_or_not (one ∷ asked) = by one.1 (read_or_not asked)
     by answer.Unread rest = inr (λ both. both.0 refl)
     by a (inr unread) = inr (λ both. unread both.1)
 
-rises_on : (old mid new : ℕ) → Rises old mid → mid ≤ new → Rises old new
+pub rises_on : (old mid new : ℕ) → Rises old mid → mid ≤ new → Rises old new
 rises_on old mid new here more = omega (arith, here, more)
 
-take_more : {A : Type 0} (xs ys : List A) (n m : ℕ) → m ≡ length xs + n → take m (xs ++ ys) ≡ xs ++ take n ys
+pub new-append : (before first second : List (List ℕ)) → AreNew before first → AreNew (before ++ first) second → AreNew before (first ++ second)
+new-append before [] second all rest = subst (λ (paths : List (List ℕ)). AreNew paths second) (append-nil before) rest
+new-append before (path ∷ first) second (here, all) rest =
+    (here, new-append (before ++ path ∷ []) first second all (subst (λ (paths : List (List ℕ)). AreNew paths second) (sym (append_assoc before (path ∷ []) first)) rest))
+
+pub take_more : {A : Type 0} (xs ys : List A) (n m : ℕ) → m ≡ length xs + n → take m (xs ++ ys) ≡ xs ++ take n ys
 take_more [] ys n m is = ap (λ (k : ℕ). take k ys) (let e : m ≡ n = omega (arith, is) in e)
 take_more (x ∷ xs) ys n zero is = absurd (let e : 0 ≡ length (x ∷ xs) + n = is in omega (arith, e))
 take_more (x ∷ xs) ys n (suc m) is = ap (λ more. x ∷ more) (take_more xs ys n m (let e : suc m ≡ length (x ∷ xs) + n = is in omega (arith, e)))
 
-take_first : {A : Type 0} (xs ys : List A) (n : ℕ) → take (min n (length xs)) (xs ++ ys) ≡ take n xs
+pub take_first : {A : Type 0} (xs ys : List A) (n : ℕ) → take (min n (length xs)) (xs ++ ys) ≡ take n xs
 take_first xs ys n = take-append-le (min n (length xs)) xs ys (omega arith) ∙ take_min n xs
 
 module _ {S A B E : Type 0} (fetches : S → List ℕ → Answer → S → Type 0) (real : E → Type 0) (program : Program A E) (next : A → Program B E) where
@@ -172,6 +199,8 @@ module _ {S A B E : Type 0} (fetches : S → List ℕ → Answer → S → Type 
         agree = agree-append old.holds a b first.agree (subst (λ (held : Option FileMap). AllAgree held b) first.holds second.agree);
         bytes = bytes-append a b first.bytes second.bytes;
         logged = subst (λ (ps : List (List ℕ)). Tells (Asks ps) old.told new.told) (sym (paths-append a b)) (tells-append (paths_in a) (paths_in b) old.told mid.told new.told first.logged second.logged);
+        once = subst (AreNew (paths_in old.kept)) (sym (paths-append a b))
+            (new-append (paths_in old.kept) (paths_in a) (paths_in b) first.once (subst (λ (ks : List (List ℕ)). AreNew ks (paths_in b)) known second.once));
         gives = λ look gave. subst (λ o. Gives real result o.end) (sym (gone_on x look (value look gave))) (second.gives look (after look gave));
         whole = λ is look gave. joined look gave (next x look).tried (second.whole is look (after look gave)) ∙ ap (λ o. fresh (paths_in old.kept) o.tried) (sym (gone_on x look (value look gave)));
         some = λ look gave.
@@ -205,6 +234,7 @@ module _ {S A B E : Type 0} (fetches : S → List ℕ → Answer → S → Type 
         agree = first.agree;
         bytes = first.bytes;
         logged = first.logged;
+        once = first.once;
         gives = λ look gave kind. ap (λ o. o.end) (stopped why look (first.gives look gave kind));
         whole = λ kind look gave. first.whole kind look gave ∙ ap (λ o. fresh (paths_in old.kept) o.tried) (sym (stopped why look (first.gives look gave kind)));
         some = λ look gave. let part = first.some look gave in (min part.0 (length (program look).tried), part.1 ∙ ap (fresh (paths_in old.kept)) (sym (tried_first look part.0 (program look).end refl)));
@@ -229,6 +259,7 @@ same_run fetches real program other result old new same runs = record {
   agree = runs.agree;
   bytes = runs.bytes;
   logged = runs.logged;
+  once = runs.once;
   gives = λ look gave. subst (λ o. Gives real result o.end) (sym (same look)) (runs.gives look gave);
   whole = λ is look gave. runs.whole is look gave ∙ ap (λ o. fresh (paths_in old.kept) o.tried) (sym (same look));
   some = λ look gave. let part = runs.some look gave in (part.0, part.1 ∙ ap (λ o. fresh (paths_in old.kept) (take part.0 o.tried)) (sym (same look)));
@@ -238,3 +269,123 @@ same_run fetches real program other result old new same runs = record {
   still = runs.still;
   failed = runs.failed;
 }
+
+-- ---- what was told
+
+told_here : (path : List ℕ) (given : Answer) (before more : List Exchange) → list_any (bytes_eq path) (paths_in before) ≡ false
+    → lookup (bytes_eq path) (before ++ (path, given) ∷ more) ≡ Some given
+told_here path given [] more new = ap (λ (test : Bool). cond test (Some given) (lookup (bytes_eq path) more)) ((bytes_eq-Decides path path).1 refl)
+told_here path given (one ∷ before) more new = by (bytes_eq path one.0) new (told_here path given before more)
+  where
+    by : (test : Bool) → (test || list_any (bytes_eq path) (paths_in before)) ≡ false
+        → (list_any (bytes_eq path) (paths_in before) ≡ false → lookup (bytes_eq path) (before ++ (path, given) ∷ more) ≡ Some given)
+        → cond test (Some one.1) (lookup (bytes_eq path) (before ++ (path, given) ∷ more)) ≡ Some given
+    by true is rest = absurd cc
+    by false is rest = rest is
+
+told_is : (given : Answer) (told : Option Answer) → told ≡ Some given → IsTold (told_as told) given
+told_is (answer.There bytes) told is = ap told_as is
+told_is answer.Absent told is = ap told_as is
+told_is answer.Unread told is = ap told_as is
+told_is answer.Refused told is = tt
+
+gave_later : (before more : List Exchange) → AreNew (paths_in before) (paths_in more) → Gave (file_told (before ++ more)) more
+gave_later before [] new = tt
+gave_later before ((path, given) ∷ more) new = (
+  told_is given (lookup (bytes_eq path) (before ++ (path, given) ∷ more)) (told_here path given before more new.0),
+  subst (λ (told : List Exchange). Gave (file_told told) more) (append_assoc before ((path, given) ∷ []) more)
+      (gave_later (before ++ (path, given) ∷ []) more
+      (subst (λ (known : List (List ℕ)). AreNew known (paths_in more)) (sym (paths-append before ((path, given) ∷ []))) new.1)),
+)
+
+pub told_gave : (told : List Exchange) → AreNew [] (paths_in told) → Gave (file_told told) told
+told_gave told new = gave_later [] told new
+
+-- ---- want of memory at the end
+
+-- all that was tried was tried, where memory ran out after the end of a program
+pub short_run : {S A B E : Type 0} (fetches : S → List ℕ → Answer → S → Type 0) (real : E → Type 0) (program : Program A E) (other : Program B E) (x : A) (why : E) (old new : FilesSeen S)
+    → ((look : List ℕ → File) → (program look).end ≡ Ok x → (other look).tried ≡ (program look).tried) → ¬ real why
+    → Runs fetches real program (Ok x) old new → Runs fetches real other (Err why) old new
+short_run fetches real program other x why old new same short runs = record {
+  asked = runs.asked;
+  chain = runs.chain;
+  agree = runs.agree;
+  bytes = runs.bytes;
+  logged = runs.logged;
+  once = runs.once;
+  gives = λ look gave is. absurd (short is);
+  whole = λ is look gave. absurd (short is);
+  some = λ look gave. (
+    length (program look).tried,
+    runs.whole tt look gave
+        ∙ ap (fresh (paths_in old.kept)) (sym (take_all (length (program look).tried) (program look).tried (omega arith)))
+        ∙ ap (λ (tried : List (List ℕ)). fresh (paths_in old.kept) (take (length (program look).tried) tried)) (sym (same look (runs.gives look gave))),
+  );
+  kept = tt;
+  holds = runs.holds;
+  rises = runs.rises;
+  still = runs.still;
+  failed = runs.failed;
+}
+
+-- ---- the fault of a file that couldn't be read
+
+-- a fault that is handed on
+passed_run : {S E : Type 0} (fetches : S → List ℕ → Answer → S → Type 0) (real : E → Type 0) (why : E) (path : List ℕ)
+    (given : Result (Option (List ℕ)) AskFault) (passed : E) (old new : FilesSeen S) (runs : Runs fetches IsUnread (file_at unread path) given old new)
+    → (real passed → (look : List ℕ → File) → Gave look (old.kept ++ runs.asked) → read_as why (look path) ≡ Err passed)
+    → (real passed → (look : List ℕ → File) → Gave look (old.kept ++ runs.asked) → paths_in runs.asked ≡ fresh (paths_in old.kept) (path ∷ []))
+    → Runs fetches real (file_at why path) (Err passed) old new
+passed_run fetches real why path given passed old new runs ends tries = record {
+  asked = runs.asked;
+  chain = runs.chain;
+  agree = runs.agree;
+  bytes = runs.bytes;
+  logged = runs.logged;
+  once = runs.once;
+  gives = λ look gave is. ends is look gave;
+  whole = tries;
+  some = runs.some;
+  kept = tt;
+  holds = runs.holds;
+  rises = runs.rises;
+  still = runs.still;
+  failed = runs.failed;
+}
+
+pub told_run : {S E : Type 0} (fetches : S → List ℕ → Answer → S → Type 0) (real : E → Type 0) (why : E) (path : List ℕ)
+    (given : Result (Option (List ℕ)) AskFault) (result : Result (Option (List ℕ)) E) (old new : FilesSeen S)
+    → Passes real why given result → Runs fetches IsUnread (file_at unread path) given old new → Runs fetches real (file_at why path) result old new
+told_run {E = E} fetches real why path (Ok file) (Ok passed) old new same runs = record {
+  asked = runs.asked;
+  chain = runs.chain;
+  agree = runs.agree;
+  bytes = runs.bytes;
+  logged = runs.logged;
+  once = runs.once;
+  gives = λ look gave. read_ok why (look path) file (runs.gives look gave) ∙ ap Ok (sym same);
+  whole = λ is look gave. runs.whole tt look gave;
+  some = runs.some;
+  kept = runs.kept;
+  holds = runs.holds;
+  rises = runs.rises;
+  still = runs.still;
+  failed = runs.failed;
+}
+  where
+    read_ok : (why : E) (stands : File) (file : Option (List ℕ)) → read_as unread stands ≡ Ok file → read_as why stands ≡ Ok file
+    read_ok why (There bytes) file is = cc
+    read_ok why Absent file is = cc
+    read_ok why Unread file is = absurd cc
+told_run fetches real why path (Ok file) (Err passed) old new short runs = passed_run fetches real why path (Ok file) passed old new runs (λ is. absurd (short is)) (λ is. absurd (short is))
+told_run fetches real why path (Err fault.Unread) (Ok passed) old new none runs = absurd none
+told_run {E = E} fetches real why path (Err fault.Unread) (Err passed) old new same runs =
+    passed_run fetches real why path (Err fault.Unread) passed old new runs (λ is look gave. read_err why (look path) (runs.gives look gave tt) ∙ ap Err (sym (same is))) (λ is look gave. runs.whole tt look gave)
+  where
+    read_err : (why : E) (stands : File) → read_as unread stands ≡ Err fault.Unread → read_as why stands ≡ Err why
+    read_err why (There bytes) is = absurd cc
+    read_err why Absent is = absurd cc
+    read_err why Unread is = refl
+told_run fetches real why path (Err fault.OutOfMemory) (Ok passed) old new none runs = absurd none
+told_run fetches real why path (Err fault.OutOfMemory) (Err passed) old new short runs = passed_run fetches real why path (Err fault.OutOfMemory) passed old new runs (λ is. absurd (short is)) (λ is. absurd (short is))

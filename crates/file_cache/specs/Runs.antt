@@ -1,6 +1,7 @@
 -- Programs that are run over files.
 use Rattle.std.specs.Prelude.{ℕ, ◌≡◌, ◌≢◌, ◌≤◌, ◌<◌, ◌++◌, List, [], ◌∷◌, All, map, take, false, bytes_eq, Option, Some, None, Result, Ok, Err, OnOk, if◌then◌else◌}
 use Rattle.std.specs.List.{list_any}
+use Rattle.std.specs.Map.{lookup}
 use Rattle.mo_outside.specs.Answers.{Agrees, Answer, Chain, Exchange}
 use Rattle.mo_outside.specs.Answers as answer
 use Rattle.mo_outside.specs.Faults.{Rises}
@@ -62,9 +63,14 @@ abbrev pub IsReal : {A E : Type 0} → (E → Type 0) → Result A E → Type 0
 IsReal real (Ok x) = Unit {0}
 IsReal real (Err why) = real why
 
--- A program was run. The files were asked for paths and gave answers, one after the other, which are kept. By any look-up
--- that gives these and what was kept before, the result is the program's end, and the paths are those that it tries and that
--- weren't kept, each once; where memory ran out, they are those among the first that it tries.
+-- each of the paths comes for the first time, after those before
+abbrev pub AreNew : List (List ℕ) → List (List ℕ) → Type 0
+AreNew before [] = Unit {0}
+AreNew before (path ∷ paths) = (list_any (bytes_eq path) before ≡ false) × AreNew (before ++ path ∷ []) paths
+
+-- A program was run. The files were asked for paths that weren't kept, each once, and gave answers, one after the other, which
+-- are kept. By any look-up that gives these and what was kept before, the result is the program's end, and the paths are those
+-- that it tries and that weren't kept; where memory ran out, they are those among the first that it tries.
 pub record Runs {S A E : Type 0} (fetches : S → List ℕ → Answer → S → Type 0) (real : E → Type 0) (program : Program A E)
     (result : Result A E) (old new : FilesSeen S) : Type 0 where
   pub asked : List Exchange
@@ -72,6 +78,7 @@ pub record Runs {S A E : Type 0} (fetches : S → List ℕ → Answer → S → 
   pub agree : AllAgree old.holds asked
   pub bytes : AreOfBytes asked
   pub logged : Tells (Asks (paths_in asked)) old.told new.told
+  pub once : AreNew (paths_in old.kept) (paths_in asked)
   pub gives : (look : List ℕ → File) → Gave look (old.kept ++ asked) → Gives real result (program look).end
   pub whole : IsReal real result → (look : List ℕ → File) → Gave look (old.kept ++ asked) → paths_in asked ≡ fresh (paths_in old.kept) (program look).tried
   pub some : (look : List ℕ → File) → Gave look (old.kept ++ asked) → (count : ℕ) × (paths_in asked ≡ fresh (paths_in old.kept) (take count (program look).tried))
@@ -100,11 +107,6 @@ Says (Err fault.OutOfMemory) given = Unit {0}
 
 -- ---- what holds of these
 
--- each of the paths comes for the first time, after those before
-abbrev pub AreNew : List (List ℕ) → List (List ℕ) → Type 0
-AreNew before [] = Unit {0}
-AreNew before (path ∷ paths) = (list_any (bytes_eq path) before ≡ false) × AreNew (before ++ path ∷ []) paths
-
 -- what files that can be read have under a path
 abbrev pub standing : Option (List ℕ) → File
 standing (Some bytes) = There bytes
@@ -112,3 +114,24 @@ standing None = Absent
 
 abbrev pub file_in : FileMap → List ℕ → File
 file_in files path = standing (fetched files path)
+
+-- what is told of a path, if anything is: what was answered; nothing stands under any other path
+abbrev pub told_as : Option Answer → File
+told_as None = Absent
+told_as (Some (answer.There bytes)) = There bytes
+told_as (Some answer.Absent) = Absent
+told_as (Some answer.Unread) = Unread
+told_as (Some answer.Refused) = Absent
+
+-- what stands under each path where no more than this was told
+abbrev pub file_told : List Exchange → List ℕ → File
+file_told told path = told_as (lookup (bytes_eq path) told)
+
+-- What is made of an answer, where a file that couldn't be read has this fault: the file, the fault, or want of memory.
+abbrev pub Passes : {E : Type 0} → (E → Type 0) → E → Result (Option (List ℕ)) AskFault → Result (Option (List ℕ)) E → Type 0
+Passes real why (Ok file) (Ok passed) = passed ≡ file
+Passes real why (Ok file) (Err fault) = ¬ real fault
+Passes real why (Err fault.Unread) (Ok passed) = ⊥
+Passes real why (Err fault.Unread) (Err fault) = real fault → fault ≡ why
+Passes real why (Err fault.OutOfMemory) (Ok passed) = ⊥
+Passes real why (Err fault.OutOfMemory) (Err fault) = ¬ real fault

@@ -1,8 +1,8 @@
 //! What holds of programs that were run, each on a call that does nothing.
-ghost use Rattle.std.specs.Prelude.{ℕ, List, Some};
+ghost use Rattle.std.specs.Prelude.{ℕ, List, [], Some};
 ghost use Rattle.mo_outside.specs.Answers.{Exchange};
 ghost use Rattle.mo_outside.specs.Files.{FileMap};
-ghost use Rattle.file_cache.specs.Runs.{AllAgree, AllRead, AreNew, Gave, file_in, fresh};
+ghost use Rattle.file_cache.specs.Runs.{AllAgree, AllRead, AreNew, Gave, file_in, file_told, fresh, paths_in};
 
 /// The paths for which files are asked are asked for once, and none of them was kept.
 pub fn each_path_is_asked_once()
@@ -13,4 +13,9 @@ pub fn each_path_is_asked_once()
 /// over them.
 pub fn answers_are_those_of_the_files()
     ensures { (files : FileMap) (asked : List Exchange) → AllAgree (Some files) asked → AllRead asked → Gave (file_in files) asked }
+{}
+
+/// Where each path was asked for once, what was answered is what is told of it.
+pub fn answers_are_what_is_told()
+    ensures { (told : List Exchange) → AreNew [] (paths_in told) → Gave (file_told told) told }
 {}

@@ -12,7 +12,9 @@
 //! none that the program doesn't try. Its lemmas (`proofs/RunLemmas.antt`) put calls together as `>>=` does programs.
 //!
 //! Laws: a program that was run to its end is one over the files themselves where they tell what they hold and none
-//! failed (`answers_are_those_of_the_files`), and no path is asked for twice (`each_path_is_asked_once`).
+//! failed (`answers_are_those_of_the_files`), no path is asked for twice (`each_path_is_asked_once`), and so what was
+//! answered is a finite map from paths to files (`file_told`), over which a program can be run
+//! (`answers_are_what_is_told`).
 //!
 //! A body that asks for a kept path again, that keeps what it wasn't answered, or that answers for another path is
 //! refused.
@@ -24,4 +26,6 @@ mod laws;
 
 pub use crate::asking::{AskFault, ask};
 pub use crate::cache::FileCache;
-pub use crate::laws::{answers_are_those_of_the_files, each_path_is_asked_once};
+pub use crate::laws::{
+    answers_are_those_of_the_files, answers_are_what_is_told, each_path_is_asked_once,
+};

@@ -1,4 +1,4 @@
+pub mod AskLemmas
 pub mod PlaceLemmas
-pub mod StepLemmas
 pub mod ThereLemmas
 pub mod ToldLemmas

@@ -1,4 +1,2 @@
 pub mod Contents
-pub mod Fetching
-pub mod Steps
 pub mod There

@@ -1,52 +1,44 @@
 //! The files of inputs are asked for.
-ghost use Rattle.std.specs.Prelude.{◌≡◌, ◌≢◌, ◌≤◌, ◌<◌, ◌^◌, ℕ, List, [], Err, IfOk, IsOk, get_or, length};
-ghost use Rattle.mo_outside.specs.Answers.{answer_of};
-ghost use Rattle.mo_outside.specs.Faults.{Rises};
-ghost use Rattle.mo_outside.specs.declared.traits.FetchFault.TheVariants.{Failed};
-ghost use Rattle.lib_bind.specs.Asking.{seen};
-ghost use Rattle.input_fetch.specs.Contents.{asked_of, content_of, first_of, places_of};
-ghost use Rattle.input_fetch.specs.Fetching.{Fetching, IsReadWell};
-ghost use Rattle.input_fetch.specs.Steps.{OneStep, Says, StepsTo, all_of, with_rest};
+ghost use Rattle.std.specs.Prelude.{◌≡◌, ◌<◌, ◌≤◌, ◌^◌, [], IfOk, get_or, length};
+ghost use Rattle.file_cache.specs.Kept.{seen};
+ghost use Rattle.file_cache.specs.Program as program;
+ghost use Rattle.file_cache.specs.Runs.{Passes, Runs};
+ghost use Rattle.input_fetch.specs.Contents.{IsFetchStop, content_of, contents_of, first_of, places_of};
 ghost use Rattle.input_fetch.specs.declared.stop.FetchStop.TheVariants.{ReadFault};
 
 use crate::content::{Content, ContentList};
 use crate::stop::FetchStop;
 use command_line::{Command, paths_for};
-use mo_outside::{FetchFault, Files};
+use file_cache::{AskFault, FileCache, ask};
+use mo_outside::Files;
 use mo_types::{Bytes, Items};
 use std::alloc::{AllocError, Global};
 
-// The bytes that a fetch gave, where a file has the path.
-fn said(
-    path: &Bytes,
-    fetched: Result<bool, FetchFault>,
-    bytes: Vec<u8>,
-) -> Result<Option<Bytes>, FetchStop>
-    ensures says { Says path.now result (answer_of fetched bytes.items) }
-    ensures well { IsReadWell result → IsOk fetched }
-    ensures failed { (at : List ℕ) → result ≡ Err (ReadFault at) → fetched ≡ Err Failed }
+// What was answered for a path, where it could be read.
+fn passed(path: &Bytes, asked: Result<Option<Bytes>, AskFault>) -> Result<Option<Bytes>, FetchStop>
+    ensures { Passes IsFetchStop (ReadFault path.now) asked result }
 {
-    match fetched {
-        Ok(true) => Ok(Some(Bytes::from_vec(bytes)?)),
-        Ok(false) => Ok(None),
-        Err(FetchFault::Failed) => Err(FetchStop::ReadFault {
+    match asked {
+        Ok(file) => Ok(file),
+        Err(AskFault::Unread) => Err(FetchStop::ReadFault {
             path: path.clone()?,
         }),
-        Err(FetchFault::Memory) => Err(FetchStop::OutOfMemory),
+        Err(AskFault::OutOfMemory) => Err(FetchStop::OutOfMemory),
     }
 }
 
 // The bytes of a file, or the first 2^30 of them, where one has the path.
-fn fetch<F: Files>(alloc: Global, files: &mut F, path: &Bytes) -> Result<Option<Bytes>, FetchStop>
-    ensures holds { F.holds files.new ≡ F.holds files.old }
-    ensures faults { F.faults files.old ≤ F.faults files.new }
-    ensures still { IsReadWell result → F.faults files.new ≡ F.faults files.old }
-    ensures failed { (at : List ℕ) → result ≡ Err (ReadFault at) → Rises (F.faults files.old) (F.faults files.new) }
-    ensures step { OneStep F.answers path.now result (seen F.holds F.asked F.faults files.old) (seen F.holds F.asked F.faults files.new) }
+fn file_at<F: Files>(
+    alloc: Global,
+    files: &mut F,
+    cache: &mut FileCache,
+    path: &Bytes,
+) -> Result<Option<Bytes>, FetchStop>
+    ensures { Runs F.answers IsFetchStop (program.file_at (ReadFault path.now) path.now) result
+        (seen F.holds F.asked F.faults files.old cache.old) (seen F.holds F.asked F.faults files.new cache.new) }
 {
-    let mut bytes = Vec::new(alloc);
-    let fetched = files.fetch(alloc, path.as_slice(), &mut bytes);
-    said(path, fetched, bytes)
+    let asked = ask(alloc, files, cache, path);
+    passed(path, asked)
 }
 
 // A copy of the first of an input's paths.
@@ -62,18 +54,15 @@ fn first_path(paths: &[Bytes]) -> Result<Bytes, AllocError>
 fn first_there<F: Files>(
     alloc: Global,
     files: &mut F,
+    cache: &mut FileCache,
     paths: &[Bytes],
 ) -> Result<Content, FetchStop>
     requires { 0 < length paths.now }
-    ensures holds { F.holds files.new ≡ F.holds files.old }
-    ensures faults { F.faults files.old ≤ F.faults files.new }
-    ensures still { IsReadWell result → F.faults files.new ≡ F.faults files.old }
-    ensures failed { (at : List ℕ) → result ≡ Err (ReadFault at) → Rises (F.faults files.old) (F.faults files.new) }
-    ensures steps { StepsTo F.answers with_rest result (content_of (first_of paths.now) paths.now) (asked_of paths.now)
-        (seen F.holds F.asked F.faults files.old) (seen F.holds F.asked F.faults files.new) }
+    ensures { Runs F.answers IsFetchStop (content_of (first_of paths.now) paths.now) result
+        (seen F.holds F.asked F.faults files.old cache.old) (seen F.holds F.asked F.faults files.new cache.new) }
 {
     for path in paths {
-        if let Some(bytes) = fetch(alloc, files, path)? {
+        if let Some(bytes) = file_at(alloc, files, cache, path)? {
             return Ok(Content {
                 label: path.clone()?,
                 bytes,
@@ -89,41 +78,36 @@ fn first_there<F: Files>(
 fn content_at<F: Files>(
     alloc: Global,
     files: &mut F,
+    cache: &mut FileCache,
     command: &Command,
     at: u32,
 ) -> Result<Content, FetchStop>
     requires { at < length command.now.inputs }
-    ensures holds { F.holds files.new ≡ F.holds files.old }
-    ensures faults { F.faults files.old ≤ F.faults files.new }
-    ensures still { IsReadWell result → F.faults files.new ≡ F.faults files.old }
-    ensures failed { (at : List ℕ) → result ≡ Err (ReadFault at) → Rises (F.faults files.old) (F.faults files.new) }
-    ensures steps { let paths = get_or (places_of command.now) at [] in
-        StepsTo F.answers with_rest result (content_of (first_of paths) paths) (asked_of paths)
-        (seen F.holds F.asked F.faults files.old) (seen F.holds F.asked F.faults files.new) }
+    ensures { let paths = get_or (places_of command.now) at [] in
+        Runs F.answers IsFetchStop (content_of (first_of paths) paths) result
+        (seen F.holds F.asked F.faults files.old cache.old) (seen F.holds F.asked F.faults files.new cache.new) }
 {
     let paths = paths_for(alloc, command, at)?;
-    first_there(alloc, files, paths.as_slice())
+    first_there(alloc, files, cache, paths.as_slice())
 }
 
 /// Fetches the files of a command's inputs, in their order: of each the file under the first of its paths that is there.
-/// The first input that has no file, or of which a path couldn't be read, ends it.
+/// The first input that has no file, or of which a path couldn't be read, ends it. No path is asked for that was before.
 pub fn fetch_inputs<F: Files>(
     alloc: Global,
     files: &mut F,
+    cache: &mut FileCache,
     command: &Command,
 ) -> Result<ContentList, FetchStop>
     // Inputs are numbered in 32 bits.
     requires { length command.now.inputs ≤ 2 ^ 32 }
-    ensures fetching { Fetching F.answers (places_of command.now) result (seen F.holds F.asked F.faults files.old) (seen F.holds F.asked F.faults files.new) }
+    ensures runs { Runs F.answers IsFetchStop (contents_of (places_of command.now)) result
+        (seen F.holds F.asked F.faults files.old cache.old) (seen F.holds F.asked F.faults files.new cache.new) }
     ensures size { IfOk result (λ contents. length contents ≡ length command.now.inputs) }
-    ensures holds { F.holds files.new ≡ F.holds files.old }
-    ensures faults { F.faults files.old ≤ F.faults files.new }
-    ensures still { IsReadWell result → F.faults files.new ≡ F.faults files.old }
-    ensures failed { (path : List ℕ) → result ≡ Err (ReadFault path) → Rises (F.faults files.old) (F.faults files.new) }
 {
     let mut contents = Items::new(alloc);
     for at in 0..command.inputs.len() {
-        contents.push(content_at(alloc, files, command, at as u32)?)?;
+        contents.push(content_at(alloc, files, cache, command, at as u32)?)?;
     }
     Ok(contents)
 }

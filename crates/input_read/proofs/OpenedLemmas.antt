@@ -1,5 +1,5 @@
 -- What inputs in order are, sorted.
-use Rattle.std.proofs.Common.{◌≡◌, ℕ, ◌+◌, ◌<◌, ◌≤◌, true, List, [], ◌∷◌, All, Result, Ok, Err, length, map, inl, inr, refl, sym, ap, subst, ◌∙◌, arith, tests}
+use Rattle.std.proofs.Common.{◌≡◌, ℕ, ◌+◌, ◌^◌, ◌<◌, ◌≤◌, true, List, [], ◌∷◌, All, Result, Ok, Err, length, map, inl, inr, refl, sym, ap, subst, ◌∙◌, arith, tests}
 use Rattle.std.specs.List.{AllByRecursion, filter_map}
 use Rattle.std.specs.List.Sorted.{IsStrictlySortedBy}
 use Rattle.std.specs.Ordering.{nat_cmp}
@@ -17,7 +17,7 @@ use Rattle.input_files.specs.declared.input.Input.{Input}
 use Rattle.input_files.proofs.EachLemmas.{all_from, all_has}
 use Rattle.input_read.specs.Opened.{Contents, contents_as, contents_in, contents_of, input_in, object_in, openings_of, stubs_in}
 use Rattle.input_read.specs.Opening.{opening_of}
-use Rattle.input_read.specs.Sound.{IsSound}
+use Rattle.input_read.specs.Sound.{AreDocuments, IsSound}
 use Rattle.input_read.specs.declared.opened.Opened.{Opened}
 use Rattle.input_read.specs.declared.opening.Opening.{Opening}
 use Rattle.input_read.specs.declared.opening.Opening.TheVariants as opening
@@ -140,8 +140,11 @@ files_whole (one ∷ openings) sound = by one (sound one (inl refl)) (files_whol
 below : (p q : ℕ) → nat_cmp p q ≡ Less → p + 1 ≤ q
 below p q less = let low : p < q = ranked p q Less (sym less) in omega (arith, low)
 
-named_here : (count least : ℕ) (named : NamedStub) → least ≤ named.position → named.position < count → 0 < length named.file.docs → is_next count least named ≡ true
-named_here count least named low high some = grind (arith, tests)
+named_by : (count least : ℕ) (named : NamedStub) → least ≤ named.position → named.position < count → 0 < length named.file.docs → length named.file.docs < 2 ^ 32 → is_next count least named ≡ true
+named_by count least named low high some few = grind (arith, tests)
+
+named_here : (count least : ℕ) (named : NamedStub) → least ≤ named.position → named.position < count → AreDocuments named.file.docs → is_next count least named ≡ true
+named_here count least named low high are = named_by count least named low high are.some are.few
 
 named_from : (count least : ℕ) (inputs : List Input) (openings : List Opening) → openings_of inputs ≡ Ok openings → IsStrictlySortedBy nat_cmp (places inputs) → AllByRecursion (λ p. least ≤ p) (places inputs) → ((input : Input) → In input inputs → input.position < count)
     → ((one : Opening) → In one openings → IsSound one) → are_named count least (filter_map stubs_in openings) ≡ true

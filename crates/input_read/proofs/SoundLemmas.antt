@@ -9,10 +9,11 @@ use Rattle.mo_ar.specs.Archive.{archive_of}
 use Rattle.mo_ar.specs.declared.archive.Archive.{Archive}
 use Rattle.tbd_doc.specs.declared.stub.StubFile.{StubFile}
 use Rattle.lib_bind.specs.Reexported.{reexported, stub_text}
+use Rattle.lib_bind.proofs.FewLemmas.{few_stubs}
 use Rattle.lib_bind.proofs.TextLemmas.{HasDocument, reexported_has}
 use Rattle.input_files.specs.Files.{archive_in, id_at, read_as}
 use Rattle.input_files.specs.declared.input.Input.{Input}
-use Rattle.input_read.specs.Sound.{IsObjectOf}
+use Rattle.input_read.specs.Sound.{AreDocuments, IsObjectOf}
 
 pub no_archive : (input : Input) → kind_of input.bytes ≡ kind.MachO → archive_in input ≡ None
 unfolding archive_in
@@ -36,9 +37,9 @@ text_is : (bytes : List ℕ) → length bytes < 2 ^ 30 → kind_of bytes ≡ kin
 unfolding reexported
 text_is bytes few is = rw (few_bytes bytes few, is) refl
 
-pub stub_sound : (bytes : List ℕ) (file : StubFile) → length bytes < 2 ^ 30 → kind_of bytes ≡ kind.Stub → stub_text bytes ≡ Ok file → 0 < length file.docs
+pub stub_sound : (bytes : List ℕ) (file : StubFile) → length bytes < 2 ^ 30 → kind_of bytes ≡ kind.Stub → stub_text bytes ≡ Ok file → AreDocuments file.docs
 stub_sound bytes file few is read =
     let has : IfOk (stub_text bytes) HasDocument = subst (λ (r : Result StubFile ObjFault). IfOk r HasDocument) (text_is bytes few is) (reexported_has bytes) in
-    subst (λ (r : Result StubFile ObjFault). IfOk r HasDocument) read has
+    record { some = subst (λ (r : Result StubFile ObjFault). IfOk r HasDocument) read has; few = few_stubs bytes file read few }
 
 pub ruleset stubs = (stub_sound)

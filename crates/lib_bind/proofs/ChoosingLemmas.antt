@@ -1,5 +1,5 @@
 -- Libraries that are chosen, and files that are read, one after the other.
-use Rattle.std.proofs.Common.{◌≡◌, ℕ, suc, ◌+◌, ◌++◌, ◌∷◌, [], List, All, length, Result, Ok, Err, IsErrAnd, refl, sym, ap, ◌∙◌, subst, arith}
+use Rattle.std.proofs.Common.{◌≡◌, ℕ, suc, ◌+◌, ◌*◌, ◌^◌, ◌<◌, ◌≤◌, ◌++◌, ◌∷◌, [], List, All, length, length-append, Result, Ok, Err, IsErrAnd, refl, sym, ap, ◌∙◌, subst, arith}
 use Rattle.std.proofs.lemmas.Result.{err_from_is_err_and}
 use Rattle.command_line.specs.declared.command.Command.{Command}
 use Rattle.command_line.specs.declared.command.CommandInput.{CommandInput}
@@ -43,3 +43,9 @@ library_more input named chosen libraries heads files documents ordinal install 
   files = (sym three) i;
   documents = (sym sum) i;
 }
+
+-- how many documents there are then
+pub sum_more : (before after : List Library) (library : Library) (documents more size : ℕ) → after ≡ before ++ library ∷ [] → more ≡ size → size < 2 ^ 32 → documents ≤ length before * 2 ^ 32 → documents + more ≤ length after * 2 ^ 32
+sum_more before after library documents more size is same few most =
+    let count : length after ≡ length before + 1 = ap length is ∙ length-append before (library ∷ []) in
+    omega (arith, count, same, few, most)

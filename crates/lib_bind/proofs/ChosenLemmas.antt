@@ -1,6 +1,6 @@
 -- The libraries that are chosen are whole, and their documents are among those of their files.
 use Rattle.std.proofs.Common.{◌≡◌, ℕ, zero, suc, ◌+◌, ◌<◌, ◌≤◌, ◌⊎◌, ◌++◌, ◌∷◌, [], List, length, get_or, slice_get, All, Bool, true, false, Option, Some, None, Result, Ok, Err, IfOk, refl, sym, ap, ◌∙◌, subst, inl, inr, arith, tests, length-append}
-use Rattle.std.specs.Prelude.{if◌then◌else◌, ◌&&◌, nat_le, nat_lt}
+use Rattle.std.specs.Prelude.{if◌then◌else◌, ◌&&◌, ◌^◌, nat_le, nat_lt}
 use Rattle.std.proofs.lemmas.Bool.{and_parts}
 use Rattle.std.proofs.lemmas.List.Elements.{All-nil, All-push, All-weaker}
 use Rattle.std.proofs.lemmas.Option.{slice_get-get_or, slice_get_within}
@@ -12,7 +12,7 @@ use Rattle.tbd_doc.specs.declared.stub.StubFile.{StubFile}
 use Rattle.lib_bind.specs.Closing.{choose, choose_all, choose_as, chosen_of, install_of, library_of, no_input, with_library}
 use Rattle.lib_bind.specs.Found.{found}
 use Rattle.lib_bind.specs.Graph.{AreLibraries}
-use Rattle.lib_bind.specs.Named.{are_named, is_next}
+use Rattle.lib_bind.specs.Named.{are_named, has_documents, is_next}
 use Rattle.lib_bind.specs.declared.bind_fault.BindFault.{BindFault}
 use Rattle.lib_bind.specs.declared.bind_fault.BindFault.TheVariants as fault
 use Rattle.lib_bind.specs.declared.choosing.Chosen.{Chosen}
@@ -143,10 +143,11 @@ all_chosen : (inputs least : ℕ) (command : Command) (named : List NamedStub) (
 all_chosen inputs least command [] chosen are is = whole_of least chosen is
 all_chosen inputs least command (one ∷ rest) chosen are is =
     let parts = and_parts (is_next inputs least one) (are_named inputs (one.position + 1) rest) are in
-    let first = and_parts (nat_le least one.position && nat_lt one.position inputs) (nat_lt 0 (length one.file.docs)) parts.0 in
+    let first = and_parts (nat_le least one.position && nat_lt one.position inputs) (has_documents one) parts.0 in
+    let some = and_parts (nat_lt 0 (length one.file.docs)) (nat_lt (length one.file.docs) (2 ^ 32)) first.1 in
     let second = and_parts (nat_le least one.position) (nat_lt one.position inputs) first.0 in
     then_holds (IsChosen (one.position + 1)) AreWhole (choose command one chosen) (choose_all command rest)
-    (next_chosen least command one chosen (le_true least one.position second.0) (lt_true 0 (length one.file.docs) first.1) is)
+    (next_chosen least command one chosen (le_true least one.position second.0) (lt_true 0 (length one.file.docs) some.0) is)
     (λ next held. all_chosen inputs (one.position + 1) command rest next parts.1 held)
 
 nothing_at : (at : ℕ) (library : Library) → slice_get [] at ≡ Some library → ⊥

@@ -1,12 +1,12 @@
 -- Loops over libraries and their files.
 use Rattle.std.proofs.Common.{◌≡◌, ℕ, ◌<◌, ◌≤◌, ◌+◌, ◌∷◌, [], List, length, drop, get_or, Bool, true, false, sym, ap, ◌∙◌}
-use Rattle.std.specs.Prelude.{◌&&◌, nat_le, nat_lt}
+use Rattle.std.specs.Prelude.{◌&&◌, ◌^◌, nat_le, nat_lt}
 use Rattle.std.proofs.lemmas.Bool.{and_parts}
 use Rattle.std.proofs.lemmas.List.{drop_all, drop_more}
 use Rattle.list_lemmas.proofs.Places.{from_here}
 use Rattle.tbd_doc.specs.declared.stub.StubFile.{StubFile}
 use Rattle.lib_bind.specs.Closing.{reach, reach_all, with_file, with_files}
-use Rattle.lib_bind.specs.Named.{are_named, is_next}
+use Rattle.lib_bind.specs.Named.{are_named, has_documents, is_next}
 use Rattle.lib_bind.specs.declared.closing.Closing.{Closing}
 use Rattle.lib_bind.specs.declared.growing.Growing.{Growing}
 use Rattle.lib_bind.specs.declared.library.Library.{Library}
@@ -48,9 +48,10 @@ named_end inputs named at least whole past before = sym (ap (are_named inputs le
 pub ruleset naming = (named_next, named_fails, named_end)
 
 pub named_first : (inputs least : ℕ) (named rest : List NamedStub) (stub : NamedStub) → named ≡ stub ∷ rest → are_named inputs least named ≡ true
-    → (nat_lt stub.position inputs ≡ true) × (nat_lt 0 (length stub.file.docs) ≡ true) × (are_named inputs (stub.position + 1) rest ≡ true)
+    → (nat_lt stub.position inputs ≡ true) × (nat_lt 0 (length stub.file.docs) ≡ true) × (nat_lt (length stub.file.docs) (2 ^ 32) ≡ true) × (are_named inputs (stub.position + 1) rest ≡ true)
 named_first inputs least named rest stub is all =
     let parts = and_parts (is_next inputs least stub) (are_named inputs (stub.position + 1) rest) (sym (ap (are_named inputs least) is) ∙ all) in
-    let first = and_parts (nat_le least stub.position && nat_lt stub.position inputs) (nat_lt 0 (length stub.file.docs)) parts.0 in
+    let first = and_parts (nat_le least stub.position && nat_lt stub.position inputs) (has_documents stub) parts.0 in
     let second = and_parts (nat_le least stub.position) (nat_lt stub.position inputs) first.0 in
-    (second.1, first.1, parts.1)
+    let third = and_parts (nat_lt 0 (length stub.file.docs)) (nat_lt (length stub.file.docs) (2 ^ 32)) first.1 in
+    (second.1, third.0, third.1, parts.1)

@@ -6,7 +6,7 @@ use Rattle.std.proofs.lemmas.Slice.Eq.{bytes_eq-Decides}
 use Rattle.mo_types.specs.Scan.{option_or_else}
 use Rattle.tbd_doc.specs.declared.stub.Stub.{Stub}
 use Rattle.indexmap.specs.IndexMap.{insert_entry}
-use Rattle.lib_bind.specs.Closing.{asked_in, place_in, with_file, with_known}
+use Rattle.lib_bind.specs.Closing.{place_in, with_file}
 use Rattle.lib_bind.specs.Found.{found}
 use Rattle.lib_bind.specs.declared.growing.Growing.{Growing}
 use Rattle.lib_bind.proofs.ReachedLemmas.{front_more}
@@ -116,7 +116,7 @@ insert_new {V = V} name value (pair ∷ pairs) is = by (bytes_eq name pair.0) is
     by true none rest = absurd (cc)
     by false none rest = ap (λ more. pair ∷ more) (rest none)
 
--- The paths that were asked for, after a file.
+-- What is known of paths, after a file.
 
 pub file_known : (heads : List (List ℕ × ℕ)) (stubs : List Stub) (growing : Growing) → (with_file heads stubs growing).known ≡ growing.known
 unfolding with_file
@@ -125,10 +125,4 @@ file_known heads stubs growing = refl
 pub still_new : (heads : List (List ℕ × ℕ)) (stubs : List Stub) (growing next : Growing) (path : List ℕ) → next ≡ with_file heads stubs growing → found path growing.known ≡ None → found path next.known ≡ None
 still_new heads stubs growing next path is new = ap (λ (g : Growing). found path g.known) is ∙ ap (found path) (file_known heads stubs growing) ∙ new
 
-pub asked_more : (heads : List (List ℕ × ℕ)) (stubs : List Stub) (growing next last : Growing) (path : List ℕ) (document : Option ℕ) → next ≡ with_file heads stubs growing → last ≡ with_known path document next
-    → asked_in last ≡ asked_in growing ++ path ∷ []
-asked_more heads stubs growing next last path document is known =
-    ap asked_in known ∙ map-append (λ (pair : List ℕ × Option ℕ). pair.0) next.known ((path, document) ∷ [])
-    ∙ ap (λ (pairs : List (List ℕ × Option ℕ)). map (λ pair. pair.0) pairs ++ path ∷ []) (ap (λ (g : Growing). g.known) is ∙ file_known heads stubs growing)
-
-pub ruleset files = (still_new, asked_more)
+pub ruleset files = (still_new)

@@ -7,18 +7,19 @@ use Rattle.std.proofs.lemmas.Bool.{cases_eq}
 use Rattle.std.proofs.lemmas.List.{get_or-set_same, get_or-set_other, length-map}
 use Rattle.std.proofs.lemmas.List.Elements.{All-append, All-get_or, All-head, All-map, All-push, All-tail, All-weaker, Contains-append_cases}
 use Rattle.list_lemmas.proofs.Members.{in_from_Contains}
-use Rattle.mo_outside.specs.Answers.{Answer, There, Absent, Unread}
-use Rattle.mo_outside.specs.Answers as answer
+use Rattle.file_cache.specs.Program.{File, file_at, ends}
 use Rattle.mo_types.specs.Scan.{option_or_else}
 use Rattle.mo_types.specs.declared.object_fault.ObjFault.{ObjFault}
 use Rattle.tbd_doc.specs.declared.stub.Stub.{Stub}
 use Rattle.tbd_doc.specs.declared.stub.StubFile.{StubFile}
-use Rattle.lib_bind.specs.Closing.{Ended, added, begun, fetched, last_of, nothing, place_in, reach, reach_all, reexport_by, reexports_of, requests_of, second_of, sought, sought_as, sought_new, target, target_of, with_file, with_files, with_known, with_link}
+use Rattle.lib_bind.specs.Closing.{added, begun, last_of, nothing, place_in, reach, reach_all, read_at, reexport_by, reexports_of, requests_of, with_file, with_files, with_known, with_link}
 use Rattle.lib_bind.specs.Closing as spec
+use Rattle.lib_bind.specs.Closure.{fetched, second_of, sought, sought_as, target, target_of}
 use Rattle.lib_bind.specs.Found.{found}
 use Rattle.lib_bind.specs.Graph.{linked}
 use Rattle.lib_bind.specs.Paths.{plain_path, stub_path}
 use Rattle.lib_bind.specs.Reexported.{reexported}
+use Rattle.lib_bind.specs.declared.bind_fault.BindFault.TheVariants.{ReadFault}
 use Rattle.lib_bind.specs.declared.closing.Closing.{Closing}
 use Rattle.lib_bind.specs.declared.closing.Request.{Request}
 use Rattle.lib_bind.specs.declared.growing.Growing.{Growing}
@@ -26,9 +27,10 @@ use Rattle.lib_bind.specs.declared.growing.Reexport.{Reexport}
 use Rattle.lib_bind.specs.declared.library.Library.{Library}
 use Rattle.lib_bind.specs.declared.sought.Sought.{Sought}
 use Rattle.lib_bind.specs.declared.sought.Target.{Target}
-use Rattle.lib_bind.specs.inner.Held.{AreHeads, IsFound, IsGrown, IsHeld, IsOf, IsRequestOf, total}
+use Rattle.lib_bind.specs.inner.Held.{AreHeads, AreThere, Finds, IsFound, IsGrown, IsHeld, IsOf, IsRequestOf, Meets, total}
 use Rattle.lib_bind.proofs.StepLemmas.{reach_growing}
-use Rattle.lib_bind.proofs.TextLemmas.{HasDocument, reexported_has, then_holds}
+use Rattle.lib_bind.proofs.ProgramLemmas.{end_holds, end_made}
+use Rattle.lib_bind.proofs.TextLemmas.{HasDocument, reexported_has}
 
 -- ---- more documents
 
@@ -120,13 +122,7 @@ known_grown n path document growing grown is = record {
 
 -- ---- where a re-exported library is
 
-abbrev Finds : Growing → Sought → Type 0
-Finds growing there = IsFound growing there.document there.growing
-
-abbrev Leads : Growing → Target → Type 0
-Leads growing target = IsFound growing (Some target.document) target.growing
-
-there_found : (growing : Growing) (document : Option ℕ) → IsGrown (length growing.documents) growing → IsOf (length growing.documents) document → IsFound growing document growing
+pub there_found : (growing : Growing) (document : Option ℕ) → IsGrown (length growing.documents) growing → IsOf (length growing.documents) document → IsFound growing document growing
 there_found growing document grown is = record { grown = grown; more = omega arith; there = is }
 
 read_found : (heads : List (List ℕ × ℕ)) (path : List ℕ) (read : Result StubFile ObjFault) (growing : Growing) → AreHeads (length growing.documents) heads → IsGrown (length growing.documents) growing
@@ -152,54 +148,60 @@ read_found heads path (Ok stubs) growing are grown some = record {
     less : length growing.documents < length (with_file heads stubs.docs growing).documents
     less = omega (arith, count, some)
 
-new_found : (heads : List (List ℕ × ℕ)) (path : List ℕ) (said : Answer) (growing : Growing) → AreHeads (length growing.documents) heads → IsGrown (length growing.documents) growing
-    → IfOk (sought_new heads path said growing) (Finds growing)
-new_found heads path (There bytes) growing are grown = read_found heads path (reexported bytes) growing are grown (reexported_has bytes)
-new_found heads path Absent growing are grown = record { grown = known_grown (length growing.documents) path None growing grown tt; more = omega arith; there = tt }
-new_found heads path Unread growing are grown = tt
-new_found heads path answer.Refused growing are grown = tt
+pub at_found : (heads : List (List ℕ × ℕ)) (path : List ℕ) (file : Option (List ℕ)) (growing : Growing) → AreThere heads growing → IfOk (read_at heads path file growing) (Finds growing)
+at_found heads path (Some bytes) growing are = read_found heads path (reexported bytes) growing are.heads_are are.grown (reexported_has bytes)
+at_found heads path None growing are = record { grown = known_grown (length growing.documents) path None growing are.grown tt; more = omega arith; there = tt }
 
-known_found : (look : List ℕ → Answer) (heads : List (List ℕ × ℕ)) (path : List ℕ) (there : Option (Option ℕ)) (growing : Growing) → AreHeads (length growing.documents) heads → IsGrown (length growing.documents) growing
-    → IfSome there (IsOf (length growing.documents)) → IfOk (sought_as look heads path there growing) (Finds growing)
-known_found look heads path (Some document) growing are grown is = there_found growing document grown is
-known_found look heads path None growing are grown is = new_found heads path (look path) growing are grown
+pub known_there : (path : List ℕ) (heads : List (List ℕ × ℕ)) (growing : Growing) → AreThere heads growing → IfSome (found path growing.known) (IsOf (length growing.documents))
+known_there path heads growing there = found_within (IsOf (length growing.documents)) path growing.known there.grown.known
 
-sought_found : (look : List ℕ → Answer) (heads : List (List ℕ × ℕ)) (path : List ℕ) (growing : Growing) → AreHeads (length growing.documents) heads → IsGrown (length growing.documents) growing
-    → IfOk (sought look heads path growing) (Finds growing)
+sought_by : (look : List ℕ → File) (heads : List (List ℕ × ℕ)) (path : List ℕ) (known : Option (Option ℕ)) (growing : Growing) → AreThere heads growing → IfSome known (IsOf (length growing.documents))
+    → IfOk (sought_as heads path known growing look).end (Finds growing)
+sought_by look heads path (Some document) growing there is = there_found growing document there.grown is
+sought_by look heads path None growing there is =
+    end_made (file_at (ReadFault path) path) (λ file. ends (read_at heads path file growing)) look (Finds growing) (λ file _. at_found heads path file growing there)
+
+sought_found : (look : List ℕ → File) (heads : List (List ℕ × ℕ)) (path : List ℕ) (growing : Growing) → AreThere heads growing → IfOk (sought heads path growing look).end (Finds growing)
 unfolding sought
-sought_found look heads path growing are grown =
-    known_found look heads path (found path growing.known) growing are grown (found_within (IsOf (length growing.documents)) path growing.known grown.known)
+sought_found look heads path growing there = sought_by look heads path (found path growing.known) growing there (known_there path heads growing there)
 
-last_found : (first : List ℕ) (growing : Growing) (document : Option ℕ) (new : Growing) → IsFound growing document new → IfOk (last_of first document new) (Leads growing)
+pub last_found : (first : List ℕ) (growing : Growing) (document : Option ℕ) (new : Growing) → IsFound growing document new → IfOk (last_of first document new) (Meets growing)
 last_found first growing (Some document) new is = is
 last_found first growing None new is = tt
 
-found_then : (growing middle : Growing) (document : Option ℕ) (target : Target) → length growing.documents ≤ length middle.documents → Leads middle target → Leads growing target
-found_then growing middle document target more leads = record { grown = leads.grown; more = omega (arith, more, leads.more); there = leads.there }
+-- what is found after something was found
+pub found_then : (growing middle : Growing) (document other : Option ℕ) (new : Growing) → IsFound growing document middle → IsFound middle other new → IsFound growing other new
+found_then growing middle document other new first second = record { grown = second.grown; more = omega (arith, first.more, second.more); there = second.there }
 
-second_found : (look : List ℕ → Answer) (heads : List (List ℕ × ℕ)) (first second : List ℕ) (growing : Growing) (document : Option ℕ) (new : Growing) → AreHeads (length growing.documents) heads
-    → IsFound growing document new → IfOk (second_of look heads first second document new) (Leads growing)
-second_found look heads first second growing (Some document) new are is = is
-second_found look heads first second growing None new are is =
-    then_holds (Finds new) (Leads growing) (sought look heads second new) (λ there. last_of first there.document there.growing)
-    (sought_found look heads second new (heads_more (length growing.documents) (length new.documents) heads is.more are) is.grown)
-    (λ there finds. last_found first growing there.document there.growing (record { grown = finds.grown; more = omega (arith, is.more, finds.more); there = finds.there }))
+pub met_then : {E : Type 0} (growing : Growing) (at : Sought) (result : Result Target E) → Finds growing at → IfOk result (Meets at.growing) → IfOk result (Meets growing)
+met_then growing at (Ok there) first second = found_then growing at.growing at.document (Some there.document) there.growing first second
+met_then growing at (Err why) first second = tt
 
-fetched_found : (look : List ℕ → Answer) (heads : List (List ℕ × ℕ)) (first second : List ℕ) (growing : Growing) → AreHeads (length growing.documents) heads → IsGrown (length growing.documents) growing
-    → IfOk (fetched look heads first second growing) (Leads growing)
-fetched_found look heads first second growing are grown =
-    then_holds (Finds growing) (Leads growing) (sought look heads first growing) (λ there. second_of look heads first second there.document there.growing)
-    (sought_found look heads first growing are grown) (λ there finds. second_found look heads first second growing there.document there.growing are finds)
+pub still_there : (heads : List (List ℕ × ℕ)) (growing : Growing) (document : Option ℕ) (new : Growing) → AreThere heads growing → IsFound growing document new → AreThere heads new
+still_there heads growing document new there is = record { heads_are = heads_more (length growing.documents) (length new.documents) heads is.more there.heads_are; grown = is.grown }
 
-target_by : (look : List ℕ → Answer) (root : Option (List ℕ)) (heads : List (List ℕ × ℕ)) (install : List ℕ) (here : Option ℕ) (growing : Growing) → AreHeads (length growing.documents) heads
-    → IsGrown (length growing.documents) growing → IsOf (length growing.documents) here → IfOk (target_of look root heads install here growing) (Leads growing)
-target_by look root heads install (Some document) growing are grown is = there_found growing (Some document) grown is
-target_by look root heads install None growing are grown is = fetched_found look heads (stub_path root install) (plain_path root install) growing are grown
+second_found : (look : List ℕ → File) (heads : List (List ℕ × ℕ)) (first second : List ℕ) (growing : Growing) (document : Option ℕ) (new : Growing) → AreThere heads growing
+    → IsFound growing document new → IfOk (second_of heads first second document new look).end (Meets growing)
+second_found look heads first second growing (Some document) new there is = is
+second_found look heads first second growing None new there is =
+    end_holds (sought heads second new) (λ at. ends (last_of first at.document at.growing)) look (Finds new) (Meets growing)
+    (sought_found look heads second new (still_there heads growing None new there is))
+    (λ at finds. last_found first growing at.document at.growing (found_then growing new None at.document at.growing is finds))
 
-pub target_found : (look : List ℕ → Answer) (root : Option (List ℕ)) (heads : List (List ℕ × ℕ)) (reexport : Reexport) (growing : Growing) → AreHeads (length growing.documents) heads
-    → IsGrown (length growing.documents) growing → IsOf (length growing.documents) reexport.here → IfOk (target look root heads reexport growing) (Leads growing)
+fetched_found : (look : List ℕ → File) (heads : List (List ℕ × ℕ)) (first second : List ℕ) (growing : Growing) → AreThere heads growing → IfOk (fetched heads first second growing look).end (Meets growing)
+fetched_found look heads first second growing there =
+    end_holds (sought heads first growing) (λ at. second_of heads first second at.document at.growing) look (Finds growing) (Meets growing)
+    (sought_found look heads first growing there) (λ at finds. second_found look heads first second growing at.document at.growing there finds)
+
+target_by : (look : List ℕ → File) (root : Option (List ℕ)) (heads : List (List ℕ × ℕ)) (install : List ℕ) (here : Option ℕ) (growing : Growing) → AreThere heads growing
+    → IsOf (length growing.documents) here → IfOk (target_of root heads install here growing look).end (Meets growing)
+target_by look root heads install (Some document) growing there is = there_found growing (Some document) there.grown is
+target_by look root heads install None growing there is = fetched_found look heads (stub_path root install) (plain_path root install) growing there
+
+pub target_found : (look : List ℕ → File) (root : Option (List ℕ)) (heads : List (List ℕ × ℕ)) (reexport : Reexport) (growing : Growing) → AreThere heads growing
+    → IsOf (length growing.documents) reexport.here → IfOk (target root heads reexport growing look).end (Meets growing)
 unfolding target
-target_found look root heads reexport growing are grown is = target_by look root heads reexport.install reexport.here growing are grown is
+target_found look root heads reexport growing there is = target_by look root heads reexport.install reexport.here growing there is
 
 -- ---- requests
 
@@ -249,7 +251,7 @@ link_grown n from to growing inside low grown = record {
   known = grown.known;
 }
 
-pub linked_held : (n from : ℕ) (heads : List (List ℕ × ℕ)) (closing : Closing) (there : Target) → from < length closing.growing.documents → IsHeld n heads closing → Leads closing.growing there
+pub linked_held : (n from : ℕ) (heads : List (List ℕ × ℕ)) (closing : Closing) (there : Target) → from < length closing.growing.documents → IsHeld n heads closing → Meets closing.growing there
     → IsHeld n heads (spec.linked from closing.reached closing.work there)
 linked_held n from heads closing there inside held leads =
     reach_held n there.document heads (record { growing = with_link from there.document there.growing; reached = closing.reached; work = closing.work }) leads.there (record {

@@ -1,12 +1,13 @@
 pub mod AnsweredLemmas
-pub mod AskingLemmas
 pub mod BindingLemmas
 pub mod CheckedLemmas
 pub mod ChoosingLemmas
 pub mod ChosenLemmas
 pub mod ClosingLemmas
 pub mod EndLemmas
+pub mod FewLemmas
 pub mod FillLemmas
+pub mod FiniteLemmas
 pub mod GrowingLemmas
 pub mod HeldLemmas
 pub mod IndexLemmas
@@ -14,6 +15,7 @@ pub mod LawLemmas
 pub mod LinkLemmas
 pub mod NearLemmas
 pub mod OneLemmas
+pub mod ProgramLemmas
 pub mod ReachLemmas
 pub mod ReachedLemmas
 pub mod SoughtLemmas

@@ -11,16 +11,14 @@ use Rattle.std.proofs.lemmas.Option.{slice_get-get_or, slice_get_past}
 use Rattle.std.proofs.lemmas.Slice.Eq.{bytes_eq-Decides}
 use Rattle.list_lemmas.proofs.Members.{In, in_from_Contains}
 use Rattle.command_line.specs.declared.command.Command.{Command}
-use Rattle.mo_outside.specs.Answers.{Answer, There, Absent, Unread}
-use Rattle.mo_outside.specs.Answers as answer
-use Rattle.mo_types.specs.Gives.{◌>>=◌}
+use Rattle.file_cache.specs.Program.{File, ends, file_at}
 use Rattle.mo_types.specs.Scan.{option_or_else}
 use Rattle.mo_types.specs.declared.object_fault.ObjFault.{ObjFault}
 use Rattle.tbd_doc.specs.declared.stub.Stub.{Stub}
 use Rattle.tbd_doc.specs.declared.stub.StubFile.{StubFile}
-use Rattle.lib_bind.specs.Closing.{Ended, added, after, begun, chosen_of, fetched, last_of, nothing, reach, reach_all, reexports_of, requests_of, second_of, sought, sought_as, sought_new, step, target, target_of, with_file, with_files, with_known, with_link}
+use Rattle.lib_bind.specs.Closing.{added, begun, last_of, nothing, reach, reach_all, read_at, reexports_of, requests_of, with_file, with_files, with_known, with_link}
 use Rattle.lib_bind.specs.Closing as spec
-use Rattle.lib_bind.specs.Closure.{Bound, bound_after, started}
+use Rattle.lib_bind.specs.Closure.{Bound, after, bound_after, fetched, met, second_of, sought, sought_as, step, target, target_of}
 use Rattle.lib_bind.specs.Found.{found}
 use Rattle.lib_bind.specs.Graph.{AreLibraries, linked}
 use Rattle.lib_bind.specs.Links.{HasLinks, IsFirstAt, LeadsBy, LeadsTo}
@@ -28,8 +26,7 @@ use Rattle.lib_bind.specs.Named.{are_named}
 use Rattle.lib_bind.specs.Paths.{plain_path, stub_path}
 use Rattle.lib_bind.specs.Provides.{no_document}
 use Rattle.lib_bind.specs.Reexported.{reexported}
-use Rattle.lib_bind.specs.declared.bind_fault.BindFault.{BindFault}
-use Rattle.lib_bind.specs.declared.choosing.Chosen.{Chosen}
+use Rattle.lib_bind.specs.declared.bind_fault.BindFault.TheVariants.{ReadFault}
 use Rattle.lib_bind.specs.declared.closing.Closing.{Closing}
 use Rattle.lib_bind.specs.declared.closing.Request.{Request}
 use Rattle.lib_bind.specs.declared.growing.Growing.{Growing}
@@ -39,13 +36,13 @@ use Rattle.lib_bind.specs.declared.named.NamedStub.{NamedStub}
 use Rattle.lib_bind.specs.declared.sought.Sought.{Sought}
 use Rattle.lib_bind.specs.declared.sought.Target.{Target}
 use Rattle.lib_bind.proofs.GrowingLemmas.{found_more}
-use Rattle.lib_bind.specs.inner.Held.{AreHeads, IsFound, IsHeld, IsRequestOf, total}
-use Rattle.lib_bind.proofs.AnsweredLemmas.{all_within}
-use Rattle.lib_bind.proofs.ChosenLemmas.{whole_chosen}
-use Rattle.lib_bind.proofs.EndLemmas.{bound_of, ends, same_value}
-use Rattle.lib_bind.proofs.HeldLemmas.{begun_held, files_reexports, heads_more, linked_held, same_links, target_found}
+use Rattle.lib_bind.specs.inner.Held.{AreHeads, IsFound, IsHeld, IsRequestOf, Meets, total}
+use Rattle.lib_bind.proofs.AnsweredLemmas.{all_within, held_there}
+use Rattle.lib_bind.proofs.ChosenLemmas.{ok_holds, whole_chosen}
+use Rattle.lib_bind.proofs.EndLemmas.{closed_of, made_of, start_of}
+use Rattle.lib_bind.proofs.HeldLemmas.{begun_held, files_reexports, linked_held, same_links, target_found}
 use Rattle.lib_bind.proofs.StepLemmas.{reach_growing}
-use Rattle.lib_bind.proofs.TextLemmas.{then_holds}
+use Rattle.lib_bind.proofs.ProgramLemmas.{end_holds, end_made}
 use Rattle.lib_bind.proofs.WholeLemmas.{within_or_past}
 
 -- ---- documents that are added
@@ -140,17 +137,16 @@ added_sought heads path (Ok stubs) growing none = record {
   known = now_known path (Some (length growing.documents)) (with_file heads stubs.docs growing).known (ap (λ (known : List (List ℕ × Option ℕ)). found path known) (file_known_too heads stubs.docs growing) ∙ none);
 }
 
-new_sought : (heads : List (List ℕ × ℕ)) (path : List ℕ) (said : Answer) (growing : Growing) → found path growing.known ≡ None → IfOk (sought_new heads path said growing) (IsSought path growing)
-new_sought heads path (There bytes) growing none = added_sought heads path (reexported bytes) growing none
-new_sought heads path Absent growing none = record { grows = known_grows path None growing; known = now_known path None growing.known none }
-new_sought heads path Unread growing none = tt
-new_sought heads path answer.Refused growing none = tt
+read_sought : (heads : List (List ℕ × ℕ)) (path : List ℕ) (file : Option (List ℕ)) (growing : Growing) → found path growing.known ≡ None → IfOk (read_at heads path file growing) (IsSought path growing)
+read_sought heads path (Some bytes) growing none = added_sought heads path (reexported bytes) growing none
+read_sought heads path None growing none = record { grows = known_grows path None growing; known = now_known path None growing.known none }
 
-as_sought : (look : List ℕ → Answer) (heads : List (List ℕ × ℕ)) (path : List ℕ) (there : Option (Option ℕ)) (growing : Growing) → found path growing.known ≡ there → IfOk (sought_as look heads path there growing) (IsSought path growing)
+as_sought : (look : List ℕ → File) (heads : List (List ℕ × ℕ)) (path : List ℕ) (there : Option (Option ℕ)) (growing : Growing) → found path growing.known ≡ there → IfOk (sought_as heads path there growing look).end (IsSought path growing)
 as_sought look heads path (Some document) growing is = record { grows = grows_itself growing; known = is }
-as_sought look heads path None growing is = new_sought heads path (look path) growing is
+as_sought look heads path None growing is =
+    end_made (file_at (ReadFault path) path) (λ file. ends (read_at heads path file growing)) look (IsSought path growing) (λ file _. read_sought heads path file growing is)
 
-sought_grows : (look : List ℕ → Answer) (heads : List (List ℕ × ℕ)) (path : List ℕ) (growing : Growing) → IfOk (sought look heads path growing) (IsSought path growing)
+sought_grows : (look : List ℕ → File) (heads : List (List ℕ × ℕ)) (path : List ℕ) (growing : Growing) → IfOk (sought heads path growing look).end (IsSought path growing)
 unfolding sought
 sought_grows look heads path growing = as_sought look heads path (found path growing.known) growing refl
 
@@ -166,27 +162,27 @@ last_met : (first second : List ℕ) (growing : Growing) (document : Option ℕ)
 last_met first second growing (Some document) new grows none there = record { grows = grows; leads_to = inr (none, there) }
 last_met first second growing None new grows none there = tt
 
-second_met : (look : List ℕ → Answer) (heads : List (List ℕ × ℕ)) (first second : List ℕ) (growing : Growing) (document : Option ℕ) (new : Growing) → Grows growing new → found first new.known ≡ Some document
-    → IfOk (second_of look heads first second document new) (IsMet (FirstAt first second) growing)
+second_met : (look : List ℕ → File) (heads : List (List ℕ × ℕ)) (first second : List ℕ) (growing : Growing) (document : Option ℕ) (new : Growing) → Grows growing new → found first new.known ≡ Some document
+    → IfOk (second_of heads first second document new look).end (IsMet (FirstAt first second) growing)
 second_met look heads first second growing (Some document) new grows there = record { grows = grows; leads_to = inl there }
 second_met look heads first second growing None new grows none =
-    then_holds (IsSought second new) (IsMet (FirstAt first second) growing) (sought look heads second new) (λ there. last_of first there.document there.growing) (sought_grows look heads second new)
+    end_holds (sought heads second new) (λ there. ends (last_of first there.document there.growing)) look (IsSought second new) (IsMet (FirstAt first second) growing) (sought_grows look heads second new)
     (λ there is. last_met first second growing there.document there.growing (grows_then growing new there.growing grows is.grows) (is.grows.known first None none) is.known)
 
-fetched_met : (look : List ℕ → Answer) (heads : List (List ℕ × ℕ)) (first second : List ℕ) (growing : Growing) → IfOk (fetched look heads first second growing) (IsMet (FirstAt first second) growing)
+fetched_met : (look : List ℕ → File) (heads : List (List ℕ × ℕ)) (first second : List ℕ) (growing : Growing) → IfOk (fetched heads first second growing look).end (IsMet (FirstAt first second) growing)
 fetched_met look heads first second growing =
-    then_holds (IsSought first growing) (IsMet (FirstAt first second) growing) (sought look heads first growing) (λ there. second_of look heads first second there.document there.growing) (sought_grows look heads first growing)
+    end_holds (sought heads first growing) (λ there. second_of heads first second there.document there.growing) look (IsSought first growing) (IsMet (FirstAt first second) growing) (sought_grows look heads first growing)
     (λ there is. second_met look heads first second growing there.document there.growing is.grows is.known)
 
-by_met : (look : List ℕ → Answer) (root : Option (List ℕ)) (heads : List (List ℕ × ℕ)) (install : List ℕ) (here : Option ℕ) (growing : Growing)
-    → IfOk (target_of look root heads install here growing) (IsMet (λ known to. LeadsBy root known install here to) growing)
+by_met : (look : List ℕ → File) (root : Option (List ℕ)) (heads : List (List ℕ × ℕ)) (install : List ℕ) (here : Option ℕ) (growing : Growing)
+    → IfOk (target_of root heads install here growing look).end (IsMet (λ known to. LeadsBy root known install here to) growing)
 by_met look root heads install (Some document) growing = record { grows = grows_itself growing; leads_to = refl }
 by_met look root heads install None growing = fetched_met look heads (stub_path root install) (plain_path root install) growing
 
 abbrev pub Leading : Option (List ℕ) → Reexport → List (List ℕ × Option ℕ) → ℕ → Type 0
 Leading root reexport known to = LeadsTo root known reexport to
 
-pub target_met : (look : List ℕ → Answer) (root : Option (List ℕ)) (heads : List (List ℕ × ℕ)) (reexport : Reexport) (growing : Growing) → IfOk (target look root heads reexport growing) (IsMet (Leading root reexport) growing)
+pub target_met : (look : List ℕ → File) (root : Option (List ℕ)) (heads : List (List ℕ × ℕ)) (reexport : Reexport) (growing : Growing) → IfOk (target root heads reexport growing look).end (IsMet (Leading root reexport) growing)
 unfolding target
 target_met look root heads reexport growing = by_met look root heads reexport.install reexport.here growing
 
@@ -346,7 +342,7 @@ pub record IsGoing (n : ℕ) (root : Option (List ℕ)) (heads : List (List ℕ 
   pub held : IsHeld n heads closing
   pub linked_are : IsLinked root count closing
 
-module _ (look : List ℕ → Answer) (n : ℕ) (root : Option (List ℕ)) (heads : List (List ℕ × ℕ)) (at : ℕ) (closing : Closing) (going : IsGoing n root heads at closing) where
+module _ (look : List ℕ → File) (n : ℕ) (root : Option (List ℕ)) (heads : List (List ℕ × ℕ)) (at : ℕ) (closing : Closing) (going : IsGoing n root heads at closing) where
   both : {A E : Type 0} (P Q : A → Type 0) (r : Result A E) → IfOk r P → IfOk r Q → IfOk r (λ x. P x × Q x)
   both P Q (Ok x) p q = (p, q)
   both P Q (Err e) p q = tt
@@ -369,12 +365,12 @@ module _ (look : List ℕ → Answer) (n : ℕ) (root : Option (List ℕ)) (head
               (link_linked root at closing request there within is (omega (arith, count, more, from)) met_is.grows met_is.leads_to going.linked_are);
         }
 
-    met_going : IfOk (spec.met look root heads (Some request) closing) (IsGoing n root heads (at + 1))
+    met_going : IfOk (met root heads (Some request) closing look).end (IsGoing n root heads (at + 1))
     met_going =
-        then_holds (λ there. IsFound closing.growing (Some there.document) there.growing × IsMet (Leading root request.reexport) closing.growing there) (IsGoing n root heads (at + 1))
-        (target look root heads request.reexport closing.growing) (λ there. Ok (spec.linked request.from closing.reached closing.work there))
-        (both (λ there. IsFound closing.growing (Some there.document) there.growing) (IsMet (Leading root request.reexport) closing.growing) (target look root heads request.reexport closing.growing)
-        (target_found look root heads request.reexport closing.growing (heads_more n (length closing.growing.documents) heads going.held.more going.held.heads_are) going.held.grown asks.here)
+        end_holds (target root heads request.reexport closing.growing) (λ there. ends (Ok (spec.linked request.from closing.reached closing.work there))) look
+        (λ there. Meets closing.growing there × IsMet (Leading root request.reexport) closing.growing there) (IsGoing n root heads (at + 1))
+        (both (Meets closing.growing) (IsMet (Leading root request.reexport) closing.growing) (target root heads request.reexport closing.growing look).end
+        (target_found look root heads request.reexport closing.growing (held_there n heads closing going.held) asks.here)
         (target_met look root heads request.reexport closing.growing))
         (λ there is. there_going there is.0 is.1)
 
@@ -392,23 +388,23 @@ module _ (look : List ℕ → Answer) (n : ℕ) (root : Option (List ℕ)) (head
   no_request : Request
   no_request = record { from = 0; reexport = record { install = []; here = None } }
 
-  step_by : (at < length closing.work) ⊎ (length closing.work ≤ at) → IfOk (step look root heads at closing) (IsGoing n root heads (at + 1))
+  step_by : (at < length closing.work) ⊎ (length closing.work ≤ at) → IfOk (step root heads at closing look).end (IsGoing n root heads (at + 1))
   unfolding step
   step_by (inl within) =
-      subst (λ (found_is : Option Request). IfOk (spec.met look root heads found_is closing) (IsGoing n root heads (at + 1))) (sym (slice_get-get_or closing.work at no_request within))
+      subst (λ (found_is : Option Request). IfOk (met root heads found_is closing look).end (IsGoing n root heads (at + 1))) (sym (slice_get-get_or closing.work at no_request within))
       (met_going (get_or closing.work at no_request) within (get_or_default closing.work at (get_or closing.work at no_request) no_request within))
   step_by (inr past) =
-      subst (λ (found_is : Option Request). IfOk (spec.met look root heads found_is closing) (IsGoing n root heads (at + 1))) (sym (slice_get_past closing.work at past)) (none_left past)
+      subst (λ (found_is : Option Request). IfOk (met root heads found_is closing look).end (IsGoing n root heads (at + 1))) (sym (slice_get_past closing.work at past)) (none_left past)
 
-  pub step_going : IfOk (step look root heads at closing) (IsGoing n root heads (at + 1))
+  pub step_going : IfOk (step root heads at closing look).end (IsGoing n root heads (at + 1))
   step_going = step_by (within_or_past at (length closing.work))
 
-pub after_going : (look : List ℕ → Answer) (n : ℕ) (root : Option (List ℕ)) (heads : List (List ℕ × ℕ)) (start : Closing) (count : ℕ) → IsGoing n root heads 0 start → IfOk (after look root heads count start) (IsGoing n root heads count)
+pub after_going : (look : List ℕ → File) (n : ℕ) (root : Option (List ℕ)) (heads : List (List ℕ × ℕ)) (start : Closing) (count : ℕ) → IsGoing n root heads 0 start → IfOk (after root heads count start look).end (IsGoing n root heads count)
 after_going look n root heads start zero going = going
 after_going look n root heads start (suc count) going =
     let one : count + 1 ≡ suc count = omega arith in
-    subst (λ (c : ℕ). IfOk (after look root heads (suc count) start) (IsGoing n root heads c)) one
-    (then_holds (IsGoing n root heads count) (IsGoing n root heads (count + 1)) (after look root heads count start) (step look root heads count) (after_going look n root heads start count going)
+    subst (λ (c : ℕ). IfOk (after root heads (suc count) start look).end (IsGoing n root heads c)) one
+    (end_holds (after root heads count start) (step root heads count) look (IsGoing n root heads count) (IsGoing n root heads (count + 1)) (after_going look n root heads start count going)
     (λ closing is. step_going look n root heads count closing is))
 
 -- ---- the start
@@ -471,28 +467,13 @@ linked_has root count closing d past is there = record {
       ∙ ap (λ (test : Bool). due_by test (get_or closing.growing.reexports d [])) (is_there closing.reached d (in_from_Contains closing.reached d there))) (is.met d);
 }
 
-module _ (look : List ℕ → Answer) (command : Command) (count : ℕ) (bound : Bound) (past : length bound.closing.work ≤ count) (d : ℕ) (there : Contains bound.closing.reached d) where
-  end_has : (chosen : Chosen) (closed : Result Closing Ended) → IfOk closed (IsLinked command.syslibroot count) → (closed >>= λ closing. Ok (bound_of chosen closing)) ≡ Ok bound → HasLinks command.syslibroot bound.closing.growing d
-  end_has chosen (Err why) are is = absurd (cc)
-  end_has chosen (Ok closing) are is =
-      let same : bound_of chosen closing ≡ bound = same_value (bound_of chosen closing) bound is in
-      linked_has command.syslibroot count bound.closing d past (subst (λ (b : Bound). IsLinked command.syslibroot count b.closing) same are) there
-
-  going_linked : (n : ℕ) (heads : List (List ℕ × ℕ)) (closed : Result Closing Ended) → IfOk closed (IsGoing n command.syslibroot heads count) → IfOk closed (IsLinked command.syslibroot count)
-  going_linked n heads (Ok closing) is = is.linked_are
-  going_linked n heads (Err why) is = tt
-
-  chosen_has : (named : List NamedStub) (chosen : Result Chosen BindFault) → are_named (length command.inputs) 0 named ≡ true → chosen_of command named ≡ chosen
-      → (started chosen >>= ends look command count) ≡ Ok bound → HasLinks command.syslibroot bound.closing.growing d
-  chosen_has named (Err why) are e is = absurd (cc)
-  chosen_has named (Ok chosen) are e is =
-      let whole = whole_chosen (length command.inputs) command named chosen are e in
-      end_has chosen (after look command.syslibroot chosen.heads count (begun chosen.libraries chosen.heads chosen.files))
-      (going_linked (total chosen.files) chosen.heads (after look command.syslibroot chosen.heads count (begun chosen.libraries chosen.heads chosen.files))
-      (after_going look (total chosen.files) command.syslibroot chosen.heads (begun chosen.libraries chosen.heads chosen.files) count
-      (begun_going command.syslibroot chosen.heads chosen.libraries chosen.files whole.0 whole.1))) is
-
-pub links_are : (look : List ℕ → Answer) (command : Command) (named : List NamedStub) (count : ℕ) (bound : Bound) (document : ℕ) → are_named (length command.inputs) 0 named ≡ true
-    → bound_after look command named count ≡ Ok bound → length bound.closing.work ≤ count → Contains bound.closing.reached document → HasLinks command.syslibroot bound.closing.growing document
-unfolding bound_after
-links_are look command named count bound document are is past there = chosen_has look command count bound past document there named (chosen_of command named) are refl is
+pub links_are : (look : List ℕ → File) (command : Command) (named : List NamedStub) (count : ℕ) (bound : Bound) (document : ℕ) → are_named (length command.inputs) 0 named ≡ true
+    → (bound_after command named count look).end ≡ Ok bound → length bound.closing.work ≤ count → Contains bound.closing.reached document → HasLinks command.syslibroot bound.closing.growing document
+links_are look command named count bound document are is past there =
+    let made = made_of command named count look bound is in
+    let whole = whole_chosen (length command.inputs) command named made.chosen are made.chosen_is in
+    let going : IsGoing (total made.chosen.files) command.syslibroot made.chosen.heads count made.closing =
+    ok_holds (IsGoing (total made.chosen.files) command.syslibroot made.chosen.heads count) (closed_of command count made.chosen look).end made.closing made.closing_is
+    (after_going look (total made.chosen.files) command.syslibroot made.chosen.heads (start_of made.chosen) count
+    (begun_going command.syslibroot made.chosen.heads made.chosen.libraries made.chosen.files whole.0 whole.1)) in
+    linked_has command.syslibroot count bound.closing document past (subst (λ (b : Bound). IsLinked command.syslibroot count b.closing) made.is going.linked_are) there

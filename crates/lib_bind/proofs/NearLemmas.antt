@@ -1,6 +1,6 @@
 -- A re-exported library that is there has its install name.
-use Rattle.std.proofs.Common.{◌≡◌, ℕ, zero, suc, ◌+◌, ◌<◌, ◌++◌, ◌∷◌, [], List, length, map, get_or, slice_get, Contains, Bool, true, false, Option, Some, None, Result, Ok, Err, IfOk, refl, sym, ap, ◌∙◌, subst, arith, append_assoc, bytes_eq, cond, length-append}
-use Rattle.std.specs.Prelude.{if◌then◌else◌, ◌&&◌, nat_le, nat_lt}
+use Rattle.std.proofs.Common.{◌≡◌, ℕ, zero, suc, ◌+◌, ◌<◌, ◌++◌, ◌∷◌, [], List, length, map, get_or, slice_get, Contains, Bool, true, false, Option, Some, None, Ok, Err, IfOk, refl, sym, ap, ◌∙◌, subst, arith, append_assoc, bytes_eq, cond, length-append}
+use Rattle.std.specs.Prelude.{if◌then◌else◌, ◌&&◌, ◌^◌, nat_le, nat_lt}
 use Rattle.std.specs.List.{AllByRecursion}
 use Rattle.std.proofs.lemmas.Bool.{and_parts}
 use Rattle.std.proofs.lemmas.List.{append-nil}
@@ -9,18 +9,17 @@ use Rattle.std.proofs.lemmas.Slice.Eq.{bytes_eq-Decides}
 use Rattle.list_lemmas.proofs.Members.{all_in, all_weaker, in_from_Contains}
 use Rattle.command_line.specs.declared.command.Command.{Command}
 use Rattle.command_line.specs.declared.command.CommandInput.{CommandInput}
-use Rattle.mo_outside.specs.Answers.{Answer}
-use Rattle.mo_types.specs.Gives.{◌>>=◌}
+use Rattle.file_cache.specs.Program.{File}
 use Rattle.mo_types.specs.Scan.{option_or_else}
 use Rattle.mo_types.specs.declared.answer.Refusal.TheVariants as refusal
 use Rattle.mo_types.specs.declared.cause.Which.TheVariants.{Libraries}
 use Rattle.tbd_doc.specs.declared.stub.Stub.{Stub}
 use Rattle.tbd_doc.specs.declared.stub.StubFile.{StubFile}
-use Rattle.lib_bind.specs.Closing.{Ended, after, begun, choose, choose_all, choose_as, chosen_of, install_of, no_input, nothing, place_in, reexport_by, reexports_of, with_file, with_files, with_known, with_library, with_link}
-use Rattle.lib_bind.specs.Closure.{Bound, bound_after, started}
+use Rattle.lib_bind.specs.Closing.{begun, choose, choose_all, choose_as, chosen_of, install_of, no_input, nothing, place_in, reexport_by, reexports_of, with_file, with_files, with_known, with_library, with_link}
+use Rattle.lib_bind.specs.Closure.{Bound, bound_after}
 use Rattle.lib_bind.specs.Found.{found}
 use Rattle.lib_bind.specs.Links.{HasName}
-use Rattle.lib_bind.specs.Named.{are_named, is_next}
+use Rattle.lib_bind.specs.Named.{are_named, has_documents, is_next}
 use Rattle.lib_bind.specs.Provides.{no_document}
 use Rattle.lib_bind.specs.declared.bind_fault.BindFault.{BindFault}
 use Rattle.lib_bind.specs.declared.bind_fault.BindFault.TheVariants as fault
@@ -29,8 +28,8 @@ use Rattle.lib_bind.specs.declared.closing.Closing.{Closing}
 use Rattle.lib_bind.specs.declared.growing.Growing.{Growing}
 use Rattle.lib_bind.specs.declared.growing.Reexport.{Reexport}
 use Rattle.lib_bind.specs.declared.named.NamedStub.{NamedStub}
-use Rattle.lib_bind.proofs.ChosenLemmas.{lt_true}
-use Rattle.lib_bind.proofs.EndLemmas.{bound_of, ends, same_value}
+use Rattle.lib_bind.proofs.ChosenLemmas.{lt_true, ok_holds}
+use Rattle.lib_bind.proofs.EndLemmas.{closed_of, made_of, start_of}
 use Rattle.lib_bind.proofs.StayLemmas.{after_stays}
 use Rattle.lib_bind.proofs.StepLemmas.{all_growing}
 use Rattle.lib_bind.proofs.TextLemmas.{then_holds}
@@ -193,8 +192,9 @@ all_heads : (inputs least : ℕ) (command : Command) (named : List NamedStub) (c
 all_heads inputs least command [] chosen are has = has
 all_heads inputs least command (one ∷ rest) chosen are has =
     let parts = and_parts (is_next inputs least one) (are_named inputs (one.position + 1) rest) are in
-    let first = and_parts (nat_le least one.position && nat_lt one.position inputs) (nat_lt 0 (length one.file.docs)) parts.0 in
-    then_holds HasHeads HasHeads (choose command one chosen) (choose_all command rest) (next_heads command one chosen (lt_true 0 (length one.file.docs) first.1) has)
+    let first = and_parts (nat_le least one.position && nat_lt one.position inputs) (has_documents one) parts.0 in
+    let some = and_parts (nat_lt 0 (length one.file.docs)) (nat_lt (length one.file.docs) (2 ^ 32)) first.1 in
+    then_holds HasHeads HasHeads (choose command one chosen) (choose_all command rest) (next_heads command one chosen (lt_true 0 (length one.file.docs) some.0) has)
     (λ next is. all_heads inputs (one.position + 1) command rest next parts.1 is)
 
 chosen_heads : (inputs : ℕ) (command : Command) (named : List NamedStub) → are_named inputs 0 named ≡ true → IfOk (chosen_of command named) HasHeads
@@ -241,29 +241,20 @@ at_near documents [] number near = tt
 at_near documents (reexports ∷ all) zero near = near.0
 at_near documents (reexports ∷ all) (suc number) near = at_near documents all number near.1
 
-module _ (look : List ℕ → Answer) (command : Command) (count : ℕ) (bound : Bound) where
-  end_near : (chosen : Chosen) (closed : Result Closing Ended) → IfOk closed (λ (new : Closing). IsNamed chosen.heads new.growing) → (closed >>= λ closing. Ok (bound_of chosen closing)) ≡ Ok bound
-      → AreAllNear bound.closing.growing.documents bound.closing.growing.reexports
-  end_near chosen (Err why) are is = absurd (cc)
-  end_near chosen (Ok closing) are is =
-      subst (λ (b : Bound). AreAllNear b.closing.growing.documents b.closing.growing.reexports) (same_value (bound_of chosen closing) bound is) are.near
-
-  chosen_near : (chosen : Result Chosen BindFault) → IfOk chosen HasHeads → (started chosen >>= ends look command count) ≡ Ok bound → AreAllNear bound.closing.growing.documents bound.closing.growing.reexports
-  chosen_near (Err why) has is = absurd (cc)
-  chosen_near (Ok chosen) has is =
-      let start : Closing = begun chosen.libraries chosen.heads chosen.files in
-      end_near chosen (after look command.syslibroot chosen.heads count start)
-      (after_stays look chosen.heads (IsNamed chosen.heads)
-      (λ path bytes file growing there read is_named. named_known chosen.heads path (Some (length growing.documents)) (with_file chosen.heads file.docs growing) (named_file chosen.heads file.docs growing is_named))
-      (λ path growing says is_named. named_known chosen.heads path None growing is_named) (named_link chosen.heads) command.syslibroot count start (begun_named chosen has)) is
-
-bound_near : (look : List ℕ → Answer) (command : Command) (named : List NamedStub) (count : ℕ) (bound : Bound) → are_named (length command.inputs) 0 named ≡ true → bound_after look command named count ≡ Ok bound
+bound_near : (look : List ℕ → File) (command : Command) (named : List NamedStub) (count : ℕ) (bound : Bound) → are_named (length command.inputs) 0 named ≡ true → (bound_after command named count look).end ≡ Ok bound
     → AreAllNear bound.closing.growing.documents bound.closing.growing.reexports
-unfolding bound_after
-bound_near look command named count bound are is = chosen_near look command count bound (chosen_of command named) (chosen_heads (length command.inputs) command named are) is
+bound_near look command named count bound are is =
+    let made = made_of command named count look bound is in
+    let has : HasHeads made.chosen = ok_holds HasHeads (chosen_of command named) made.chosen made.chosen_is (chosen_heads (length command.inputs) command named are) in
+    let stays : IsNamed made.chosen.heads made.closing.growing =
+    ok_holds (λ (new : Closing). IsNamed made.chosen.heads new.growing) (closed_of command count made.chosen look).end made.closing made.closing_is
+    (after_stays look made.chosen.heads (IsNamed made.chosen.heads)
+    (λ path bytes file growing new there read is_named. named_known made.chosen.heads path (Some (length growing.documents)) (with_file made.chosen.heads file.docs growing) (named_file made.chosen.heads file.docs growing is_named))
+    (λ path growing new says is_named. named_known made.chosen.heads path None growing is_named) (named_link made.chosen.heads) command.syslibroot count (start_of made.chosen) (begun_named made.chosen has)) in
+    subst (λ (b : Bound). AreAllNear b.closing.growing.documents b.closing.growing.reexports) made.is stays.near
 
-pub here_named : (look : List ℕ → Answer) (command : Command) (named : List NamedStub) (count : ℕ) (bound : Bound) (document number : ℕ) (reexport : Reexport) → are_named (length command.inputs) 0 named ≡ true
-    → bound_after look command named count ≡ Ok bound → Contains (get_or bound.closing.growing.reexports document []) reexport → reexport.here ≡ Some number → HasName bound.closing.growing.documents number reexport.install
+pub here_named : (look : List ℕ → File) (command : Command) (named : List NamedStub) (count : ℕ) (bound : Bound) (document number : ℕ) (reexport : Reexport) → are_named (length command.inputs) 0 named ≡ true
+    → (bound_after command named count look).end ≡ Ok bound → Contains (get_or bound.closing.growing.reexports document []) reexport → reexport.here ≡ Some number → HasName bound.closing.growing.documents number reexport.install
 here_named look command named count bound document number reexport are is there here =
     all_in (IsNear bound.closing.growing.documents) (get_or bound.closing.growing.reexports document []) reexport
     (at_near bound.closing.growing.documents bound.closing.growing.reexports document (bound_near look command named count bound are is)) (in_from_Contains (get_or bound.closing.growing.reexports document []) reexport there) number here

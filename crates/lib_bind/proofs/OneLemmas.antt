@@ -1,19 +1,19 @@
 -- What libraries are bound to is one thing.
-use Rattle.std.proofs.Common.{◌≡◌, ℕ, ◌+◌, ◌<◌, ◌≤◌, List, [], length, get_or, Result, Ok, Err, sym, ap, subst, ◌∙◌, arith, ext_get_or}
+use Rattle.std.proofs.Common.{◌≡◌, ℕ, ◌+◌, ◌<◌, ◌≤◌, List, [], length, get_or, Result, Ok, sym, ap, subst, ◌∙◌, arith, ext_get_or}
 use Rattle.std.proofs.lemmas.Cmp.{nat_cmp_total}
 use Rattle.std.proofs.lemmas.Option.{slice_get-get_or}
 use Rattle.list_lemmas.proofs.Members.{Contains_from_in, in_from_Contains}
 use Rattle.list_lemmas.proofs.Rising.{rising_same}
 use Rattle.command_line.specs.declared.command.Command.{Command}
-use Rattle.mo_outside.specs.Answers.{Answer}
+use Rattle.file_cache.specs.Program.{File, Outcome}
 use Rattle.tbd_doc.specs.declared.stub.Stub.{Stub}
-use Rattle.lib_bind.specs.Closing.{Ended, asked_in}
-use Rattle.lib_bind.specs.Closure.{Bound, IsGraphOf, bound_after}
+use Rattle.lib_bind.specs.Closure.{Bound, IsGraphOf, IsLast, bound_after}
 use Rattle.lib_bind.specs.Graph.{AreReached, AreReaches, IsWhole}
+use Rattle.lib_bind.specs.declared.bind_fault.BindFault.{BindFault}
 use Rattle.lib_bind.specs.declared.library.Library.{Library}
 use Rattle.lib_bind.specs.declared.library.LibraryGraph.{LibraryGraph}
 use Rattle.lib_bind.specs.declared.named.NamedStub.{NamedStub}
-use Rattle.lib_bind.proofs.EndLemmas.{bound_ends, bound_stays}
+use Rattle.lib_bind.proofs.EndLemmas.{bound_stays, same_value}
 use Rattle.lib_bind.proofs.ReachedLemmas.{no_library}
 
 -- ---- what libraries reach
@@ -52,54 +52,27 @@ whole_one a b p q libraries documents links =
 
 -- ---- what is bound
 
-abbrev given : Bound → Result Bound Ended
-given bound = Ok bound
+together : (look : List ℕ → File) (command : Command) (named : List NamedStub) (count more : ℕ) → bound_after command named (more + count) look ≡ bound_after command named (count + more) look
+together look command named count more = let same : more + count ≡ count + more = omega arith in ap (λ n. bound_after command named n look) same
 
-abbrev ended : Ended → Result Bound Ended
-ended why = Err why
+pub outcomes_one : (look : List ℕ → File) (command : Command) (named : List NamedStub) (count more : ℕ) → IsLast count (bound_after command named count look).end → IsLast more (bound_after command named more look).end
+    → bound_after command named count look ≡ bound_after command named more look
+outcomes_one look command named count more one other =
+    sym (bound_stays look command named more count one) ∙ together look command named count more ∙ bound_stays look command named count more other
 
-same_bound : (one other : Bound) → given one ≡ given other → one ≡ other
-same_bound one other is = cc
+last_of_end : (count : ℕ) (end : Result Bound BindFault) (bound : Bound) → end ≡ Ok bound → length bound.closing.work ≤ count → IsLast count end
+last_of_end count end bound is done = subst (IsLast count) (sym is) done
 
-same_end : (one other : Ended) → ended one ≡ ended other → one ≡ other
-same_end one other is = cc
-
-not_both : (bound : Bound) (why : Ended) → given bound ≡ ended why → ⊥
-not_both bound why is = absurd cc
-
-together : (look : List ℕ → Answer) (command : Command) (named : List NamedStub) (count more : ℕ) → bound_after look command named (more + count) ≡ bound_after look command named (count + more)
-together look command named count more = let same : more + count ≡ count + more = omega arith in ap (bound_after look command named) same
-
-bound_one : (look : List ℕ → Answer) (command : Command) (named : List NamedStub) (count more : ℕ) (one other : Bound) → bound_after look command named count ≡ Ok one → length one.closing.work ≤ count
-    → bound_after look command named more ≡ Ok other → length other.closing.work ≤ more → one ≡ other
-bound_one look command named count more one other p past q also =
-    same_bound one other (sym (bound_stays look command named more count one p past) ∙ together look command named count more ∙ bound_stays look command named count more other q also)
-
-graph_bound : (look : List ℕ → Answer) (command : Command) (named : List NamedStub) (paths others : List (List ℕ)) (count more : ℕ) (graph other : LibraryGraph)
-    → (p : IsGraphOf paths count graph (bound_after look command named count)) → (q : IsGraphOf others more other (bound_after look command named more)) → p.bound ≡ q.bound
-graph_bound look command named paths others count more graph other p q = bound_one look command named count more p.bound q.bound p.given_is p.done q.given_is q.done
-
-pub graph_one : (look : List ℕ → Answer) (command : Command) (named : List NamedStub) (paths others : List (List ℕ)) (count more : ℕ) (graph other : LibraryGraph)
-    → IsGraphOf paths count graph (bound_after look command named count) → IsGraphOf others more other (bound_after look command named more) → IsWhole graph → IsWhole other → graph ≡ other
-graph_one look command named paths others count more graph other p q whole also =
-    let same : p.bound ≡ q.bound = graph_bound look command named paths others count more graph other p q in
+pub graph_one : (look : List ℕ → File) (command : Command) (named : List NamedStub) (count more : ℕ) (bound second : Bound) (graph other : LibraryGraph)
+    → (bound_after command named count look).end ≡ Ok bound → (bound_after command named more look).end ≡ Ok second
+    → IsGraphOf count graph bound → IsGraphOf more other second → IsWhole graph → IsWhole other → graph ≡ other
+graph_one look command named count more bound second graph other one two p q whole also =
+    let outcomes : bound_after command named count look ≡ bound_after command named more look =
+    outcomes_one look command named count more (last_of_end count (bound_after command named count look).end bound one p.done) (last_of_end more (bound_after command named more look).end second two q.done) in
+    let same : bound ≡ second = same_value bound second (sym one ∙ ap (λ (o : Outcome Bound BindFault). o.end) outcomes ∙ two) in
     whole_one graph other whole also
     (p.libraries ∙ ap (λ (b : Bound). b.libraries) same ∙ sym q.libraries)
     (p.documents ∙ ap (λ (b : Bound). b.closing.growing.documents) same ∙ sym q.documents)
     (p.links ∙ ap (λ (b : Bound). b.closing.growing.links) same ∙ sym q.links)
 
-pub paths_one : (look : List ℕ → Answer) (command : Command) (named : List NamedStub) (paths others : List (List ℕ)) (count more : ℕ) (graph other : LibraryGraph)
-    → IsGraphOf paths count graph (bound_after look command named count) → IsGraphOf others more other (bound_after look command named more) → paths ≡ others
-paths_one look command named paths others count more graph other p q =
-    sym p.asked ∙ ap (λ (b : Bound). asked_in b.closing.growing) (graph_bound look command named paths others count more graph other p q) ∙ q.asked
-
-pub fault_one : (look : List ℕ → Answer) (command : Command) (named : List NamedStub) (count more : ℕ) (why other : Ended) → bound_after look command named count ≡ Err why → bound_after look command named more ≡ Err other → why ≡ other
-fault_one look command named count more why other p q =
-    same_end why other (sym (bound_ends look command named more count why p) ∙ together look command named count more ∙ bound_ends look command named count more other q)
-
-pub not_both_ways : (look : List ℕ → Answer) (command : Command) (named : List NamedStub) (paths : List (List ℕ)) (count more : ℕ) (graph : LibraryGraph) (why : Ended)
-    → IsGraphOf paths count graph (bound_after look command named count) → bound_after look command named more ≡ Err why → ⊥
-not_both_ways look command named paths count more graph why p q =
-    not_both p.bound why (sym (bound_stays look command named more count p.bound p.given_is p.done) ∙ together look command named count more ∙ bound_ends look command named count more why q)
-
-pub ruleset one = (whole_one, fault_one)
+pub ruleset one = (whole_one)

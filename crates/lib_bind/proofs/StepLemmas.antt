@@ -4,11 +4,14 @@ use Rattle.std.specs.List.{list_any}
 use Rattle.std.proofs.lemmas.Option.{slice_get-get_or}
 use Rattle.std.proofs.lemmas.Result.{err_from_is_err_and}
 use Rattle.mo_outside.specs.Answers.{Answer}
-use Rattle.mo_types.specs.Gives.{◌>>=◌}
-use Rattle.lib_bind.specs.Asking.{Asking, FilesSeen}
+use Rattle.file_cache.specs.Kept.{FilesSeen}
+use Rattle.file_cache.specs.Program.{File, Program, ◌>>=◌, ends}
+use Rattle.file_cache.specs.Runs.{Runs}
+use Rattle.file_cache.proofs.RunLemmas.{none_run, same_run, then_ended, then_run}
 use Rattle.tbd_doc.specs.declared.stub.StubFile.{StubFile}
-use Rattle.lib_bind.specs.Closing.{Ended, after, asked_in, begun, linked, nothing, reach, reach_all, step, target, with_file, with_files}
-use Rattle.lib_bind.specs.Closure.{IsClosing}
+use Rattle.lib_bind.specs.Closing.{IsBindFault, begun, linked, nothing, reach, reach_all, with_file, with_files}
+use Rattle.lib_bind.specs.Closure.{after, met, step, target}
+use Rattle.lib_bind.specs.inner.Closed.{IsClosing}
 use Rattle.lib_bind.specs.declared.bind_fault.BindFault.{BindFault}
 use Rattle.lib_bind.specs.declared.bind_fault.BindFault.TheVariants as fault
 use Rattle.lib_bind.specs.declared.closing.Closing.{Closing}
@@ -16,23 +19,13 @@ use Rattle.lib_bind.specs.declared.closing.Request.{Request}
 use Rattle.lib_bind.specs.declared.growing.Growing.{Growing}
 use Rattle.lib_bind.specs.declared.library.Library.{Library}
 use Rattle.lib_bind.specs.declared.sought.Target.{Target}
-use Rattle.lib_bind.proofs.AskingLemmas.{handed_on, none_asked, then_asked, then_ended, then_made}
 use Rattle.lib_bind.proofs.GrowingLemmas.{file_known}
-use Rattle.lib_bind.proofs.SoughtLemmas.{step_met}
+use Rattle.lib_bind.proofs.ProgramLemmas.{made_run}
 
 -- the request at a place
 pub request_is : (work slice : List Request) (at : ℕ) (request : Request) → slice ≡ work → at < length work → request ≡ get_or slice at request → slice_get work at ≡ Some request
 request_is work slice at request same within is =
     slice_get-get_or work at request within ∙ ap Some (sym (is ∙ ap (λ (requests : List Request). get_or requests at request) same))
-
-abbrev known_to : Target → List (List ℕ)
-known_to target = asked_in target.growing
-
-abbrev known_by : Closing → List (List ℕ)
-known_by closing = asked_in closing.growing
-
-abbrev links_of : Request → Closing → Target → Result Closing Ended
-links_of request closing there = Ok (linked request.from closing.reached closing.work there)
 
 -- to reach a document leaves those that are there
 pub reach_growing : (to : ℕ) (before : Closing) → (reach to before).growing ≡ before.growing
@@ -56,53 +49,59 @@ begun_known libraries heads files start is =
     ap (λ (c : Closing). c.growing.known) is ∙ ap (λ (g : Growing). g.known) (all_growing libraries (record { growing = with_files heads files nothing; reached = []; work = [] }))
     ∙ files_known heads files nothing
 
+-- the request at a place is met
+step_met : (root : Option (List ℕ)) (heads : List (List ℕ × ℕ)) (at : ℕ) (closing : Closing) (request : Request) (look : List ℕ → File) → slice_get closing.work at ≡ Some request
+    → step root heads at closing look ≡ met root heads (Some request) closing look
+unfolding step
+step_met root heads at closing request look is = ap (λ found. met root heads found closing look) is
+
 module _ {S : Type 0} (fetches : S → List ℕ → Answer → S → Type 0) (root : Option (List ℕ)) (heads : List (List ℕ × ℕ)) (at : ℕ) (closing : Closing) (request : Request) (old new : FilesSeen S)
     (is : slice_get closing.work at ≡ Some request) where
-  abbrev given : (List ℕ → Answer) → Result Target Ended
-  given look = target look root heads request.reexport closing.growing
+  abbrev seeks : Program Target BindFault
+  seeks = target root heads request.reexport closing.growing
 
-  handed : (result : Result Closing BindFault) → Asking fetches (known_by closing) known_by result (λ look. given look >>= links_of request closing) old new
-      → Asking fetches (known_by closing) known_by result (λ look. step look root heads at closing) old new
-  handed result asking =
-      handed_on fetches (known_by closing) known_by result (λ look. given look >>= links_of request closing) (λ look. step look root heads at closing) old new (λ look. step_met look root heads at closing request is) asking
+  abbrev links : Target → Result Closing BindFault
+  links there = Ok (linked request.from closing.reached closing.work there)
 
-  pub step_ended : (why : BindFault) (result : Result Closing BindFault) → Asking fetches (known_by closing) known_to (Err why) given old new → IsErrAnd result (λ passed. passed ≡ why)
-      → Asking fetches (known_by closing) known_by result (λ look. step look root heads at closing) old new
-  step_ended why result asking ends = handed result (then_ended fetches (known_by closing) known_to known_by why result given (λ look. links_of request closing) old new asking ends)
+  met_run : (result : Result Closing BindFault) → Runs fetches IsBindFault (seeks >>= λ there. ends (links there)) result old new → Runs fetches IsBindFault (step root heads at closing) result old new
+  met_run result runs =
+      same_run fetches IsBindFault (seeks >>= λ there. ends (links there)) (step root heads at closing) result old new (λ look. step_met root heads at closing request look is) runs
 
-  pub step_memory : (there : Target) (result : Result Closing BindFault) → Asking fetches (known_by closing) known_to (Ok there) given old new → IsErrAnd result (λ passed. passed ≡ fault.OutOfMemory)
-      → Asking fetches (known_by closing) known_by result (λ look. step look root heads at closing) old new
-  step_memory there result asking ends =
-      let passed = err_from_is_err_and result ends in
-      subst (λ (r : Result Closing BindFault). Asking fetches (known_by closing) known_by r (λ look. step look root heads at closing) old new) (sym (passed.1 ∙ ap Err passed.2))
-      (handed (Err fault.OutOfMemory) (then_made fetches (known_by closing) known_to known_by there (Err fault.OutOfMemory) given (links_of request closing) old new asking tt tt (λ kind. absurd kind)))
+  pub step_ended : (why : BindFault) (result : Result Closing BindFault) → Runs fetches IsBindFault seeks (Err why) old new → IsErrAnd result (λ passed. passed ≡ why)
+      → Runs fetches IsBindFault (step root heads at closing) result old new
+  step_ended why result runs ends_so = met_run result (then_ended fetches IsBindFault seeks (λ there. ends (links there)) why result old new runs ends_so)
 
-  pub step_linked : (there : Target) (next : Closing) → Asking fetches (known_by closing) known_to (Ok there) given old new → next ≡ linked request.from closing.reached closing.work there
-      → Asking fetches (known_by closing) known_by (Ok next) (λ look. step look root heads at closing) old new
-  step_linked there next asking links =
-      handed (Ok next) (then_made fetches (known_by closing) known_to known_by there (Ok next) given (links_of request closing) old new asking tt
-      (ap known_by links ∙ ap asked_in (reach_growing there.document _)) (ap Ok (sym links)))
+  pub step_memory : (there : Target) (result : Result Closing BindFault) → Runs fetches IsBindFault seeks (Ok there) old new → IsErrAnd result (λ passed. passed ≡ fault.OutOfMemory)
+      → Runs fetches IsBindFault (step root heads at closing) result old new
+  step_memory there result runs ends_so =
+      let passed = err_from_is_err_and result ends_so in
+      subst (λ (r : Result Closing BindFault). Runs fetches IsBindFault (step root heads at closing) r old new) (sym (passed.1 ∙ ap Err passed.2))
+      (met_run (Err fault.OutOfMemory) (made_run fetches IsBindFault seeks links there (Err fault.OutOfMemory) old new runs (λ kind. absurd kind)))
+
+  pub step_linked : (there : Target) (next : Closing) → Runs fetches IsBindFault seeks (Ok there) old new → next ≡ linked request.from closing.reached closing.work there
+      → Runs fetches IsBindFault (step root heads at closing) (Ok next) old new
+  step_linked there next runs made = met_run (Ok next) (made_run fetches IsBindFault seeks links there (Ok next) old new runs (ap Ok (sym made)))
 
 -- after some requests, the next one
 pub after_next : {S : Type 0} (fetches : S → List ℕ → Answer → S → Type 0) (root : Option (List ℕ)) (heads : List (List ℕ × ℕ)) (start closing next : Closing) (at : ℕ) (old mid new : FilesSeen S)
-    → Asking fetches [] known_by (Ok closing) (λ look. after look root heads at start) old mid → Asking fetches (known_by closing) known_by (Ok next) (λ look. step look root heads at closing) mid new
-    → Asking fetches [] known_by (Ok next) (λ look. after look root heads (at + 1) start) old new
+    → Runs fetches IsBindFault (after root heads at start) (Ok closing) old mid → Runs fetches IsBindFault (step root heads at closing) (Ok next) mid new
+    → Runs fetches IsBindFault (after root heads (at + 1) start) (Ok next) old new
 after_next fetches root heads start closing next at old mid new before here =
     let count : suc at ≡ at + 1 = omega arith in
-    subst (λ (n : ℕ). Asking fetches [] known_by (Ok next) (λ look. after look root heads n start) old new) count
-    (then_asked fetches [] (known_by closing) known_by known_by closing (Ok next) (λ look. after look root heads at start) (λ look. step look root heads at) old mid new refl before here)
+    subst (λ (n : ℕ). Runs fetches IsBindFault (after root heads n start) (Ok next) old new) count
+    (then_run fetches IsBindFault (after root heads at start) (step root heads at) closing (Ok next) old mid new before here)
 
 pub after_ended : {S : Type 0} (fetches : S → List ℕ → Answer → S → Type 0) (root : Option (List ℕ)) (heads : List (List ℕ × ℕ)) (start closing : Closing) (why : BindFault) (result : Result Closing BindFault) (at : ℕ) (old mid new : FilesSeen S)
-    → Asking fetches [] known_by (Ok closing) (λ look. after look root heads at start) old mid → Asking fetches (known_by closing) known_by (Err why) (λ look. step look root heads at closing) mid new
+    → Runs fetches IsBindFault (after root heads at start) (Ok closing) old mid → Runs fetches IsBindFault (step root heads at closing) (Err why) mid new
     → IsErrAnd result (λ passed. passed ≡ why) → IsClosing fetches root heads start result old new
-after_ended fetches root heads start closing why result at old mid new before here ends =
-    let passed = err_from_is_err_and result ends in
+after_ended fetches root heads start closing why result at old mid new before here ends_so =
+    let passed = err_from_is_err_and result ends_so in
     subst (λ (r : Result Closing BindFault). IsClosing fetches root heads start r old new) (sym (passed.1 ∙ ap Err passed.2)) (record {
       count = suc at;
-      asking = then_asked fetches [] (known_by closing) known_by known_by closing (Err why) (λ look. after look root heads at start) (λ look. step look root heads at) old mid new refl before here;
+      runs = then_run fetches IsBindFault (after root heads at start) (step root heads at) closing (Err why) old mid new before here;
       done = tt;
     })
 
-pub closing_starts : {S : Type 0} (fetches : S → List ℕ → Answer → S → Type 0) (root : Option (List ℕ)) (heads : List (List ℕ × ℕ)) (start : Closing) (seen : FilesSeen S) → start.growing.known ≡ []
-    → Asking fetches [] known_by (Ok start) (λ look. after look root heads 0 start) seen seen
-closing_starts fetches root heads start seen is = none_asked fetches [] known_by (Ok start) (λ look. after look root heads 0 start) seen tt (rw is refl) (λ look. refl)
+pub closing_starts : {S : Type 0} (fetches : S → List ℕ → Answer → S → Type 0) (root : Option (List ℕ)) (heads : List (List ℕ × ℕ)) (start : Closing) (seen : FilesSeen S)
+    → Runs fetches IsBindFault (after root heads 0 start) (Ok start) seen seen
+closing_starts fetches root heads start seen = none_run fetches IsBindFault (Ok start) (Ok start) seen refl

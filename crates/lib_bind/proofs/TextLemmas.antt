@@ -26,11 +26,11 @@ pub then_holds : {A B E : Type 0} (P : A → Type 0) (Q : B → Type 0) (r : Res
 then_holds P Q (Ok x) f holds next = next x holds
 then_holds P Q (Err e) f holds next = tt
 
-either : {A E : Type 0} (P : A → Type 0) (test : Bool) (a b : Result A E) → IfOk a P → IfOk b P → IfOk (if test then a else b) P
+pub either : {A E : Type 0} (P : A → Type 0) (test : Bool) (a b : Result A E) → IfOk a P → IfOk b P → IfOk (if test then a else b) P
 either P true a b one other = one
 either P false a b one other = other
 
-told_holds : {A E F : Type 0} (P : A → Type 0) (turn : E → F) (r : Result A E) → IfOk r P → IfOk (told turn r) P
+pub told_holds : {A E F : Type 0} (P : A → Type 0) (turn : E → F) (r : Result A E) → IfOk r P → IfOk (told turn r) P
 told_holds P turn (Ok x) holds = holds
 told_holds P turn (Err e) holds = tt
 

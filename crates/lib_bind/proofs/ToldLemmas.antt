@@ -1,29 +1,28 @@
--- What is known of paths is what the answers say.
-use Rattle.std.proofs.Common.{◌≡◌, ℕ, ◌++◌, [], List, length, Bool, true, false, Option, Some, None, Result, Ok, Err, IfOk, refl, sym, ap, ◌∙◌, subst, append_assoc, bytes_eq}
+-- What is known of paths is what stands there.
+use Rattle.std.proofs.Common.{◌≡◌, ℕ, ◌++◌, [], List, length, Bool, true, false, Option, Some, None, Ok, refl, sym, ap, ◌∙◌, subst, append_assoc, bytes_eq}
 use Rattle.std.specs.Prelude.{if◌then◌else◌}
 use Rattle.std.proofs.lemmas.List.{append-nil}
 use Rattle.std.proofs.lemmas.Slice.Eq.{bytes_eq-Decides}
 use Rattle.command_line.specs.declared.command.Command.{Command}
-use Rattle.mo_outside.specs.Answers.{Answer, There}
-use Rattle.mo_types.specs.Gives.{◌>>=◌}
+use Rattle.file_cache.specs.Program.{File, There}
 use Rattle.mo_types.specs.Scan.{option_or_else}
 use Rattle.tbd_doc.specs.declared.stub.Stub.{Stub}
 use Rattle.tbd_doc.specs.declared.stub.StubFile.{StubFile}
-use Rattle.lib_bind.specs.Closing.{Ended, after, begun, chosen_of, with_file, with_known, with_link}
-use Rattle.lib_bind.specs.Closure.{Bound, bound_after, started}
+use Rattle.lib_bind.specs.Closing.{with_file, with_known, with_link}
+use Rattle.lib_bind.specs.Closure.{Bound, bound_after}
 use Rattle.lib_bind.specs.Found.{found}
 use Rattle.lib_bind.specs.Links.{AnswerSays}
 use Rattle.lib_bind.specs.Reexported.{reexported}
-use Rattle.lib_bind.specs.declared.choosing.Chosen.{Chosen}
 use Rattle.lib_bind.specs.declared.closing.Closing.{Closing}
 use Rattle.lib_bind.specs.declared.growing.Growing.{Growing}
 use Rattle.lib_bind.specs.declared.named.NamedStub.{NamedStub}
-use Rattle.lib_bind.proofs.EndLemmas.{bound_of, ends, same_value}
+use Rattle.lib_bind.proofs.ChosenLemmas.{ok_holds}
+use Rattle.lib_bind.proofs.EndLemmas.{closed_of, made_of, start_of}
 use Rattle.lib_bind.proofs.GrowingLemmas.{found_more}
 use Rattle.lib_bind.proofs.StayLemmas.{after_stays}
 use Rattle.lib_bind.proofs.StepLemmas.{begun_known}
 
-module _ (look : List ℕ → Answer) where
+module _ (look : List ℕ → File) where
   abbrev AreTold : Growing → Type 0
   AreTold growing = (path : List ℕ) (document : Option ℕ) → found path growing.known ≡ Some document → AnswerSays look growing.documents path document
 
@@ -86,18 +85,14 @@ module _ (look : List ℕ → Answer) where
       not_there : (path : List ℕ) (document : Option ℕ) → found path [] ≡ Some document → ⊥
       not_there path document h = absurd (cc)
 
-  end_told : (chosen : Chosen) (bound : Bound) (closed : Result Closing Ended) → IfOk closed (λ (new : Closing). AreTold new.growing) → (closed >>= λ closing. Ok (bound_of chosen closing)) ≡ Ok bound → AreTold bound.closing.growing
-  end_told chosen bound (Err why) are is = absurd (cc)
-  end_told chosen bound (Ok closing) are is = subst (λ (b : Bound). AreTold b.closing.growing) (same_value (bound_of chosen closing) bound is) are
-
-  chosen_told : (command : Command) (count : ℕ) (bound : Bound) (chosen : Result Chosen Ended) → (chosen >>= ends look command count) ≡ Ok bound → AreTold bound.closing.growing
-  chosen_told command count bound (Err why) is = absurd (cc)
-  chosen_told command count bound (Ok chosen) is =
-      let start : Closing = begun chosen.libraries chosen.heads chosen.files in
-      end_told chosen bound (after look command.syslibroot chosen.heads count start)
-      (after_stays look chosen.heads AreTold (told_file chosen.heads) (λ path growing says told. known_told path None growing says told) told_link command.syslibroot count start (none_known start.growing (begun_known chosen.libraries chosen.heads chosen.files start refl))) is
-
-  pub bound_told : (command : Command) (named : List NamedStub) (count : ℕ) (bound : Bound) → bound_after look command named count ≡ Ok bound → (path : List ℕ) (document : Option ℕ) → found path bound.closing.growing.known ≡ Some document
-      → AnswerSays look bound.closing.growing.documents path document
-  unfolding bound_after
-  bound_told command named count bound is = chosen_told command count bound (started (chosen_of command named)) is
+  pub bound_told : (command : Command) (named : List NamedStub) (count : ℕ) (bound : Bound) → (bound_after command named count look).end ≡ Ok bound → (path : List ℕ) (document : Option ℕ)
+      → found path bound.closing.growing.known ≡ Some document → AnswerSays look bound.closing.growing.documents path document
+  bound_told command named count bound is =
+      let made = made_of command named count look bound is in
+      let start : Closing = start_of made.chosen in
+      let told : AreTold made.closing.growing =
+      ok_holds (λ (new : Closing). AreTold new.growing) (closed_of command count made.chosen look).end made.closing made.closing_is
+      (after_stays look made.chosen.heads AreTold (λ path bytes file growing new there read told. told_file made.chosen.heads path bytes file growing there read told)
+      (λ path growing new says told. known_told path None growing says told) told_link command.syslibroot count start
+      (none_known start.growing (begun_known made.chosen.libraries made.chosen.heads made.chosen.files start refl))) in
+      subst (λ (b : Bound). AreTold b.closing.growing) made.is told

@@ -1,11 +1,9 @@
--- The libraries that a command line names, and what they re-export, breadth first.
-use Rattle.std.specs.Prelude.{ℕ, zero, suc, ◌+◌, ◌++◌, List, [], ◌∷◌, map, length, get_or, set, slice_get, false, bytes_eq, nat_eq, nat_le, Option, None, Some, Result, Ok, Err, if◌then◌else◌}
+-- The documents of libraries, of which some are reached, and the libraries that a command line names.
+use Rattle.std.specs.Prelude.{ℕ, ◌+◌, ◌++◌, List, [], ◌∷◌, map, length, get_or, set, false, bytes_eq, nat_eq, nat_le, Option, None, Some, Result, Ok, Err, if◌then◌else◌}
 use Rattle.std.specs.List.{list_any}
 use Rattle.command_line.specs.declared.command.Command.{Command}
 use Rattle.command_line.specs.declared.command.CommandInput.{CommandInput}
 use Rattle.command_line.specs.declared.command.InputForm.TheVariants.{Path}
-use Rattle.mo_outside.specs.Answers.{Answer, There, Absent, Unread}
-use Rattle.mo_outside.specs.Answers as answer
 use Rattle.mo_types.specs.Gives.{◌>>=◌}
 use Rattle.mo_types.specs.Scan.{option_or_else}
 use Rattle.mo_types.specs.declared.answer.Refusal.TheVariants as refusal
@@ -26,7 +24,6 @@ use Rattle.lib_bind.specs.declared.named.NamedStub.{NamedStub}
 use Rattle.lib_bind.specs.declared.sought.Sought.{Sought}
 use Rattle.lib_bind.specs.declared.sought.Target.{Target}
 use Rattle.lib_bind.specs.Found.{found}
-use Rattle.lib_bind.specs.Paths.{plain_path, stub_path}
 use Rattle.lib_bind.specs.Provides.{no_document}
 use Rattle.lib_bind.specs.Reexported.{reexported}
 
@@ -57,20 +54,11 @@ with_file heads stubs growing = record {
   known = growing.known;
 }
 
--- a path was asked for
+-- what stands under a path is known: the first document of the file there, or that there is no file
 abbrev pub with_known : List ℕ → Option ℕ → Growing → Growing
 with_known path document growing = record growing { known = growing.known ++ (path, document) ∷ [] }
 
--- the paths that were asked for, in order, each once
-abbrev pub asked_in : Growing → List (List ℕ)
-asked_in growing = map (λ pair. pair.0) growing.known
-
--- WHERE A RE-EXPORTED LIBRARY IS, if files answer so
-
--- why there is no answer, and the paths that were asked for
-pub record Ended : Type 0 where
-  pub why : BindFault
-  pub asked : List (List ℕ)
+-- WHAT IS READ OF A FILE
 
 -- a fault that the libraries of a command line may have
 abbrev pub IsBindFault : BindFault → Type 0
@@ -85,54 +73,25 @@ fault_of path (Unsupported feature) = fault.Refused (refusal.Unsupported path fe
 fault_of path (Limit which) = fault.Refused (refusal.Limit which)
 fault_of path OutOfMemory = fault.OutOfMemory
 
--- the file that is there is read, and its documents come last
-abbrev pub added : List (List ℕ × ℕ) → List ℕ → Result StubFile ObjFault → Growing → Result Sought Ended
+-- the documents of a file come last
+abbrev pub added : List (List ℕ × ℕ) → List ℕ → Result StubFile ObjFault → Growing → Result Sought BindFault
 added heads path (Ok stubs) growing = Ok (record {
   document = Some (length growing.documents);
   growing = with_known path (Some (length growing.documents)) (with_file heads stubs.docs growing);
 })
-added heads path (Err why) growing = Err (record { why = fault_of path why; asked = asked_in growing ++ path ∷ [] })
+added heads path (Err why) growing = Err (fault_of path why)
 
--- A path that wasn't asked for before. An answer that lacked memory counts as that of a file that wasn't read: that row
--- only makes the table whole.
-abbrev pub sought_new : List (List ℕ × ℕ) → List ℕ → Answer → Growing → Result Sought Ended
-sought_new heads path (There bytes) growing = added heads path (reexported bytes) growing
-sought_new heads path Absent growing = Ok (record { document = None; growing = with_known path None growing })
-sought_new heads path Unread growing = Err (record { why = fault.ReadFault path; asked = asked_in growing ++ path ∷ [] })
-sought_new heads path answer.Refused growing = Err (record { why = fault.ReadFault path; asked = asked_in growing ++ path ∷ [] })
+-- the file at a path is read, where there is one
+abbrev pub read_at : List (List ℕ × ℕ) → List ℕ → Option (List ℕ) → Growing → Result Sought BindFault
+read_at heads path (Some bytes) growing = added heads path (reexported bytes) growing
+read_at heads path None growing = Ok (record { document = None; growing = with_known path None growing })
 
--- each path is asked for once
-abbrev pub sought_as : (List ℕ → Answer) → List (List ℕ × ℕ) → List ℕ → Option (Option ℕ) → Growing → Result Sought Ended
-sought_as look heads path (Some document) growing = Ok (record { document = document; growing = growing })
-sought_as look heads path None growing = sought_new heads path (look path) growing
-
--- the first document of the file at a path, where there is one
-unfoldable pub sought : (List ℕ → Answer) → List (List ℕ × ℕ) → List ℕ → Growing → Result Sought Ended
-sought look heads path growing = sought_as look heads path (found path growing.known) growing
-
--- it is missing under both of its paths, of which the first is told
-abbrev pub last_of : List ℕ → Option ℕ → Growing → Result Target Ended
+-- a library with no document under either of its paths is missing, and the first path is told
+abbrev pub last_of : List ℕ → Option ℕ → Growing → Result Target BindFault
 last_of first (Some document) growing = Ok (record { document = document; growing = growing })
-last_of first None growing = Err (record { why = fault.Refused (refusal.Missing first); asked = asked_in growing })
+last_of first None growing = Err (fault.Refused (refusal.Missing first))
 
-abbrev pub second_of : (List ℕ → Answer) → List (List ℕ × ℕ) → List ℕ → List ℕ → Option ℕ → Growing → Result Target Ended
-second_of look heads first second (Some document) growing = Ok (record { document = document; growing = growing })
-second_of look heads first second None growing = sought look heads second growing >>= λ there. last_of first there.document there.growing
-
--- the first document of the file at the first of two paths, or else at the second
-abbrev pub fetched : (List ℕ → Answer) → List (List ℕ × ℕ) → List ℕ → List ℕ → Growing → Result Target Ended
-fetched look heads first second growing =
-    sought look heads first growing >>= λ there. second_of look heads first second there.document there.growing
-
--- the document of a re-exported library
-abbrev pub target_of : (List ℕ → Answer) → Option (List ℕ) → List (List ℕ × ℕ) → List ℕ → Option ℕ → Growing → Result Target Ended
-target_of look root heads install (Some document) growing = Ok (record { document = document; growing = growing })
-target_of look root heads install None growing = fetched look heads (stub_path root install) (plain_path root install) growing
-
-unfoldable pub target : (List ℕ → Answer) → Option (List ℕ) → List (List ℕ × ℕ) → Reexport → Growing → Result Target Ended
-target look root heads reexport growing = target_of look root heads reexport.install reexport.here growing
-
--- BREADTH FIRST
+-- WHAT IS REACHED
 
 -- what a document re-exports is looked for after all that is waited for
 abbrev pub requests_of : ℕ → List Reexport → List Request
@@ -155,20 +114,6 @@ with_link from to growing = record growing { links = set growing.links from (get
 abbrev pub linked : ℕ → List ℕ → List Request → Target → Closing
 linked from reached work there =
     reach there.document (record { growing = with_link from there.document there.growing; reached = reached; work = work })
-
--- the request at a place is met
-abbrev pub met : (List ℕ → Answer) → Option (List ℕ) → List (List ℕ × ℕ) → Option Request → Closing → Result Closing Ended
-met look root heads None closing = Ok closing
-met look root heads (Some request) closing =
-    target look root heads request.reexport closing.growing >>= λ there. Ok (linked request.from closing.reached closing.work there)
-
-unfoldable pub step : (List ℕ → Answer) → Option (List ℕ) → List (List ℕ × ℕ) → ℕ → Closing → Result Closing Ended
-step look root heads at closing = met look root heads (slice_get closing.work at) closing
-
--- after so many requests, in their order
-abbrev pub after : (List ℕ → Answer) → Option (List ℕ) → List (List ℕ × ℕ) → ℕ → Closing → Result Closing Ended
-after look root heads zero closing = Ok closing
-after look root heads (suc count) closing = after look root heads count closing >>= step look root heads count
 
 -- THE NAMED LIBRARIES
 

@@ -1,4 +1,3 @@
-pub mod Asking
 pub mod Closing
 pub mod Closure
 pub mod Found

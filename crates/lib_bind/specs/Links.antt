@@ -1,7 +1,7 @@
 -- Where the libraries that a document re-exports lead to.
 use Rattle.std.specs.Prelude.{ℕ, ◌≡◌, ◌⊎◌, ◌++◌, List, [], length, get_or, slice_get, map, Option, None, Some, Ok}
 use Rattle.std.specs.List.{AllZip}
-use Rattle.mo_outside.specs.Answers.{Answer, There, Absent}
+use Rattle.file_cache.specs.Program.{File, There, Absent}
 use Rattle.tbd_doc.specs.declared.stub.Stub.{Stub}
 use Rattle.tbd_doc.specs.declared.stub.StubFile.{StubFile}
 use Rattle.lib_bind.specs.Found.{found}
@@ -30,7 +30,7 @@ pub record HasLinks (root : Option (List ℕ)) (growing : Growing) (document : �
   pub leads : AllZip (LeadsTo root growing.known) (get_or growing.reexports document []) (linked growing.links document)
 
 -- the documents of the file that is there under a path stand together, the first one at a number
-pub record IsFileAt (look : List ℕ → Answer) (documents : List Stub) (path : List ℕ) (first : ℕ) : Type 0 where
+pub record IsFileAt (look : List ℕ → File) (documents : List Stub) (path : List ℕ) (first : ℕ) : Type 0 where
   pub bytes : List ℕ
   pub there : look path ≡ There bytes
   pub file : StubFile
@@ -40,8 +40,8 @@ pub record IsFileAt (look : List ℕ → Answer) (documents : List Stub) (path :
   pub stand : documents ≡ before ++ file.docs ++ after
   pub place : length before ≡ first
 
--- what is known of a path is what the answer says: no file is there, or its first document has a number
-abbrev pub AnswerSays : (List ℕ → Answer) → List Stub → List ℕ → Option ℕ → Type 0
+-- what is known of a path is what stands there: no file, or one whose first document has a number
+abbrev pub AnswerSays : (List ℕ → File) → List Stub → List ℕ → Option ℕ → Type 0
 AnswerSays look documents path None = look path ≡ Absent
 AnswerSays look documents path (Some first) = IsFileAt look documents path first
 

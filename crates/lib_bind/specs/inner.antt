@@ -1,4 +1,5 @@
 pub mod Checked
+pub mod Closed
 pub mod Filling
 pub mod Growing
 pub mod Held

@@ -1,11 +1,9 @@
 //! The libraries of a command line.
-ghost use Rattle.std.specs.Prelude.{◌≡◌, ◌≤◌, ℕ, List, length, true, Err, IfOk};
-ghost use Rattle.mo_outside.specs.Faults.{Rises};
-ghost use Rattle.lib_bind.specs.Asking.{IsReadWell, seen};
+ghost use Rattle.std.specs.Prelude.{◌≡◌, length, true, IfOk};
+ghost use Rattle.file_cache.specs.Kept.{seen};
 ghost use Rattle.lib_bind.specs.Closure.{Closes};
 ghost use Rattle.lib_bind.specs.Graph.{AreLibraries, AreLinks, IsWhole};
 ghost use Rattle.lib_bind.specs.Named.{are_named};
-ghost use Rattle.lib_bind.specs.declared.bind_fault.BindFault.TheVariants.{ReadFault};
 
 use crate::bind_fault::BindFault;
 use crate::choosing::{Chosen, chosen_of};
@@ -15,6 +13,7 @@ use crate::libraries::Libraries;
 use crate::library::LibraryList;
 use crate::named::StubFileList;
 use command_line::Command;
+use file_cache::FileCache;
 use mo_outside::Files;
 use mo_types::OutOfMemory;
 use std::alloc::Global;
@@ -46,22 +45,21 @@ fn libraries_of(
 /// A library is dropped where an earlier one has its install name; the others have the ordinals 1, 2, 3 by position.
 /// The 241st is one too many (`Limit`). A re-exported install name is looked for among the documents of the same file,
 /// then among the first documents of the libraries that are kept, and then as a path under the root (ld(1):
-/// `-syslibroot`): the path of a stub library, and then the install name as it stands. Each path is asked for once. The
+/// `-syslibroot`): the path of a stub library, and then the install name as it stands. Files are asked for a path once, and
+/// not where the cache has it. The
 /// first one that has no answer decides: it couldn't be read (`ReadFault`), no file has it nor the other one (`Missing`
 /// with the first), or its file isn't the text of a stub library. `are_named` tests the condition.
 pub fn closure<F: Files>(
     alloc: Global,
     command: &Command,
     files: &mut F,
+    cache: &mut FileCache,
     named: StubFileList,
 ) -> Result<Libraries, BindFault>
     requires { are_named (length command.now.inputs) 0 named ≡ true }
-    ensures closes { Closes F.answers command.now named result (seen F.holds F.asked F.faults files.old) (seen F.holds F.asked F.faults files.new) }
+    ensures closes { Closes F.answers command.now named result
+        (seen F.holds F.asked F.faults files.old cache.old) (seen F.holds F.asked F.faults files.new cache.new) }
     ensures whole { IfOk result IsWhole }
-    ensures holds { F.holds files.new ≡ F.holds files.old }
-    ensures faults { F.faults files.old ≤ F.faults files.new }
-    ensures still { IsReadWell result → F.faults files.new ≡ F.faults files.old }
-    ensures failed { (path : List ℕ) → result ≡ Err (ReadFault path) → Rises (F.faults files.old) (F.faults files.new) }
 {
     let Chosen {
         libraries,
@@ -70,6 +68,6 @@ pub fn closure<F: Files>(
         ..
     } = chosen_of(alloc, command, named)?;
     let start = begun(alloc, libraries.as_slice(), &heads, kept)?;
-    let closing = closed(alloc, command, files, &heads, start)?;
+    let closing = closed(alloc, command, files, cache, &heads, start)?;
     Ok(libraries_of(alloc, libraries, closing)?)
 }

@@ -1,7 +1,6 @@
 //! The libraries that a command line names, less those whose install name an earlier one has.
-ghost use Rattle.std.specs.Prelude.{◌≡◌, ◌<◌, None, Ok, length, true};
+ghost use Rattle.std.specs.Prelude.{◌≡◌, ◌<◌, ◌≤◌, ◌*◌, ◌^◌, None, Ok, IfOk, length, true};
 ghost use Rattle.mo_types.specs.Gives.{Gives};
-ghost use Rattle.lib_bind.specs.Asking.{IsNotUnread};
 ghost use Rattle.lib_bind.specs.Closing as spec;
 ghost use Rattle.lib_bind.specs.Closing.{IsBindFault};
 ghost use Rattle.lib_bind.specs.Found.{found};
@@ -38,10 +37,12 @@ fn install_of(named: &NamedStub) -> &Bytes
 // One library more.
 fn with_library(input: &CommandInput, named: NamedStub, chosen: Chosen) -> Result<Chosen, BindFault>
     requires some { 0 < length named.file.docs }
+    requires limit { length named.file.docs < 2 ^ 32 }
     requires new { found (spec.install_of named) chosen.heads ≡ None }
     requires few { length chosen.libraries < 240 }
-    ensures read { IsNotUnread result }
+    requires sum { chosen.documents ≤ length chosen.libraries * 2 ^ 32 }
     ensures exact { Gives IsBindFault result (Ok (spec.with_library input.now named chosen)) }
+    ensures sum { IfOk result (λ next. next.documents ≤ length next.libraries * 2 ^ 32) }
 {
     let Chosen {
         mut libraries,
@@ -49,9 +50,7 @@ fn with_library(input: &CommandInput, named: NamedStub, chosen: Chosen) -> Resul
         mut files,
         documents,
     } = chosen;
-    let Some(more) = documents.checked_add(named.file.docs.len()) else {
-        return Err(BindFault::OutOfMemory);
-    };
+    let more = documents + named.file.docs.len();
     libraries.push(Library {
         position: named.position,
         ordinal: libraries.len() as u8 + 1,
@@ -74,8 +73,10 @@ fn with_library(input: &CommandInput, named: NamedStub, chosen: Chosen) -> Resul
 fn choose(command: &Command, named: NamedStub, chosen: Chosen) -> Result<Chosen, BindFault>
     requires within { named.position < length command.now.inputs }
     requires some { 0 < length named.file.docs }
-    ensures read { IsNotUnread result }
+    requires limit { length named.file.docs < 2 ^ 32 }
+    requires sum { chosen.documents ≤ length chosen.libraries * 2 ^ 32 }
     ensures exact { Gives IsBindFault result (spec.choose command.now named chosen) }
+    ensures sum { IfOk result (λ next. next.documents ≤ length next.libraries * 2 ^ 32) }
 {
     if chosen.heads.get(install_of(&named)).is_some() {
         return Ok(chosen);
@@ -92,8 +93,7 @@ fn choose(command: &Command, named: NamedStub, chosen: Chosen) -> Result<Chosen,
 /// The libraries of a command line that are kept.
 pub fn chosen_of(alloc: Global, command: &Command, named: StubFileList) -> Result<Chosen, BindFault>
     requires { are_named (length command.now.inputs) 0 named ≡ true }
-    ensures read { IsNotUnread result }
-    ensures exact { Gives IsBindFault result (spec.chosen_of command.now named) }
+    ensures { Gives IsBindFault result (spec.chosen_of command.now named) }
 {
     let mut chosen = Chosen {
         libraries: Items::new(alloc),

@@ -1,9 +1,11 @@
 //! What libraries re-export, breadth first.
 ghost use Rattle.std.specs.Prelude.{◌≡◌, ◌<◌, ◌++◌, [], ◌∷◌, get_or, set, length, All, IfOk, OnOk};
-ghost use Rattle.lib_bind.specs.Asking.{Asking, seen};
+ghost use Rattle.file_cache.specs.Kept.{seen};
+ghost use Rattle.file_cache.specs.Runs.{Runs};
 ghost use Rattle.lib_bind.specs.Closing as spec;
-ghost use Rattle.lib_bind.specs.Closing.{asked_in};
-ghost use Rattle.lib_bind.specs.Closure.{IsClosing};
+ghost use Rattle.lib_bind.specs.Closing.{IsBindFault};
+ghost use Rattle.lib_bind.specs.Closure as requests;
+ghost use Rattle.lib_bind.specs.inner.Closed.{IsClosing};
 ghost use Rattle.lib_bind.specs.inner.Held.{AreHeads, IsHeld, total};
 
 use crate::bind_fault::BindFault;
@@ -13,6 +15,7 @@ use crate::library::{Library, LinkList, NumberList};
 use crate::number_set::NumberSet;
 use crate::sought::{Target, target_of};
 use command_line::Command;
+use file_cache::FileCache;
 use mo_outside::Files;
 use mo_types::{Items, OutOfMemory};
 use std::alloc::Global;
@@ -203,11 +206,12 @@ pub fn begun(
 }
 
 // Meets the request at a place.
-#[tactic(auto, unfolding(crate::specs::Closing::step))]
+#[tactic(auto, unfolding(crate::specs::Closure::step))]
 fn step<F: Files>(
     alloc: Global,
     command: &Command,
     files: &mut F,
+    cache: &mut FileCache,
     heads: &ByName<usize>,
     at: usize,
     closing: Closing,
@@ -215,9 +219,8 @@ fn step<F: Files>(
     requires within { at < length closing.work }
     requires held { IsHeld (length closing.growing.documents) heads.now closing }
     ensures held { IfOk result (IsHeld (length closing.growing.documents) heads.now) }
-    ensures asking { Asking F.answers (asked_in closing.growing) (λ new. asked_in new.growing) result
-        (λ look. spec.step look command.now.syslibroot heads.now at closing)
-        (seen F.holds F.asked F.faults files.old) (seen F.holds F.asked F.faults files.new) }
+    ensures runs { Runs F.answers IsBindFault (requests.step command.now.syslibroot heads.now at closing) result
+        (seen F.holds F.asked F.faults files.old cache.old) (seen F.holds F.asked F.faults files.new cache.new) }
 {
     let Closing {
         growing,
@@ -226,7 +229,15 @@ fn step<F: Files>(
     } = closing;
     let request = &work.as_slice()[at];
     let from = request.from;
-    let there = target_of(alloc, command, files, heads, &request.reexport, growing)?;
+    let there = target_of(
+        alloc,
+        command,
+        files,
+        cache,
+        heads,
+        &request.reexport,
+        growing,
+    )?;
     Ok(linked(from, there, reached, work)?)
 }
 
@@ -235,19 +246,19 @@ pub fn closed<F: Files>(
     alloc: Global,
     command: &Command,
     files: &mut F,
+    cache: &mut FileCache,
     heads: &ByName<usize>,
     start: Closing,
 ) -> Result<Closing, BindFault>
-    requires known { start.growing.known ≡ [] }
-    requires held { IsHeld (length start.growing.documents) heads.now start }
+    requires { IsHeld (length start.growing.documents) heads.now start }
     ensures held { IfOk result (IsHeld (length start.growing.documents) heads.now) }
     ensures closing { IsClosing F.answers command.now.syslibroot heads.now start result
-        (seen F.holds F.asked F.faults files.old) (seen F.holds F.asked F.faults files.new) }
+        (seen F.holds F.asked F.faults files.old cache.old) (seen F.holds F.asked F.faults files.new cache.new) }
 {
     let mut closing = start;
     let mut at = 0;
     while at < closing.work.len() {
-        closing = step(alloc, command, files, heads, at, closing)?;
+        closing = step(alloc, command, files, cache, heads, at, closing)?;
         at += 1;
     }
     Ok(closing)

@@ -1,5 +1,5 @@
 //! Documents that are there, and where the libraries that they re-export are.
-ghost use Rattle.std.specs.Prelude.{◌≡◌, ◌+◌, ◌++◌, ℕ, List, [], ◌∷◌, map, None, Some, IfOk, length, bytes_eq, if◌then◌else◌};
+ghost use Rattle.std.specs.Prelude.{◌≡◌, ◌+◌, ◌<◌, ◌^◌, ◌++◌, ℕ, List, [], ◌∷◌, map, None, Some, IfOk, length, bytes_eq, if◌then◌else◌};
 ghost use Rattle.mo_types.specs.Scan.{option_or_else};
 ghost use Rattle.lib_bind.specs.Closing as spec;
 ghost use Rattle.lib_bind.specs.Found.{found};
@@ -31,7 +31,7 @@ pub struct Growing {
     pub reexports: Items<ReexportList>,
     /// For each of them the documents that it was found to re-export.
     pub links: LinkList,
-    /// The paths that were asked for, each with the first document of the file there, where there is one.
+    /// The paths that were looked at, each with the first document of the file there, where there is one.
     pub known: ByName<Option<usize>>,
 }
 
@@ -62,14 +62,12 @@ fn noted(places: ByName<usize>, name: &Bytes, number: usize) -> Result<ByName<us
 // The numbers of the documents of a file by their install names, where the first of them has a number.
 #[tactic(auto, using(crate::proofs::GrowingLemmas::placing))]
 fn places_of(alloc: Global, first: usize, stubs: &[Stub]) -> Result<ByName<usize>, OutOfMemory>
+    requires { first < 2 ^ 63 }
     ensures { IfOk result (λ places. (install : List ℕ) → found install places ≡ spec.place_in first stubs.now install) }
 {
     let mut places = ByName::new(alloc);
     for (at, stub) in stubs.iter().enumerate() {
-        let Some(number) = first.checked_add(at) else {
-            return Err(OutOfMemory);
-        };
-        places = noted(places, &stub.install, number)?;
+        places = noted(places, &stub.install, first + at)?;
     }
     Ok(places)
 }
@@ -151,7 +149,8 @@ pub fn with_file(
         links,
         known,
     } = growing;
-    let places = places_of(alloc, documents.len(), stubs.as_slice())?;
+    let first = documents.as_slice().len();
+    let places = places_of(alloc, first, stubs.as_slice())?;
     let reexports = with_reexports(alloc, heads, &places, stubs.as_slice(), reexports)?;
     let links = with_no_links(alloc, stubs.as_slice(), links)?;
     Ok(Growing {
@@ -162,7 +161,7 @@ pub fn with_file(
     })
 }
 
-/// The documents, where a path was asked for that has this one.
+/// The documents, where a path is known that has this one.
 pub fn with_known(
     path: &Bytes,
     document: Option<usize>,

@@ -1,9 +1,10 @@
 //! What the definitions mean, each on a call that does nothing.
-ghost use Rattle.std.specs.Prelude.{◌≡◌, ◌+◌, ◌≤◌, ℕ, List, length, true, Option, Some, None, Ok, Err, Contains, slice_get, get_or, []};
+ghost use Rattle.std.specs.Prelude.{◌≡◌, ◌+◌, ◌≤◌, ℕ, List, length, take, true, Option, Some, None, Ok, Contains, slice_get, get_or, []};
 ghost use Rattle.command_line.specs.declared.command.Command.{Command};
-ghost use Rattle.mo_outside.specs.Answers.{Answer};
-ghost use Rattle.lib_bind.specs.Closing.{Ended};
-ghost use Rattle.lib_bind.specs.Closure.{Bound, IsGraphOf, bound_after};
+ghost use Rattle.file_cache.specs.Program.{File};
+ghost use Rattle.file_cache.specs.Runs.{file_told};
+ghost use Rattle.mo_outside.specs.Answers.{Exchange};
+ghost use Rattle.lib_bind.specs.Closure.{Bound, IsGraphOf, IsLast, bound_after};
 ghost use Rattle.lib_bind.specs.Found.{found};
 ghost use Rattle.lib_bind.specs.Graph.{IsWhole, Leads};
 ghost use Rattle.lib_bind.specs.Links.{AnswerSays, HasLinks, HasName};
@@ -46,14 +47,25 @@ pub fn a_library_reaches_what_paths_lead_to()
 {}
 
 /// What a command line is bound to when no request is left it stays bound to, however many more are looked for; and its
-/// first fault stays too. So it is bound to one thing, or has one fault.
+/// first fault stays too. No path more is tried then.
 #[tactic(auto, using(crate::proofs::EndLemmas::ends_once))]
 pub fn what_is_bound_stays()
-    ensures bound { (look : List ℕ → Answer) (command : Command) (named : List NamedStub) (more count : ℕ) (bound : Bound)
-        → bound_after look command named count ≡ Ok bound → length bound.closing.work ≤ count
-        → bound_after look command named (more + count) ≡ Ok bound }
-    ensures ended { (look : List ℕ → Answer) (command : Command) (named : List NamedStub) (more count : ℕ) (why : Ended)
-        → bound_after look command named count ≡ Err why → bound_after look command named (more + count) ≡ Err why }
+    ensures { (look : List ℕ → File) (command : Command) (named : List NamedStub) (more count : ℕ)
+        → IsLast count (bound_after command named count look).end → bound_after command named (more + count) look ≡ bound_after command named count look }
+{}
+
+/// The paths that so many requests try are the first ones that more requests try.
+pub fn what_is_tried_goes_on()
+    ensures { (look : List ℕ → File) (command : Command) (named : List NamedStub) (more count : ℕ)
+        → (bound_after command named count look).tried
+        ≡ take (length (bound_after command named count look).tried) (bound_after command named (more + count) look).tried }
+{}
+
+/// Where files tell something of finitely many paths, and nothing stands under the others, there is an end: after some number
+/// of requests none is left, or there was a fault.
+pub fn a_finite_map_has_libraries()
+    ensures { (told : List Exchange) (command : Command) (named : List NamedStub)
+        → (count : ℕ) × IsLast count (bound_after command named count (file_told told)).end }
 {}
 
 /// Whole libraries with the same documents and links are the same: what they reach is not left open.
@@ -64,23 +76,15 @@ pub fn whole_libraries_are_one()
         → graph ≡ other }
 {}
 
-/// Files that answer in one way bind a command line to one graph of libraries, on the way to which one list of paths is
-/// asked for, or they give it one fault after one list of paths, and never both.
-#[tactic(auto, using(crate::proofs::OneLemmas::one))]
+/// By what stands under each path a command line is bound to one graph of libraries, or has one fault, and never both; and
+/// one list of paths is tried on the way there.
 pub fn what_is_bound_is_one()
-    ensures graphs { (look : List ℕ → Answer) (command : Command) (named : List NamedStub)
-        (paths others : List (List ℕ)) (count more : ℕ) (graph other : LibraryGraph)
-        → IsGraphOf paths count graph (bound_after look command named count) → IsGraphOf others more other (bound_after look command named more)
-        → IsWhole graph → IsWhole other → graph ≡ other }
-    ensures paths { (look : List ℕ → Answer) (command : Command) (named : List NamedStub)
-        (paths others : List (List ℕ)) (count more : ℕ) (graph other : LibraryGraph)
-        → IsGraphOf paths count graph (bound_after look command named count) → IsGraphOf others more other (bound_after look command named more)
-        → paths ≡ others }
-    ensures faults { (look : List ℕ → Answer) (command : Command) (named : List NamedStub) (count more : ℕ) (why other : Ended)
-        → bound_after look command named count ≡ Err why → bound_after look command named more ≡ Err other → why ≡ other }
-    ensures apart { (look : List ℕ → Answer) (command : Command) (named : List NamedStub)
-        (paths : List (List ℕ)) (count more : ℕ) (graph : LibraryGraph) (why : Ended)
-        → IsGraphOf paths count graph (bound_after look command named count) → bound_after look command named more ≡ Err why → ⊥ }
+    ensures outcomes { (look : List ℕ → File) (command : Command) (named : List NamedStub) (count more : ℕ)
+        → IsLast count (bound_after command named count look).end → IsLast more (bound_after command named more look).end
+        → bound_after command named count look ≡ bound_after command named more look }
+    ensures graphs { (look : List ℕ → File) (command : Command) (named : List NamedStub) (count more : ℕ) (bound second : Bound) (graph other : LibraryGraph)
+        → (bound_after command named count look).end ≡ Ok bound → (bound_after command named more look).end ≡ Ok second
+        → IsGraphOf count graph bound → IsGraphOf more other second → IsWhole graph → IsWhole other → graph ≡ other }
 {}
 
 /// When no request is left, each document that was reached has just the links that it re-exports: one for each install
@@ -88,19 +92,19 @@ pub fn what_is_bound_is_one()
 /// the first one of the file at the path of a stub library, or where there is no such file of the one at the path of the
 /// install name itself.
 pub fn links_are_all_reexports()
-    ensures links { (look : List ℕ → Answer) (command : Command) (named : List NamedStub) (count : ℕ) (bound : Bound) (document : ℕ)
-        → are_named (length command.inputs) 0 named ≡ true → bound_after look command named count ≡ Ok bound → length bound.closing.work ≤ count
+    ensures links { (look : List ℕ → File) (command : Command) (named : List NamedStub) (count : ℕ) (bound : Bound) (document : ℕ)
+        → are_named (length command.inputs) 0 named ≡ true → (bound_after command named count look).end ≡ Ok bound → length bound.closing.work ≤ count
         → Contains bound.closing.reached document → HasLinks command.syslibroot bound.closing.growing document }
-    ensures here { (look : List ℕ → Answer) (command : Command) (named : List NamedStub) (count : ℕ) (bound : Bound) (document number : ℕ) (reexport : Reexport)
-        → are_named (length command.inputs) 0 named ≡ true → bound_after look command named count ≡ Ok bound
+    ensures here { (look : List ℕ → File) (command : Command) (named : List NamedStub) (count : ℕ) (bound : Bound) (document number : ℕ) (reexport : Reexport)
+        → are_named (length command.inputs) 0 named ≡ true → (bound_after command named count look).end ≡ Ok bound
         → Contains (get_or bound.closing.growing.reexports document []) reexport → reexport.here ≡ Some number
         → HasName bound.closing.growing.documents number reexport.install }
 {}
 
-/// What is known of a path is what the answer said: that no file is there, or that its documents stand together, the
-/// first one at the number that is known.
+/// What is known of a path is what stands there: no file, or one whose documents stand together, the first one at the number
+/// that is known.
 pub fn what_is_known_was_answered()
-    ensures { (look : List ℕ → Answer) (command : Command) (named : List NamedStub) (count : ℕ) (bound : Bound) (path : List ℕ) (document : Option ℕ)
-        → bound_after look command named count ≡ Ok bound → found path bound.closing.growing.known ≡ Some document
+    ensures { (look : List ℕ → File) (command : Command) (named : List NamedStub) (count : ℕ) (bound : Bound) (path : List ℕ) (document : Option ℕ)
+        → (bound_after command named count look).end ≡ Ok bound → found path bound.closing.growing.known ≡ Some document
         → AnswerSays look bound.closing.growing.documents path document }
 {}

@@ -1,13 +1,16 @@
 //! Where a re-exported library is that isn't there yet.
-ghost use Rattle.std.specs.Prelude.{◌≡◌, ◌≢◌, ◌++◌, ℕ, List, [], ◌∷◌, None, Err, IfOk};
-ghost use Rattle.mo_outside.specs.Answers.{answer_of};
-ghost use Rattle.lib_bind.specs.Asking.{Asking, Follows, IsNotUnread, IsReadWell, seen};
+ghost use Rattle.std.specs.Prelude.{◌≡◌, None, Some, IfOk, length};
+ghost use Rattle.file_cache.specs.Kept.{seen};
+ghost use Rattle.file_cache.specs.Program as program;
+ghost use Rattle.file_cache.specs.Runs.{Passes, Runs};
+ghost use Rattle.mo_types.specs.Gives.{Gives};
 ghost use Rattle.lib_bind.specs.Closing as spec;
-ghost use Rattle.lib_bind.specs.Closing.{asked_in};
+ghost use Rattle.lib_bind.specs.Closing.{IsBindFault};
+ghost use Rattle.lib_bind.specs.Closure as seeking;
 ghost use Rattle.lib_bind.specs.Found.{found};
 ghost use Rattle.lib_bind.specs.Reexported.{reexported};
+ghost use Rattle.lib_bind.specs.inner.Held.{AreThere, Finds, IsOf, Meets};
 ghost use Rattle.lib_bind.specs.declared.bind_fault.BindFault.TheVariants.{ReadFault};
-ghost use Rattle.mo_outside.specs.declared.traits.FetchFault.TheVariants.{Failed};
 
 use crate::bind_fault::BindFault;
 use crate::by_name::ByName;
@@ -15,7 +18,8 @@ use crate::growing::{Growing, Reexport, with_file, with_known};
 use crate::paths::{plain_path_of, stub_path_of};
 use crate::stub_text::read_reexported;
 use command_line::Command;
-use mo_outside::{FetchFault, Files};
+use file_cache::{AskFault, FileCache, ask};
+use mo_outside::Files;
 use mo_types::{Bytes, ObjFault, Refusal};
 use std::alloc::Global;
 
@@ -49,7 +53,7 @@ fn fault_of(file: Bytes, fault: ObjFault) -> BindFault
     }
 }
 
-// Reads the file at a path, and puts its documents behind those that are there.
+// The documents of a file behind those that are there.
 #[tactic(auto, using(crate::proofs::GrowingLemmas::files))]
 fn added(
     alloc: Global,
@@ -59,9 +63,7 @@ fn added(
     growing: Growing,
 ) -> Result<Sought, BindFault>
     requires { found path.now growing.known ≡ None }
-    ensures follows { Follows (asked_in growing ++ path.now ∷ []) result (spec.added heads.now path.now (reexported bytes.now) growing) }
-    ensures adds { IfOk result (λ there. asked_in there.growing ≡ asked_in growing ++ path.now ∷ []) }
-    ensures read { IsNotUnread result }
+    ensures { Gives IsBindFault result (spec.added heads.now path.now (reexported bytes.now) growing) }
 {
     match read_reexported(alloc, bytes) {
         Ok(stubs) => {
@@ -74,75 +76,96 @@ fn added(
     }
 }
 
-// What a fetch says of a path that wasn't asked for before.
-fn answered(
+// Reads the file at a path of which nothing was known, where there is one.
+fn read_at(
     alloc: Global,
     heads: &ByName<usize>,
     path: &Bytes,
-    fetched: Result<bool, FetchFault>,
-    bytes: Vec<u8>,
+    file: Option<Bytes>,
     growing: Growing,
 ) -> Result<Sought, BindFault>
     requires { found path.now growing.known ≡ None }
-    ensures follows { Follows (asked_in growing ++ path.now ∷ []) result (spec.sought_new heads.now path.now (answer_of fetched bytes.items) growing) }
-    ensures adds { IfOk result (λ there. asked_in there.growing ≡ asked_in growing ++ path.now ∷ []) }
-    ensures well { IsReadWell result → fetched ≢ Err Failed }
-    ensures failed { (other : List ℕ) → result ≡ Err (ReadFault other) → fetched ≡ Err Failed }
+    ensures { Gives IsBindFault result (spec.read_at heads.now path.now file growing) }
 {
-    match fetched {
-        Ok(true) => added(alloc, heads, path, &Bytes::from_vec(bytes)?, growing),
-        Ok(false) => Ok(Sought {
+    match file {
+        Some(bytes) => added(alloc, heads, path, &bytes, growing),
+        None => Ok(Sought {
             document: None,
             growing: with_known(path, None, growing)?,
         }),
-        Err(FetchFault::Failed) => Err(BindFault::ReadFault {
-            path: path.clone()?,
-        }),
-        Err(FetchFault::Memory) => Err(BindFault::OutOfMemory),
     }
 }
 
-// Asks for a path that wasn't asked for before.
+// What is said of a path, where the fault tells the path.
+fn said_of(path: &Bytes, said: Result<Option<Bytes>, AskFault>) -> Result<Option<Bytes>, BindFault>
+    ensures { Passes IsBindFault (ReadFault path.now) said result }
+{
+    match said {
+        Ok(file) => Ok(file),
+        Err(AskFault::Unread) => Err(BindFault::ReadFault {
+            path: path.clone()?,
+        }),
+        Err(AskFault::OutOfMemory) => Err(BindFault::OutOfMemory),
+    }
+}
+
+// The file at a path, where there is one.
+fn file_at<F: Files>(
+    alloc: Global,
+    files: &mut F,
+    cache: &mut FileCache,
+    path: &Bytes,
+) -> Result<Option<Bytes>, BindFault>
+    ensures { Runs F.answers IsBindFault (program.file_at (ReadFault path.now) path.now) result
+        (seen F.holds F.asked F.faults files.old cache.old) (seen F.holds F.asked F.faults files.new cache.new) }
+{
+    let said = ask(alloc, files, cache, path);
+    said_of(path, said)
+}
+
+// The first document of the file at a path of which nothing is known.
 fn sought_new<F: Files>(
     alloc: Global,
     files: &mut F,
+    cache: &mut FileCache,
     heads: &ByName<usize>,
     path: &Bytes,
     growing: Growing,
 ) -> Result<Sought, BindFault>
-    requires { found path.now growing.known ≡ None }
-    ensures asking { Asking F.answers (asked_in growing) (λ there. asked_in there.growing) result
-        (λ look. spec.sought_new heads.now path.now (look path.now) growing)
-        (seen F.holds F.asked F.faults files.old) (seen F.holds F.asked F.faults files.new) }
+    requires new { found path.now growing.known ≡ None }
+    requires there { AreThere heads.now growing }
+    ensures found { IfOk result (Finds growing) }
+    ensures runs { Runs F.answers IsBindFault (seeking.sought_as heads.now path.now None growing) result
+        (seen F.holds F.asked F.faults files.old cache.old) (seen F.holds F.asked F.faults files.new cache.new) }
 {
-    let mut bytes = Vec::new(alloc);
-    let fetched = files.fetch(alloc, path.as_slice(), &mut bytes);
-    answered(alloc, heads, path, fetched, bytes, growing)
+    let file = file_at(alloc, files, cache, path)?;
+    read_at(alloc, heads, path, file, growing)
 }
 
-// The first document of the file at a path, which is asked for once.
-#[tactic(auto, unfolding(crate::specs::Closing::sought))]
+// The first document of the file at a path.
+#[tactic(auto, unfolding(crate::specs::Closure::sought))]
 fn at_path<F: Files>(
     alloc: Global,
     files: &mut F,
+    cache: &mut FileCache,
     heads: &ByName<usize>,
     path: &Bytes,
     growing: Growing,
 ) -> Result<Sought, BindFault>
-    ensures asking { Asking F.answers (asked_in growing) (λ there. asked_in there.growing) result (λ look. spec.sought look heads.now path.now growing)
-        (seen F.holds F.asked F.faults files.old) (seen F.holds F.asked F.faults files.new) }
+    requires { AreThere heads.now growing }
+    ensures found { IfOk result (Finds growing) }
+    ensures runs { Runs F.answers IsBindFault (seeking.sought heads.now path.now growing) result
+        (seen F.holds F.asked F.faults files.old cache.old) (seen F.holds F.asked F.faults files.new cache.new) }
 {
     match growing.known.get(path) {
         Some(document) => Ok(Sought { document, growing }),
-        None => sought_new(alloc, files, heads, path, growing),
+        None => sought_new(alloc, files, cache, heads, path, growing),
     }
 }
 
 // The document that stands under the second path, or the want of both.
 fn last_of(first: &Bytes, there: Sought) -> Result<Target, BindFault>
-    ensures follows { Follows (asked_in there.growing) result (spec.last_of first.now there.document there.growing) }
-    ensures adds { IfOk result (λ target. asked_in target.growing ≡ asked_in there.growing) }
-    ensures read { IsNotUnread result }
+    ensures { Gives IsBindFault result (spec.last_of first.now there.document there.growing) }
 {
     let Sought { document, growing } = there;
     match document {
@@ -157,16 +180,18 @@ fn last_of(first: &Bytes, there: Sought) -> Result<Target, BindFault>
 fn from_second<F: Files>(
     alloc: Global,
     files: &mut F,
+    cache: &mut FileCache,
     heads: &ByName<usize>,
     first: &Bytes,
     second: &Bytes,
     growing: Growing,
 ) -> Result<Target, BindFault>
-    ensures asking { Asking F.answers (asked_in growing) (λ target. asked_in target.growing) result
-        (λ look. spec.second_of look heads.now first.now second.now None growing)
-        (seen F.holds F.asked F.faults files.old) (seen F.holds F.asked F.faults files.new) }
+    requires { AreThere heads.now growing }
+    ensures found { IfOk result (Meets growing) }
+    ensures runs { Runs F.answers IsBindFault (seeking.second_of heads.now first.now second.now None growing) result
+        (seen F.holds F.asked F.faults files.old cache.old) (seen F.holds F.asked F.faults files.new cache.new) }
 {
-    let there = at_path(alloc, files, heads, second, growing)?;
+    let there = at_path(alloc, files, cache, heads, second, growing)?;
     last_of(first, there)
 }
 
@@ -174,19 +199,22 @@ fn from_second<F: Files>(
 fn second_of<F: Files>(
     alloc: Global,
     files: &mut F,
+    cache: &mut FileCache,
     heads: &ByName<usize>,
     first: &Bytes,
     second: &Bytes,
-    document: Option<usize>,
-    growing: Growing,
+    there: Sought,
 ) -> Result<Target, BindFault>
-    ensures asking { Asking F.answers (asked_in growing) (λ target. asked_in target.growing) result
-        (λ look. spec.second_of look heads.now first.now second.now document growing)
-        (seen F.holds F.asked F.faults files.old) (seen F.holds F.asked F.faults files.new) }
+    requires there { AreThere heads.now there.growing }
+    requires document { IsOf (length there.growing.documents) there.document }
+    ensures found { IfOk result (Meets there.growing) }
+    ensures runs { Runs F.answers IsBindFault (seeking.second_of heads.now first.now second.now there.document there.growing) result
+        (seen F.holds F.asked F.faults files.old cache.old) (seen F.holds F.asked F.faults files.new cache.new) }
 {
+    let Sought { document, growing } = there;
     match document {
         Some(document) => Ok(Target { document, growing }),
-        None => from_second(alloc, files, heads, first, second, growing),
+        None => from_second(alloc, files, cache, heads, first, second, growing),
     }
 }
 
@@ -194,25 +222,19 @@ fn second_of<F: Files>(
 fn fetched<F: Files>(
     alloc: Global,
     files: &mut F,
+    cache: &mut FileCache,
     heads: &ByName<usize>,
     first: &Bytes,
     second: &Bytes,
     growing: Growing,
 ) -> Result<Target, BindFault>
-    ensures asking { Asking F.answers (asked_in growing) (λ target. asked_in target.growing) result
-        (λ look. spec.fetched look heads.now first.now second.now growing)
-        (seen F.holds F.asked F.faults files.old) (seen F.holds F.asked F.faults files.new) }
+    requires { AreThere heads.now growing }
+    ensures found { IfOk result (Meets growing) }
+    ensures runs { Runs F.answers IsBindFault (seeking.fetched heads.now first.now second.now growing) result
+        (seen F.holds F.asked F.faults files.old cache.old) (seen F.holds F.asked F.faults files.new cache.new) }
 {
-    let there = at_path(alloc, files, heads, first, growing)?;
-    second_of(
-        alloc,
-        files,
-        heads,
-        first,
-        second,
-        there.document,
-        there.growing,
-    )
+    let there = at_path(alloc, files, cache, heads, first, growing)?;
+    second_of(alloc, files, cache, heads, first, second, there)
 }
 
 // The first document of the file at the paths of an install name.
@@ -220,17 +242,19 @@ fn at_paths<F: Files>(
     alloc: Global,
     command: &Command,
     files: &mut F,
+    cache: &mut FileCache,
     heads: &ByName<usize>,
     install: &Bytes,
     growing: Growing,
 ) -> Result<Target, BindFault>
-    ensures asking { Asking F.answers (asked_in growing) (λ target. asked_in target.growing) result
-        (λ look. spec.target_of look command.now.syslibroot heads.now install.now None growing)
-        (seen F.holds F.asked F.faults files.old) (seen F.holds F.asked F.faults files.new) }
+    requires { AreThere heads.now growing }
+    ensures found { IfOk result (Meets growing) }
+    ensures runs { Runs F.answers IsBindFault (seeking.target_of command.now.syslibroot heads.now install.now None growing) result
+        (seen F.holds F.asked F.faults files.old cache.old) (seen F.holds F.asked F.faults files.new cache.new) }
 {
     let first = stub_path_of(alloc, command, install.as_slice())?;
     let second = plain_path_of(alloc, command, install.as_slice())?;
-    fetched(alloc, files, heads, &first, &second, growing)
+    fetched(alloc, files, cache, heads, &first, &second, growing)
 }
 
 /// The document of a re-exported library: the one that is there, or else the first one of the file at its path.
@@ -238,16 +262,27 @@ pub fn target_of<F: Files>(
     alloc: Global,
     command: &Command,
     files: &mut F,
+    cache: &mut FileCache,
     heads: &ByName<usize>,
     reexport: &Reexport,
     growing: Growing,
 ) -> Result<Target, BindFault>
-    ensures asking { Asking F.answers (asked_in growing) (λ target. asked_in target.growing) result
-        (λ look. spec.target look command.now.syslibroot heads.now reexport.now growing)
-        (seen F.holds F.asked F.faults files.old) (seen F.holds F.asked F.faults files.new) }
+    requires there { AreThere heads.now growing }
+    requires here { IsOf (length growing.documents) reexport.now.here }
+    ensures found { IfOk result (Meets growing) }
+    ensures runs { Runs F.answers IsBindFault (seeking.target command.now.syslibroot heads.now reexport.now growing) result
+        (seen F.holds F.asked F.faults files.old cache.old) (seen F.holds F.asked F.faults files.new cache.new) }
 {
     match reexport.here {
         Some(document) => Ok(Target { document, growing }),
-        None => at_paths(alloc, command, files, heads, &reexport.install, growing),
+        None => at_paths(
+            alloc,
+            command,
+            files,
+            cache,
+            heads,
+            &reexport.install,
+            growing,
+        ),
     }
 }

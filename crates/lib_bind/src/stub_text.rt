@@ -54,13 +54,10 @@ fn text_of(alloc: Global, bytes: &Bytes) -> Result<YamlFile, ObjFault>
 }
 
 fn stubs_of(alloc: Global, file: &YamlFile) -> Result<StubFile, ObjFault>
-    requires { spec.HaveTrees file.now }
+    requires few { length file.now.docs < 2 ^ 32 }
+    requires trees { spec.HaveTrees file.now }
     ensures exact { Gives IsFileFault result (spec.stubs_of file.now) }
 {
-    // A text of fewer than 2^30 bytes has fewer documents.
-    if file.docs.len() > 0xffff_ffff {
-        return Err(ObjFault::OutOfMemory);
-    }
     match read_stubs(alloc, file) {
         Ok(stubs) => Ok(stubs),
         Err(fault) => Err(of_stub(fault)),

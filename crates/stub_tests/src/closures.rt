@@ -6,6 +6,7 @@ ghost use Rattle.std.specs.Prelude.{◌≡◌, ◌≢◌, IsTrue, All, AllPairs,
 ghost use Rattle.lib_bind.specs.Named.{are_named as are_named_by};
 
 use command_line::Command;
+use file_cache::FileCache;
 use lib_bind::{BindFault, Libraries, NamedStub, StubFileList, closure, read_stub_text};
 use mo_cmd::read_all_words;
 use mo_outside::{FileList, MemFiles};
@@ -118,7 +119,8 @@ fn closed(
     let mut calls = Items::new(alloc);
     calls.push(failing)?;
     let mut files = MemFiles::new(files, calls);
-    Ok(Some(closure(alloc, &command, &mut files, named)?))
+    let mut cache = FileCache::new(alloc);
+    Ok(Some(closure(alloc, &command, &mut files, &mut cache, named)?))
 }
 
 #[test]

@@ -1,10 +1,12 @@
 -- The numbers that are kept while libraries are fetched are those of documents.
-use Rattle.std.specs.Prelude.{ℕ, ◌≡◌, ◌+◌, ◌<◌, ◌≤◌, List, [], ◌∷◌, length, All, Contains, Option, IfSome}
+use Rattle.std.specs.Prelude.{ℕ, ◌≡◌, ◌+◌, ◌<◌, ◌≤◌, List, [], ◌∷◌, length, All, Contains, Option, Some, IfSome}
 use Rattle.tbd_doc.specs.declared.stub.StubFile.{StubFile}
 use Rattle.lib_bind.specs.Graph.{linked}
 use Rattle.lib_bind.specs.declared.closing.Closing.{Closing}
 use Rattle.lib_bind.specs.declared.closing.Request.{Request}
 use Rattle.lib_bind.specs.declared.growing.Growing.{Growing}
+use Rattle.lib_bind.specs.declared.sought.Sought.{Sought}
+use Rattle.lib_bind.specs.declared.sought.Target.{Target}
 
 -- if there is a document, it is one of so many
 abbrev pub IsOf : ℕ → Option ℕ → Type 0
@@ -44,3 +46,14 @@ pub record IsFound (growing : Growing) (document : Option ℕ) (new : Growing) :
   pub grown : IsGrown (length new.documents) new
   pub more : length growing.documents ≤ length new.documents
   pub there : IsOf (length new.documents) document
+
+abbrev pub Finds : Growing → Sought → Type 0
+Finds growing there = IsFound growing there.document there.growing
+
+abbrev pub Meets : Growing → Target → Type 0
+Meets growing there = IsFound growing (Some there.document) there.growing
+
+-- the first documents of libraries are there, and all numbers are those of documents that are
+pub record AreThere (heads : List (List ℕ × ℕ)) (growing : Growing) : Type 0 where
+  pub heads_are : AreHeads (length growing.documents) heads
+  pub grown : IsGrown (length growing.documents) growing

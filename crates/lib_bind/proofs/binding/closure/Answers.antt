@@ -4,28 +4,24 @@ use Rattle.lib_bind.specs.inner.Held.{total}
 use Rattle.lib_bind.proofs.AnsweredLemmas.{all_within, held_itself, held_libraries, held_links}
 use Rattle.lib_bind.proofs.BindingLemmas.{all_bound, from_start, no_memory, none_chosen, not_closed, not_held}
 use Rattle.lib_bind.proofs.ChosenLemmas.{whole_chosen}
-use Rattle.lib_bind.proofs.StepLemmas.{begun_known}
 use Rattle.lib_bind.proofs.binding.closure.Goals as goal
 
 pub returns-in_err-libraries-clause-closes : goal.returns-in_err-libraries-clause-closes
-returns-in_err-libraries-clause-closes g c = none_chosen g.F.Files.answers _ _ c.in_err-libraries.field-0.0 _ _ c.in_err-libraries.ensures.exact c.from_residual.ensures.1
+returns-in_err-libraries-clause-closes g c = none_chosen g.F.Files.answers c.args.command.now c.args.named _ c.in_err-libraries.field-0.0 _ c.in_err-libraries.ensures c.from_residual.ensures.1
 
 pub returns-in_err-start-clause-closes : goal.returns-in_err-start-clause-closes
-returns-in_err-start-clause-closes g c = no_memory g.F.Files.answers _ _ _ _ c.from_residual-in_err-start.ensures.1
+returns-in_err-start-clause-closes g c = no_memory g.F.Files.answers c.args.command.now c.args.named _ _ c.from_residual-in_err-start.ensures.1
 
 pub begun-requires-clause-heads : goal.begun-requires-clause-heads
-begun-requires-clause-heads g c = (whole_chosen _ c.args.command.now c.args.named c.in_ok-libraries.field-0 c.requires c.in_ok-libraries.ensures.exact).0
+begun-requires-clause-heads g c = (whole_chosen _ c.args.command.now c.args.named c.in_ok-libraries.field-0 c.requires c.in_ok-libraries.ensures).0
 
 pub begun-requires-clause-libraries : goal.begun-requires-clause-libraries
 begun-requires-clause-libraries g c =
     subst (λ (libraries : List Library). All (λ (library : Library). library.document < total c.in_ok-libraries.field-0.files) libraries) (sym c.as_slice.ensures)
-    (all_within (total c.in_ok-libraries.field-0.files) c.in_ok-libraries.field-0.libraries (whole_chosen _ c.args.command.now c.args.named c.in_ok-libraries.field-0 c.requires c.in_ok-libraries.ensures.exact).1)
+    (all_within (total c.in_ok-libraries.field-0.files) c.in_ok-libraries.field-0.libraries (whole_chosen _ c.args.command.now c.args.named c.in_ok-libraries.field-0 c.requires c.in_ok-libraries.ensures).1)
 
-pub closed-requires-clause-known : goal.closed-requires-clause-known
-closed-requires-clause-known g c = begun_known c.as_slice.result.now c.in_ok-libraries.field-0.heads c.in_ok-libraries.field-0.files _ c.in_ok-start.ensures.exact
-
-pub closed-requires-clause-held : goal.closed-requires-clause-held
-closed-requires-clause-held g c = held_itself _ _ _ c.in_ok-start.ensures.held
+pub closed-requires : goal.closed-requires
+closed-requires g c = held_itself _ _ _ c.in_ok-start.ensures.held
 
 pub libraries_of-requires-clause-links : goal.libraries_of-requires-clause-links
 libraries_of-requires-clause-links g c = held_links _ _ _ c.in_ok-closing.ensures.held
@@ -34,20 +30,20 @@ pub libraries_of-requires-clause-libraries : goal.libraries_of-requires-clause-l
 libraries_of-requires-clause-libraries g c =
     held_libraries _ _ c.in_ok-closing.closing c.in_ok-libraries.field-0.libraries c.in_ok-closing.ensures.held
     (held_libraries _ _ c.in_ok-start.start c.in_ok-libraries.field-0.libraries c.in_ok-start.ensures.held
-    (whole_chosen _ c.args.command.now c.args.named c.in_ok-libraries.field-0 c.requires c.in_ok-libraries.ensures.exact).1)
+    (whole_chosen _ c.args.command.now c.args.named c.in_ok-libraries.field-0 c.requires c.in_ok-libraries.ensures).1)
 
 pub returns-in_err-closing-clause-closes : goal.returns-in_err-closing-clause-closes
 returns-in_err-closing-clause-closes g c =
-    not_closed g.F.Files.answers _ _ c.in_ok-libraries.field-0 c.in_err-closing.field-0.0 _ _ _ c.in_ok-libraries.ensures.exact
+    not_closed g.F.Files.answers c.args.command.now c.args.named _ _ c.in_ok-libraries.field-0 c.in_err-closing.field-0.0 _ c.in_ok-libraries.ensures
     (from_start g.F.Files.answers _ c.in_ok-libraries.field-0 _ _ _ _ _ c.in_ok-start.ensures.exact c.as_slice.ensures c.in_err-closing.ensures.closing) c.from_residual-in_err-closing.ensures.1
 
 pub returns-in_err-libraries_of-clause-closes : goal.returns-in_err-libraries_of-clause-closes
 returns-in_err-libraries_of-clause-closes g c =
-    not_held g.F.Files.answers _ _ c.in_ok-libraries.field-0 c.in_ok-closing.closing _ _ _
+    not_held g.F.Files.answers c.args.command.now c.args.named _ _ c.in_ok-libraries.field-0 c.in_ok-closing.closing _ c.in_ok-libraries.ensures
     (from_start g.F.Files.answers _ c.in_ok-libraries.field-0 _ _ _ _ _ c.in_ok-start.ensures.exact c.as_slice.ensures c.in_ok-closing.ensures.closing) c.from_residual-in_err-libraries_of.ensures.1
 
 pub returns-clause-closes : goal.returns-clause-closes
 returns-clause-closes g c =
-    all_bound g.F.Files.answers _ _ c.in_ok-libraries.field-0 c.in_ok-closing.closing c.in_ok-libraries_of.field-0 _ _ c.in_ok-libraries.ensures.exact
+    all_bound g.F.Files.answers c.args.command.now c.args.named _ _ c.in_ok-libraries.field-0 c.in_ok-closing.closing c.in_ok-libraries_of.field-0 c.in_ok-libraries.ensures
     (from_start g.F.Files.answers _ c.in_ok-libraries.field-0 _ _ _ _ _ c.in_ok-start.ensures.exact c.as_slice.ensures c.in_ok-closing.ensures.closing)
     c.in_ok-libraries_of.ensures.libraries c.in_ok-libraries_of.ensures.documents c.in_ok-libraries_of.ensures.links
