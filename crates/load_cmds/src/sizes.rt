@@ -44,7 +44,8 @@ fn form_size(command: &Command) -> u128
 }
 
 fn table_size(there: PartKinds) -> u128
-    ensures { result ≡ sizes.table_size there }
+    ensures size { result ≡ sizes.table_size there }
+    ensures small { result < 2 ^ 64 }
 {
     counted(there.fixups, 16)
         + counted(there.trie, 16)
@@ -58,7 +59,7 @@ fn table_size(there: PartKinds) -> u128
 fn libraries_size(libs: &LibraryGraph, libraries: &[Library]) -> u128
     requires { All (λ library. library.document < length libs.now.documents) libraries.now }
     ensures size { result ≡ sizes.total_by (sizes.library_size libs.now) libraries.now }
-    ensures small { result ≤ length libraries.now * 2 ^ 64 }
+    ensures small { result ≤ length libraries.now * (2 ^ 63 + 2 ^ 33) }
 {
     let mut total = 0;
     for library in libraries {
@@ -70,7 +71,7 @@ fn libraries_size(libs: &LibraryGraph, libraries: &[Library]) -> u128
 #[tactic(auto, using(crate::proofs::Sums::summing))]
 fn rpaths_size(rpaths: &[Bytes]) -> u128
     ensures size { result ≡ sizes.total_by sizes.rpath_size rpaths.now }
-    ensures small { result ≤ length rpaths.now * 2 ^ 64 }
+    ensures small { result ≤ length rpaths.now * (2 ^ 63 + 2 ^ 33) }
 {
     let mut total = 0;
     for path in rpaths {
@@ -84,6 +85,7 @@ fn rpaths_size(rpaths: &[Bytes]) -> u128
 pub fn size_of_others(there: PartKinds, command: &Command, libs: &LibraryGraph) -> u128
     requires { All (λ library. library.document < length libs.now.documents) libs.now.libraries }
     ensures size { result ≡ sizes.other_size there command.now libs.now }
+    ensures small { result < 2 ^ 123 }
 {
     form_size(command)
         + table_size(there)
@@ -94,7 +96,8 @@ pub fn size_of_others(there: PartKinds, command: &Command, libs: &LibraryGraph) 
 /// The bytes of all load commands of an image other than those of its segments. It takes no memory.
 #[tactic(auto, using(crate::proofs::Documents::have_documents))]
 pub fn other_size(there: PartKinds, command: &Command, libs: &Libraries) -> u128
-    ensures { result ≡ sizes.other_size there command.now libs.now }
+    ensures size { result ≡ sizes.other_size there command.now libs.now }
+    ensures small { result < 2 ^ 123 }
 {
     size_of_others(there, command, libs.graph())
 }

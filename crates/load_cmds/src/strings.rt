@@ -11,7 +11,7 @@ use std::alloc::AllocError;
 pub fn string_command_size(fixed: u64, string: &[u8]) -> u64
     requires { fixed < 2 ^ 32 }
     ensures size { result ≡ names.string_command_size fixed string.now }
-    ensures small { result < 2 ^ 64 }
+    ensures small { result < 2 ^ 63 + 2 ^ 33 }
     ensures room { fixed + length string.now < result }
     ensures near { result ≤ fixed + length string.now + 8 }
 {

@@ -1,6 +1,7 @@
 -- Workers that are made of markers, and give them back.
 use Rattle.std.proofs.Common.{◌≡◌, ℕ, ◌+◌, ◌<◌, ◌≤◌, Bool, false, List, [], ◌∷◌, ◌++◌, All, length, get_or, map, cond, refl, sym, ◌∙◌, ap, ap₂, subst, arith}
-use Rattle.std.specs.Prelude.{sum_by}
+use Rattle.std.specs.Prelude.{sum_by, is_err, Result, Ok}
+use Rattle.mo_types.specs.declared.memory.OutOfMemory.{OutOfMemory}
 use Rattle.std.proofs.lemmas.List.{get_or-map, length-map, map-append}
 use Rattle.std.proofs.lemmas.List.Sums.{sum_by-cons, sum_by-append}
 use Rattle.mark_race.specs.Level.{HaveMarked, marks_by, gains_by}
@@ -33,11 +34,11 @@ pub ruleset freshness = (fresh_start, fresh_more, fresh_end)
 pub gathers_start : (ms : List Holding) (gained : List ℕ) → ms ≡ [] → gained ≡ [] → AreGathered [] ms gained
 gathers_start ms gained empty none_yet = record { markers_are = sym empty; all = λ x. ap (times x) none_yet; none_lost = refl }
 
-pub gathers_more : (ws more : List Worker) (w : Worker) (ms new : List Holding) (gained grown : List ℕ) → AreGathered ws ms gained → more ≡ ws ++ w ∷ [] → w.is_lost ≡ false → new ≡ ms ++ w.marker ∷ [] → grown ≡ gained ++ w.gained.items → AreGathered more new grown
-gathers_more ws more w ms new gained grown so longer kept added noted = record {
+pub gathers_more : (ws more : List Worker) (w : Worker) (ms new : List Holding) (gained grown : List ℕ) (done : Unit {0}) → AreGathered ws ms gained → more ≡ ws ++ w ∷ [] → w.notes ≡ Ok done → new ≡ ms ++ w.marker ∷ [] → grown ≡ gained ++ w.gained.items → AreGathered more new grown
+gathers_more ws more w ms new gained grown done so longer kept added noted = record {
   markers_are = markers_more ws more w ms new w.marker so.markers_are longer added refl;
   all = λ x. ap (times x) noted ∙ omega (arith, times-append x gained w.gained.items, so.all x, ap (sum_by (λ (w : Worker). times x w.gained.items)) longer, sum_one_more (λ (w : Worker). times x w.gained.items) ws w);
-  none_lost = omega (arith, so.none_lost, ap lost longer, sum_one_more (λ (w : Worker). cond w.is_lost 1 0) ws w, ap (λ b. cond {A = ℕ} b 1 0) kept);
+  none_lost = omega (arith, so.none_lost, ap lost longer, sum_one_more (λ (w : Worker). cond (is_err w.notes) 1 0) ws w, ap (λ (notes : Result (Unit {0}) OutOfMemory). cond {A = ℕ} (is_err notes) 1 0) kept);
 }
 
 pub gathers_end : (ws all : List Worker) (ms : List Holding) (gained : List ℕ) → AreGathered ws ms gained → ws ≡ all → AreGathered all ms gained

@@ -1,6 +1,6 @@
 -- What workers mark, one atom after the other.
 use Rattle.std.proofs.Common.{◌≡◌, ℕ, ◌+◌, ◌<◌, ◌≤◌, Bool, true, false, List, [], ◌∷◌, ◌++◌, All, length, get_or, take, map, cond, refl, sym, ◌∙◌, ap, ap₂, subst, arith}
-use Rattle.std.specs.Prelude.{sum_by, count_by}
+use Rattle.std.specs.Prelude.{sum_by, count_by, is_err}
 use Rattle.std.specs.List.{flat_map, range_with_len}
 use Rattle.std.specs.List.Sorted.{IsPermutation}
 use Rattle.std.proofs.lemmas.List.{get_or-map, length-map, take_all, take_more}
@@ -44,7 +44,7 @@ marked_after a b first mid last one two = record {
 }
 
 -- a mark of an atom that was marked before
-pub marked_old : (atom : ℕ) (before after : Worker) (is_new : Bool) → is_new ≡ false → after.marker ≡ record before.marker { marks = before.marker.marks ++ atom ∷ []; gains = before.marker.gains ++ cond is_new (atom ∷ []) [] } → after.gained.items ≡ before.gained.items → after.is_lost ≡ before.is_lost
+pub marked_old : (atom : ℕ) (before after : Worker) (is_new : Bool) → is_new ≡ false → after.marker ≡ record before.marker { marks = before.marker.marks ++ atom ∷ []; gains = before.marker.gains ++ cond is_new (atom ∷ []) [] } → after.gained.items ≡ before.gained.items → is_err after.notes ≡ is_err before.notes
     → HasMarked (atom ∷ []) before after
 marked_old atom before after is_new old is kept lost_is = record {
   race = ap (λ (m : Holding). m.race) is;
@@ -58,7 +58,7 @@ marked_old atom before after is_new old is kept lost_is = record {
 }
 
 -- a mark of a new atom, which is noted unless the note is lost
-pub marked_new : (atom : ℕ) (before after : Worker) (is_new : Bool) → is_new ≡ true → after.marker ≡ record before.marker { marks = before.marker.marks ++ atom ∷ []; gains = before.marker.gains ++ cond is_new (atom ∷ []) [] } → (after.is_lost ≡ false → (before.is_lost ≡ false) × (after.gained.items ≡ before.gained.items ++ atom ∷ []))
+pub marked_new : (atom : ℕ) (before after : Worker) (is_new : Bool) → is_new ≡ true → after.marker ≡ record before.marker { marks = before.marker.marks ++ atom ∷ []; gains = before.marker.gains ++ cond is_new (atom ∷ []) [] } → (is_err after.notes ≡ false → (is_err before.notes ≡ false) × (after.gained.items ≡ before.gained.items ++ atom ∷ []))
     → HasMarked (atom ∷ []) before after
 marked_new atom before after is_new new is kept = record {
   race = ap (λ (m : Holding). m.race) is;
@@ -102,8 +102,8 @@ none_of : (b : Bool) (n : ℕ) → cond {A = ℕ} b 1 0 + n ≡ 0 → b ≡ fals
 none_of true n e = absurd (omega arith)
 none_of false n e = refl
 
-lost_cons : (w : Worker) (ws : List Worker) → lost (w ∷ ws) ≡ cond w.is_lost 1 0 + lost ws
-lost_cons w ws = sum_by-cons (λ (u : Worker). cond u.is_lost 1 0) w ws
+lost_cons : (w : Worker) (ws : List Worker) → lost (w ∷ ws) ≡ cond (is_err w.notes) 1 0 + lost ws
+lost_cons w ws = sum_by-cons (λ (u : Worker). cond (is_err u.notes) 1 0) w ws
 
 module _ {Piece : Type 0} (Step : Worker → ℕ → Piece → Worker → Type 0) (rows : ℕ → List ℕ) (has : (before : Worker) (job : ℕ) (piece : Piece) (after : Worker) → Step before job piece after → HasMarked (rows job) before after) where
   -- what some runs marked
@@ -141,8 +141,8 @@ module _ {Piece : Type 0} (Step : Worker → ℕ → Piece → Worker → Type 0
         gains = λ x. omega (arith, one.gains x, rest.gains x, times-append x one.new rest.new, sum_by-cons (λ (w : Worker). times x w.marker.gains) s seats, sum_by-cons (λ (w : Worker). times x w.marker.gains) e ends);
         few = λ x. omega (arith, one.few x, rest.few x, both x, times-append x one.new rest.new);
         noted = λ none_lost x.
-            let split : cond {A = ℕ} e.is_lost 1 0 + lost ends ≡ 0 = sym (lost_cons e ends) ∙ none_lost in
-            let mine : e.is_lost ≡ false = none_of e.is_lost (lost ends) split in
+            let split : cond {A = ℕ} (is_err e.notes) 1 0 + lost ends ≡ 0 = sym (lost_cons e ends) ∙ none_lost in
+            let mine : is_err e.notes ≡ false = none_of (is_err e.notes) (lost ends) split in
             omega (arith, one.noted mine x, rest.noted (omega (arith, split)) x, times-append x one.new rest.new, sum_by-cons (λ (w : Worker). times x w.gained.items) s seats, sum_by-cons (λ (w : Worker). times x w.gained.items) e ends);
       }
 

@@ -12,12 +12,12 @@ use par_work::{Task, fan};
 use std::alloc::Global;
 use std::thread::Threads;
 
-/// A marker at work: the numbers that it gained, and whether memory was wanted for one of them.
+/// A marker at work: the numbers that it gained, and whether each of them was noted.
 #[derive(Drop)]
 pub(crate) struct Worker {
     pub(crate) marker: Marker,
     pub(crate) gained: Vec<u32>,
-    pub(crate) is_lost: bool,
+    pub(crate) notes: Result<(), OutOfMemory>,
 }
 
 // Marks an atom, and notes it if it is new.
@@ -31,7 +31,7 @@ fn mark_one(race: &MarkRace, worker: &mut Worker, atom: u32)
     }
     match worker.gained.push(atom) {
         Ok(()) => {}
-        Err(_) => worker.is_lost = true,
+        Err(fault) => worker.notes = Err(fault.into()),
     }
 }
 
@@ -86,7 +86,7 @@ fn workers_of(alloc: Global, markers: Vec<Marker>) -> Result<Vec<Worker>, OutOfM
         workers.push(Worker {
             marker,
             gained: Vec::new(alloc),
-            is_lost: false,
+            notes: Ok(()),
         })?;
     }
     Ok(workers)
@@ -103,11 +103,9 @@ fn gathered(alloc: Global, workers: Vec<Worker>) -> Result<(Vec<Marker>, Vec<u32
         let Worker {
             marker,
             mut gained,
-            is_lost,
+            notes,
         } = worker;
-        if is_lost {
-            return Err(OutOfMemory);
-        }
+        notes?;
         markers.push(marker)?;
         all.append(&mut gained)?;
     }

@@ -1,6 +1,6 @@
 //! The members' numbers, by the places of their headers.
 
-ghost use Rattle.std.specs.Prelude.{◌≡◌, ◌+◌, ◌/◌, ◌<◌, ◌≤◌, length, IfOk, IfSome};
+ghost use Rattle.std.specs.Prelude.{◌≡◌, ◌+◌, ◌/◌, ◌^◌, ◌<◌, ◌≤◌, length, IfOk, IfSome};
 ghost use Rattle.mo_ar.specs.inner.Tables.{IsRising};
 ghost use Rattle.mo_ar.specs.inner.Tables as tables;
 ghost use Rattle.mo_ar.specs.Places as numbers;
@@ -12,7 +12,10 @@ use std::alloc::Global;
 // No two headers begin in as many bytes.
 const HEADER_SIZE: usize = 60;
 
-/// A table from places to numbers, for headers that stand apart in a file of this size.
+// A pair's place has 32 bits (`mach-o/ranlib.h`: ran_off).
+const PLACE_LIMIT: usize = 1 << 32;
+
+/// A table from the places that a pair may have to numbers, for headers that stand apart in a file of this size.
 #[tactic(auto, using(crate::proofs::PlaceLemmas::fills))]
 pub fn numbered(alloc: Global, places: &[usize], size: usize) -> Result<Vec<u32>, OutOfMemory>
     requires { IsRising size places.now }
@@ -20,9 +23,10 @@ pub fn numbered(alloc: Global, places: &[usize], size: usize) -> Result<Vec<u32>
 {
     let mut cells = vec![in alloc; 0; size / HEADER_SIZE + 1]?;
     for (i, place) in places.iter().enumerate() {
-        let Ok(number) = u32::try_from(i + 1) else {
-            return Err(OutOfMemory);
-        };
+        if *place >= PLACE_LIMIT {
+            return Ok(cells);
+        }
+        let number = (i + 1) as u32;
         cells[*place / HEADER_SIZE] = number;
     }
     Ok(cells)
@@ -41,7 +45,8 @@ fn stands(places: &[usize], number: u32, at: usize) -> bool
 #[tactic(auto, using(crate::proofs::PlaceLemmas::finds))]
 #[inline(always)]
 pub fn number_of(cells: &[u32], places: &[usize], at: usize) -> Option<u32>
-    requires { IsNumbered cells.now places.now }
+    requires numbered { IsNumbered cells.now places.now }
+    requires near { at < 2 ^ 32 }
     ensures { result ≡ numbers.number_of places.now at }
 {
     let cell = at / HEADER_SIZE;

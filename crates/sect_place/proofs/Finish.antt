@@ -20,12 +20,6 @@ use Rattle.sect_place.specs.declared.size.PlaceFault.{PlaceFault}
 use Rattle.sect_place.specs.declared.size.PlaceSizes.{PlaceSizes}
 use Rattle.sect_place.proofs.Narrow.{capped_same, groups_places_narrow, groups_sections_narrow, groups_segments_narrow, file_within, lead_within, few_sections}
 
-pub lead_fits : (kept : List Atom) (sections sections' : List OutSection) (slots : Slots) (islands : IslandPlan) (sizes : PlaceSizes) (command : Command) (bytes' : MadeBytes) (groups' groups'' : List Group) → sections' ≡ sections → bytes' ≡ made_bytes slots sizes → groups' ≡ groups_of sections' bytes' → groups'' ≡ groups' → end_of_image (plan_of kept sections slots islands sizes command) < 2 ^ 127 → lead_of groups'' sizes command < 2 ^ 127
-unfolding plan_of
-lead_fits kept sections sections' slots islands sizes command bytes' groups' groups'' s m g g' fits =
-    let within = lead_within (spaced kept islands.areas (area_unit sections)) (base_of command) (lead_of (groups_of sections (made_bytes slots sizes)) sizes command) sections (made_bytes slots sizes) in
-    rw (g', g, m, s) (omega (arith, within, fits))
-
 pub plan_is : (kept kept' : List Atom) (sections sections' : List OutSection) (slots : Slots) (islands : IslandPlan) (sizes : PlaceSizes) (command : Command) (areas' : List IslandArea) (unit' : ℕ) (groups' groups'' : List Group) (base' lead' : ℕ) (bytes' : MadeBytes) → kept' ≡ kept → sections' ≡ sections → areas' ≡ islands.areas → unit' ≡ area_unit sections' → bytes' ≡ made_bytes slots sizes → groups' ≡ groups_of sections' bytes' → base' ≡ base_of command → groups'' ≡ groups' → lead' ≡ lead_of groups'' sizes command → (let p : Plan = record { atoms = spaced kept' areas' unit'; groups = groups'; base = base'; lead = lead' } in p) ≡ plan_of kept sections slots islands sizes command
 unfolding plan_of
 plan_is kept kept' sections sections' slots islands sizes command areas' unit' groups' groups'' base' lead' bytes' k s a u m g b g' l = rw (l, g', b, g, m, u, a, s, k) refl

@@ -88,7 +88,7 @@ parts_sections_narrow atoms start file at (part ∷ parts) begun before low =
     let next : start ≤ part_end atoms at part = omega (arith, bounds.0, bounds.1) in
     ap₂ (λ (p : PlacedSection) (ps : List PlacedSection). p ∷ ps) (section_narrow atoms start file at part begun before here) (parts_sections_narrow atoms start file (part_end atoms at part) parts next before low)
 
-next_file : (atoms : List AtomKey → List Atom) (at file lead : ℕ) (group : Group) → file ≤ at → file + file_bytes atoms at lead group ≤ page_up (group_end atoms at lead group)
+pub next_file : (atoms : List AtomKey → List Atom) (at file lead : ℕ) (group : Group) → file ≤ at → file + file_bytes atoms at lead group ≤ page_up (group_end atoms at lead group)
 unfolding file_bytes
 next_file atoms at file lead group before =
     let bounds = group_bounds atoms at lead group.parts in

@@ -7,6 +7,7 @@ use Rattle.std.proofs.lemmas.List.{take_at, drop_at}
 use Rattle.std.proofs.lemmas.Slice.Eq.{bytes_eq-Decides}
 use Rattle.list_lemmas.proofs.Members.{all_at}
 use Rattle.command_line.specs.declared.command.Command.{Command}
+use Rattle.mo_types.specs.Whole.{is_zerofill}
 use Rattle.mo_types.specs.declared.atom.Atom.{Atom}
 use Rattle.mo_types.specs.declared.key.AtomKey.{AtomKey}
 use Rattle.mo_types.specs.declared.out_section.OutSection.{OutSection}
@@ -23,6 +24,7 @@ use Rattle.sect_place.specs.declared.part.Choice.TheVariants.{Elsewhere}
 use Rattle.sect_place.specs.declared.part.Group.{Group}
 use Rattle.sect_place.specs.declared.part.Part.{Part}
 use Rattle.sect_place.specs.declared.size.PlaceFault.{PlaceFault}
+use Rattle.sect_place.proofs.Narrow.{file_within, next_file}
 use Rattle.sect_place.proofs.Spread.{part_bounds, parts_after, group_bounds, groups_after}
 
 -- ---- lists
@@ -120,15 +122,15 @@ led atoms at file lead first groups last named others end =
 
 -- ---- pages
 
-pages : (atoms : List AtomKey → List Atom) (at file lead : ℕ) (groups : List Group) → ((count : ℕ) × (at ≡ count * 0x4000)) → groups_end atoms at lead groups < 2 ^ 63 → AllByRecursion IsWholeSegment (groups_segments atoms at file lead groups)
-unfolding groups_end groups_segments segment_of
-pages atoms at file lead [] page low = tt
-pages atoms at file lead (group ∷ groups) page low =
+pages : (atoms : List AtomKey → List Atom) (at file lead : ℕ) (groups : List Group) → file ≤ at → ((count : ℕ) × (at ≡ count * 0x4000)) → groups_end atoms at lead groups < 2 ^ 63 → AllByRecursion IsWholeSegment (groups_segments atoms at file lead groups)
+unfolding groups_end groups_segments segment_of file_bytes
+pages atoms at file lead [] before page low = tt
+pages atoms at file lead (group ∷ groups) before page low =
     let bounds = group_bounds atoms at lead group.parts in
     let next = page_up (group_end atoms at lead group) in
     let later = groups_after atoms next 0 groups in (
-      record { page = page; small = omega (arith, bounds.0, bounds.3) },
-      pages atoms next (file + file_bytes atoms at lead group) 0 groups (aligned_least 14 (group_end atoms at lead group)).whole low,
+      record { page = page; small = omega (arith, bounds.0, bounds.3); file = before; file_bytes = omega (arith, bounds.5) },
+      pages atoms next (file + file_bytes atoms at lead group) 0 groups (next_file atoms at file lead group before) (aligned_least 14 (group_end atoms at lead group)).whole low,
     )
 
 end_page : (atoms : List AtomKey → List Atom) (at lead : ℕ) (groups : List Group) → ((count : ℕ) × (at ≡ count * 0x4000)) → (count : ℕ) × (groups_end atoms at lead groups ≡ count * 0x4000)
@@ -201,50 +203,77 @@ in_segments atoms at file lead (group ∷ groups) last none =
     (parts_in atoms at file (at + lead) at (at + (next - at)) group.parts (omega arith) (omega (arith, bounds.0, bounds.3)))
     (in_segments atoms next file' 0 groups last none)
 
+-- ---- places in the file
+
+abbrev IsLow : PlacedSection → Type 0
+IsLow placed = placed.file_offset ≤ placed.address
+
+parts_low : (atoms : List AtomKey → List Atom) (start file at : ℕ) (parts : List Part) → file ≤ start → start ≤ at → AllByRecursion IsLow (parts_sections atoms start file at parts)
+unfolding parts_sections placed_section
+parts_low atoms start file at [] before begins = tt
+parts_low atoms start file at (part ∷ parts) before begins =
+    let bounds = part_bounds atoms at part in
+    let rest = parts_low atoms start file (part_end atoms at part) parts before (omega (arith, begins, bounds.0, bounds.1)) in
+    elim (cases_Bool (is_zerofill part.section.kind)) [
+      | inl zero ↦ rw zero (omega arith, rest)
+      | inr filled ↦ rw filled (omega (arith, before, begins, bounds.0), rest)
+    ]
+
+groups_low : (atoms : List AtomKey → List Atom) (at file lead : ℕ) (groups : List Group) → file ≤ at → AllByRecursion IsLow (groups_sections atoms at file lead groups)
+unfolding groups_sections
+groups_low atoms at file lead [] before = tt
+groups_low atoms at file lead (group ∷ groups) before =
+    all_join IsLow (parts_sections atoms at file (at + lead) group.parts) (groups_sections atoms (page_up (group_end atoms at lead group)) (file + file_bytes atoms at lead group) 0 groups)
+    (parts_low atoms at file (at + lead) group.parts before (omega arith))
+    (groups_low atoms (page_up (group_end atoms at lead group)) (file + file_bytes atoms at lead group) 0 groups (next_file atoms at file lead group before))
+
 -- ---- the layout
 
 record IsSound (segments : List Segment) (sections : List PlacedSection) : Type 0 where
+  pub low : AllByRecursion IsLow sections
   pub text : AreLedByText segments
   pub whole : AllByRecursion IsWholeSegment segments
   pub turned : AreInTurn segments
   pub within : AreInSegments segments sections
 
-middle_sound : (atoms : List AtomKey → List Atom) (base lead file : ℕ) (sections : List OutSection) (bytes : MadeBytes) → ((count : ℕ) × (base ≡ count * 0x4000)) → groups_end atoms base lead (groups_of sections bytes) < 2 ^ 63 → IsSound (groups_segments atoms base 0 lead (groups_of sections bytes) ++ linkedit (groups_end atoms base lead (groups_of sections bytes)) file ∷ []) (groups_sections atoms base 0 lead (groups_of sections bytes))
-middle_sound atoms base lead file sections bytes page low =
+middle_sound : (atoms : List AtomKey → List Atom) (base lead file : ℕ) (sections : List OutSection) (bytes : MadeBytes) → ((count : ℕ) × (base ≡ count * 0x4000)) → groups_end atoms base lead (groups_of sections bytes) < 2 ^ 63 → file ≤ groups_end atoms base lead (groups_of sections bytes) → IsSound (groups_segments atoms base 0 lead (groups_of sections bytes) ++ linkedit (groups_end atoms base lead (groups_of sections bytes)) file ∷ []) (groups_sections atoms base 0 lead (groups_of sections bytes))
+middle_sound atoms base lead file sections bytes page low within =
     let groups = groups_of sections bytes in
     let last = linkedit (groups_end atoms base lead groups) file in
     record {
+      low = groups_low atoms base 0 lead groups (omega arith);
       text = subst (λ (gs : List Group). AreLedByText (groups_segments atoms base 0 lead gs ++ last ∷ [])) (sym (groups_split sections bytes)) (led atoms base 0 lead (record { name = codes "__TEXT"; parts = text_parts sections bytes }) (later_groups sections bytes) last refl (later_others sections bytes) last_name);
-      whole = all_join IsWholeSegment (groups_segments atoms base 0 lead groups) (last ∷ []) (pages atoms base 0 lead groups page low) (record { page = end_page atoms base lead groups page; small = omega (arith, low) }, tt);
+      whole = all_join IsWholeSegment (groups_segments atoms base 0 lead groups) (last ∷ []) (pages atoms base 0 lead groups (omega arith) page low) (record { page = end_page atoms base lead groups page; small = omega (arith, low); file = within; file_bytes = omega arith }, tt);
       turned = turns atoms base 0 lead groups last refl;
       within = in_segments atoms base 0 lead groups last refl;
     }
 
 with_pagezero : (segments : List Segment) (sections : List PlacedSection) → IsSound segments sections → Starts (2 ^ 32) segments → IsSound (pagezero ∷ segments) sections
 with_pagezero segments sections sound start = record {
+  low = sound.low;
   text = inr (refl, sound.text);
-  whole = (record { page = (0, refl); small = omega arith }, sound.whole);
+  whole = (record { page = (0, refl); small = omega arith; file = omega arith; file_bytes = omega arith }, sound.whole);
   turned = turn pagezero segments start sound.turned;
   within = (omega arith, (λ k d low. absurd (omega arith)), sound.within);
 }
 
-sound_by : (dylib : Bool) (atoms : List AtomKey → List Atom) (base lead file : ℕ) (sections : List OutSection) (bytes : MadeBytes) → base ≡ (if dylib then 0 else 2 ^ 32) → groups_end atoms base lead (groups_of sections bytes) < 2 ^ 63 → IsSound ((if dylib then [] else pagezero ∷ []) ++ groups_segments atoms base 0 lead (groups_of sections bytes) ++ linkedit (groups_end atoms base lead (groups_of sections bytes)) file ∷ []) (groups_sections atoms base 0 lead (groups_of sections bytes))
-sound_by true atoms base lead file sections bytes e low = middle_sound atoms base lead file sections bytes (0, e) low
-sound_by false atoms base lead file sections bytes e low =
+sound_by : (dylib : Bool) (atoms : List AtomKey → List Atom) (base lead file : ℕ) (sections : List OutSection) (bytes : MadeBytes) → base ≡ (if dylib then 0 else 2 ^ 32) → groups_end atoms base lead (groups_of sections bytes) < 2 ^ 63 → file ≤ groups_end atoms base lead (groups_of sections bytes) → IsSound ((if dylib then [] else pagezero ∷ []) ++ groups_segments atoms base 0 lead (groups_of sections bytes) ++ linkedit (groups_end atoms base lead (groups_of sections bytes)) file ∷ []) (groups_sections atoms base 0 lead (groups_of sections bytes))
+sound_by true atoms base lead file sections bytes e low within = middle_sound atoms base lead file sections bytes (0, e) low within
+sound_by false atoms base lead file sections bytes e low within =
     with_pagezero (groups_segments atoms base 0 lead (groups_of sections bytes) ++ linkedit (groups_end atoms base lead (groups_of sections bytes)) file ∷ []) (groups_sections atoms base 0 lead (groups_of sections bytes))
-    (middle_sound atoms base lead file sections bytes (262144, e) low)
+    (middle_sound atoms base lead file sections bytes (262144, e) low within)
     (starts atoms (2 ^ 32) base 0 lead (groups_of sections bytes) (linkedit (groups_end atoms base lead (groups_of sections bytes)) file) (omega (arith, e)) refl)
 
 whole_from : (layout : Layout) (segments : List Segment) (sections : List PlacedSection) → layout.segments ≡ segments → layout.sections ≡ sections → IsSound segments sections → IsWholeLayout layout
 whole_from layout segments sections e f sound =
     let here : IsSound layout.segments layout.sections = subst (λ (ss : List Segment). IsSound ss layout.sections) (sym e) (subst (λ (ps : List PlacedSection). IsSound segments ps) (sym f) sound) in
-    record { text = here.text; segments = all_of IsWholeSegment layout.segments here.whole; in_turn = here.turned; sections = here.within }
+    record { text = here.text; segments = all_of IsWholeSegment layout.segments here.whole; in_turn = here.turned; sections = here.within; files = all_of IsLow layout.sections here.low }
 
 pub whole_finished : (command : Command) (plan : Plan) (sections : List OutSection) (bytes : MadeBytes) (r : Result Layout PlaceFault) → plan.base ≡ base_of command → plan.base ≤ 2 ^ 32 → plan.groups ≡ groups_of sections bytes → IfOk r (λ (layout : Layout). layout.segments ≡ image_segments command plan) → IfOk r (λ (layout : Layout). layout.sections ≡ image_sections plan) → MatchResult r (λ (layout : Layout). image_size plan < 2 ^ 32) (IsTooLarge (image_size plan)) → IfOk r IsWholeLayout
 unfolding image_segments image_sections
 whole_finished command plan sections bytes (Ok layout) based low arranged segments sects size =
     let small : groups_end plan.atoms plan.base plan.lead plan.groups < 2 ^ 63 = omega (arith, size, low) in
-    let sound = sound_by command.dylib plan.atoms plan.base plan.lead (groups_file plan.atoms plan.base 0 plan.lead plan.groups) sections bytes based (subst (λ (gs : List Group). groups_end plan.atoms plan.base plan.lead gs < 2 ^ 63) arranged small) in
+    let sound = sound_by command.dylib plan.atoms plan.base plan.lead (groups_file plan.atoms plan.base 0 plan.lead plan.groups) sections bytes based (subst (λ (gs : List Group). groups_end plan.atoms plan.base plan.lead gs < 2 ^ 63) arranged small) (subst (λ (gs : List Group). groups_file plan.atoms plan.base 0 plan.lead plan.groups ≤ groups_end plan.atoms plan.base plan.lead gs) arranged (file_within plan.atoms plan.base 0 plan.lead plan.groups (omega arith))) in
     let file = groups_file plan.atoms plan.base 0 plan.lead plan.groups in
     whole_from layout (first_segments command ++ groups_segments plan.atoms plan.base 0 plan.lead plan.groups ++ linkedit (groups_end plan.atoms plan.base plan.lead plan.groups) file ∷ []) (groups_sections plan.atoms plan.base 0 plan.lead plan.groups) segments sects
     (subst (λ (gs : List Group). IsSound (first_segments command ++ groups_segments plan.atoms plan.base 0 plan.lead gs ++ linkedit (groups_end plan.atoms plan.base plan.lead gs) file ∷ []) (groups_sections plan.atoms plan.base 0 plan.lead gs)) (sym arranged) sound)

@@ -1,14 +1,17 @@
 -- A layout that can be written (`loader.h`: segment_command_64, section_64): one segment `__TEXT`, nothing but
--- `__PAGEZERO` before it, segments at multiples of a page and one behind the other, and each section in its segment.
+-- `__PAGEZERO` before it, segments at multiples of a page and one behind the other, each section in its segment, and
+-- nothing farther from the start of the file than from that of memory.
 use Rattle.std.specs.Prelude.{ℕ, ◌≡◌, ◌≢◌, ◌+◌, ◌*◌, ◌<◌, ◌≤◌, ◌^◌, ◌⊎◌, List, [], ◌∷◌, length, take, drop, codes, All}
 use Rattle.sect_place.specs.declared.layout.Layout.{Layout}
 use Rattle.sect_place.specs.declared.layout.PlacedSection.{PlacedSection}
 use Rattle.sect_place.specs.declared.layout.Segment.{Segment}
 
--- a segment whose memory is whole pages of 0x4000 bytes, below 2^63
+-- a segment whose memory is whole pages of 0x4000 bytes, below 2^63, and which has no more bytes in the file than there
 pub record IsWholeSegment (segment : Segment) : Type 0 where
   pub page : (count : ℕ) × (segment.address ≡ count * 0x4000)
   pub small : segment.address + segment.vmsize < 2 ^ 63
+  pub file : segment.file_offset ≤ segment.address
+  pub file_bytes : segment.file_size ≤ segment.vmsize
 
 -- one segment `__TEXT`, behind nothing but `__PAGEZERO`
 abbrev pub AreLedByText : List Segment → Type 0
@@ -38,3 +41,4 @@ pub record IsWholeLayout (layout : Layout) : Type 0 where
   pub segments : All IsWholeSegment layout.segments
   pub in_turn : AreInTurn layout.segments
   pub sections : AreInSegments layout.segments layout.sections
+  pub files : All (λ placed. placed.file_offset ≤ placed.address) layout.sections

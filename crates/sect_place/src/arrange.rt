@@ -1,8 +1,7 @@
-ghost use Rattle.std.specs.Prelude.{◌≡◌, ◌+◌, ◌<◌, ◌^◌, ◌++◌, IfOk, OnOk};
+ghost use Rattle.std.specs.Prelude.{◌≡◌, ◌+◌, ◌*◌, ◌<◌, ◌≤◌, ◌^◌, ◌++◌, IfOk, OnOk, length};
 ghost use Rattle.sect_place.specs.Arrangement as arrangement;
 
 use crate::part::{Choice, Group, Made, Part, PartList, is_in};
-use crate::wide::sum_of;
 use mo_types::{Bytes, KeyList, OutOfMemory, OutSection};
 use std::alloc::Global;
 use std::mem;
@@ -10,10 +9,10 @@ use std::mem;
 /// The bytes of the linker's own sections.
 #[derive(Clone, Copy, Debug, PartialEq, Eq)]
 pub(crate) struct MadeSizes {
-    pub stubs: u128,
-    pub unwind: u128,
-    pub got: u128,
-    pub tlv: u128,
+    pub stubs: u64,
+    pub unwind: u64,
+    pub got: u64,
+    pub tlv: u64,
 }
 
 // All sections of the image, segment by segment.
@@ -89,12 +88,7 @@ fn writable_parts(
 }
 
 // Appends a section of the linker's own, where it has bytes.
-fn add_made(
-    alloc: Global,
-    parts: &mut Vec<Part>,
-    made: Made,
-    bytes: u128,
-) -> Result<(), OutOfMemory>
+fn add_made(alloc: Global, parts: &mut Vec<Part>, made: Made, bytes: u64) -> Result<(), OutOfMemory>
     ensures { OnOk result (parts.new.items ≡ parts.old.items ++ arrangement.own made bytes) }
 {
     if bytes != 0 {
@@ -171,12 +165,21 @@ fn add_runs(alloc: Global, groups: &mut Vec<Group>, parts: Vec<Part>) -> Result<
 }
 
 // How many sections some segments have.
-pub(crate) fn count_of(groups: &[Group]) -> Result<u128, OutOfMemory>
-    ensures { IfOk result (λ count. count ≡ arrangement.parts_count groups.now) }
+pub(crate) fn count_of(groups: &[Group]) -> u128
+    ensures exact { result ≡ arrangement.parts_count groups.now }
+    ensures small { result ≤ length groups.now * 2 ^ 57 }
 {
     let mut count = 0;
     for group in groups {
-        count = sum_of(count, group.parts.len() as u128)?;
+        count += part_count(group.parts.as_slice());
     }
-    Ok(count)
+    count
+}
+
+// How many sections there are, of which fewer than 2^57 lie in memory.
+fn part_count(parts: &[Part]) -> u128
+    ensures exact { result ≡ length parts.now }
+    ensures small { result < 2 ^ 57 }
+{
+    parts.len() as u128
 }

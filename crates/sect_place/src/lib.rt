@@ -4,8 +4,9 @@
 //! the addresses in the order of their atoms. `specs/Arrangement.antt` says which sections there are and in which
 //! order, the linker's own among them, and `specs/Places.antt` where they stand: one behind the other, each at the
 //! least multiple of its alignment that isn't below the end of what comes before. Where what stands before
-//! `__LINKEDIT`, but for `__PAGEZERO`, has 2^32 bytes or more that is `ImageSize`, or from 2^127 bytes on want of
-//! memory. The module `arrange` lists segments and sections, and `walk` places them in numbers of 128 bits (`wide`).
+//! `__LINKEDIT`, but for `__PAGEZERO`, has 2^32 bytes or more, that is `ImageSize`. The module `arrange` lists segments
+//! and sections, and `walk` places them in numbers of 128 bits (`wide`), which hold every sum: what lies in memory is
+//! few.
 //!
 //! `address` answers an atom's address, or `None` exactly where the layout doesn't have it; `address_near` looks at
 //! one place of the list first. `IslandShifts` tells how far an `IslandPlan` moves what a layout without islands has

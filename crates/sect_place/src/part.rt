@@ -14,7 +14,7 @@ use std::alloc::Global;
 pub struct Part {
     pub section: OutSection,
     /// Its bytes that are no atom's.
-    pub fixed: u128,
+    pub fixed: u64,
 }
 
 /// Sections in the order in which they stand.

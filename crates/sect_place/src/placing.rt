@@ -17,18 +17,17 @@ use crate::layout::{Layout, PlacedList, PlacedSectionList, Segment, SegmentList}
 use crate::part::{Group, is_in};
 use crate::size::{PlaceFault, PlaceSizes};
 use crate::walk::{Laid, Room, place_groups};
-use crate::wide::{cap, sum_of};
+use crate::wide::{cap, widened};
 use command_line::Command;
 use mo_format::loader::{VM_PROT_NONE, VM_PROT_READ};
 use mo_types::{AtomList, Bytes, OutOfMemory, OutSection, OutSections};
-use slot_plan::Slots;
+use slot_plan::{SlotList, Slots};
 use std::alloc::Global;
 
 /// Where everything of an image stands: its segments, its sections and its atoms one behind the other, each at the
 /// least place that is a multiple of its alignment and isn't below the end of what comes before (`loader.h`:
 /// segment_command_64, section_64). The sections with atoms stand in the order of their list. `ImageSize` comes exactly
-/// where what stands before `__LINKEDIT`, but for `__PAGEZERO`, has 2^32 bytes or more, as long as it has fewer than
-/// 2^127; more than that is answered as want of memory.
+/// where what stands before `__LINKEDIT`, but for `__PAGEZERO`, has 2^32 bytes or more.
 pub fn place(
     alloc: Global,
     kept: &AtomList,
@@ -41,6 +40,7 @@ pub fn place(
     requires rising { IsStrictlySortedBy (on (λ (atom : Atom). atom.key) compare_keys) kept.now }
     requires atoms { All (λ atom. atom.align ≤ 14) kept.now }
     requires sections { All (λ section. section.align ≤ 14) sections.now }
+    requires commands { sizes.now.commands < 2 ^ 123 }
     ensures segments { IfOk result (λ layout. layout.segments
         ≡ spec.image_segments command.now (spec.plan_of kept.now sections.now slots.now islands.now sizes.now command.now)) }
     ensures sections { IfOk result (λ layout. layout.sections
@@ -55,7 +55,7 @@ pub fn place(
 {
     let sections = sections.as_slice();
     let groups = arrange(alloc, sections, made_sizes(slots, sizes))?;
-    let lead = lead_of(groups.as_slice(), sizes, command)?;
+    let lead = lead_of(groups.as_slice(), sizes, command);
     let base = base_of(command);
     let room = Room {
         kept: kept.as_slice(),
@@ -84,35 +84,32 @@ fn made_sizes(slots: &Slots, sizes: &PlaceSizes) -> MadeSizes
     } }
 {
     MadeSizes {
-        stubs: 12 * slots.stubs.len() as u128,
-        unwind: u128::from(sizes.unwind),
-        got: 8 * slots.got.len() as u128,
-        tlv: 8 * slots.tlv.len() as u128,
+        stubs: 12 * slot_count(&slots.stubs),
+        unwind: sizes.unwind,
+        got: 8 * slot_count(&slots.got),
+        tlv: 8 * slot_count(&slots.tlv),
     }
+}
+
+// How many slots there are, of which fewer than 2^58 lie in memory.
+fn slot_count(slots: &SlotList) -> u64
+    ensures exact { result ≡ length slots.now }
+    ensures small { result < 2 ^ 58 }
+{
+    slots.as_slice().len() as u64
 }
 
 // How many bytes stand before the first section.
 #[tactic(auto, unfolding(crate::specs::Layout::lead_of))]
-fn lead_of(groups: &[Group], sizes: &PlaceSizes, command: &Command) -> Result<u128, OutOfMemory>
-    ensures { IfOk result (λ lead. lead ≡ spec.lead_of groups.now sizes.now command.now) }
+fn lead_of(groups: &[Group], sizes: &PlaceSizes, command: &Command) -> u128
+    requires { sizes.now.commands < 2 ^ 123 }
+    ensures exact { result ≡ spec.lead_of groups.now sizes.now command.now }
+    ensures small { result < 2 ^ 124 }
 {
     let others = if command.dylib { 1 } else { 2 };
     let segments = 72 * (groups.len() as u128 + others);
-    let sections = section_bytes(count_of(groups)?)?;
-    let other = sum_of(sizes.commands, segments)?;
-    let load = sum_of(other, sections)?;
-    let front = sum_of(32, load)?;
-    sum_of(front, u128::from(command.headerpad))
-}
-
-// The bytes of the structures of some sections.
-fn section_bytes(count: u128) -> Result<u128, OutOfMemory>
-    ensures { IfOk result (λ bytes. bytes ≡ 80 * count) }
-{
-    if count >= 1 << 64 {
-        return Err(OutOfMemory);
-    }
-    Ok(80 * count)
+    let sections = 80 * count_of(groups);
+    32 + (sizes.commands + segments + sections) + widened(u64::from(command.headerpad))
 }
 
 // The greatest alignment in `__TEXT`.
@@ -159,7 +156,8 @@ fn first_segments(alloc: Global, dylib: bool) -> Result<Vec<Segment>, OutOfMemor
 
 // The layout of what was placed, unless it is too large.
 fn finished(alloc: Global, laid: Laid, base: u128) -> Result<Layout, PlaceFault>
-    requires { base ≤ laid.end }
+    requires begins { base ≤ laid.end }
+    requires small { laid.end < 2 ^ 127 }
     ensures segments { IfOk result (λ layout. layout.segments ≡ laid.segments.items ++ spec.linkedit (capped laid.end) (capped laid.file) ∷ []) }
     ensures sections { IfOk result (λ layout. layout.sections ≡ laid.sections.items) }
     ensures places { IfOk result (λ layout. IsPermutation laid.placed.items layout.placed) }
@@ -167,9 +165,6 @@ fn finished(alloc: Global, laid: Laid, base: u128) -> Result<Layout, PlaceFault>
     ensures size { MatchResult result (λ layout. laid.end - base < 2 ^ 32) (spec.IsTooLarge (laid.end - base)) }
 {
     let size = laid.end - base;
-    if size >= 1 << 127 {
-        return Err(PlaceFault::OutOfMemory);
-    }
     if size >= 1 << 32 {
         return Err(PlaceFault::ImageSize {
             value: size as i128,

@@ -1,5 +1,5 @@
 //! Where atoms stand in an image with islands, found by its layout without them.
-ghost use Rattle.std.specs.Prelude.{◌≡◌, ◌+◌, ◌<◌, ◌≤◌, ◌++◌, All, Contains, IfOk, IsTrue, List, None, false, length, map, true};
+ghost use Rattle.std.specs.Prelude.{◌≡◌, ◌+◌, ◌<◌, ◌≤◌, ◌^◌, ◌++◌, All, Contains, IfOk, IsTrue, List, None, false, length, map, true};
 ghost use Rattle.std.specs.List.Sorted.{IsPartitionPoint, IsStrictlySortedBy};
 ghost use Rattle.std.specs.Ordering.{on, is_lt};
 ghost use Rattle.command_line.specs.declared.command.Command.{Command};
@@ -24,7 +24,7 @@ use crate::lookup::address;
 use crate::part::{is_code, is_in};
 use crate::placing::larger;
 use crate::walk::area_bytes;
-use crate::wide::{cap, sum_of, up};
+use crate::wide::{cap, up, widened};
 use mo_types::{AtomKey, OutOfMemory, OutSection, compare_atoms};
 use std::alloc::Global;
 use std::marker::Model;
@@ -91,7 +91,7 @@ impl IslandShifts {
         let unit = unit_in(sections);
         let mut steps = Vec::new(alloc);
         let all = add_steps(&mut steps, areas, unit)?;
-        let pages = pages_moved(text_end(sections), all)?;
+        let pages = pages_moved(text_end(sections), all);
         Ok(IslandShifts { steps, all, pages })
     }
 }
@@ -112,15 +112,23 @@ fn unit_in(sections: &[PlacedSection]) -> u8
 
 // Where the last section of `__TEXT` ends.
 fn text_end(sections: &[PlacedSection]) -> u128
-    ensures { result ≡ spec.text_end_from 0 sections.now }
+    ensures exact { result ≡ spec.text_end_from 0 sections.now }
+    ensures small { result < 2 ^ 65 }
 {
     let mut end = 0;
     for placed in sections {
         if is_in(&placed.section, b"__TEXT") {
-            end = u128::from(placed.address) + u128::from(placed.size);
+            end = widened(placed.address) + widened(placed.size);
         }
     }
     end
+}
+
+// Of steps, fewer than 2^58 lie in memory.
+fn steps_are_few(steps: &[Step])
+    ensures { length steps.now < 2 ^ 58 }
+{
+    let _ = steps;
 }
 
 // Appends the atoms of areas, each with the bytes of the areas before it, and answers the bytes of all.
@@ -128,6 +136,7 @@ fn add_steps(steps: &mut Vec<Step>, areas: &[IslandArea], unit: u8) -> Result<u1
     requires { unit ≤ 14 }
     ensures steps { IfOk result (λ all. steps.new.items ≡ steps.old.items ++ spec.steps_from unit 0 areas.now) }
     ensures all { IfOk result (λ all. all ≡ moved.areas_bytes unit None areas.now) }
+    ensures small { IfOk result (λ all. all < 2 ^ 126) }
 {
     let mut bytes = 0;
     for area in areas {
@@ -135,19 +144,21 @@ fn add_steps(steps: &mut Vec<Step>, areas: &[IslandArea], unit: u8) -> Result<u1
             last: area.last,
             before: bytes,
         })?;
-        let own = area_bytes(unit, area.targets.len())?;
-        bytes = sum_of(bytes, own)?;
+        steps_are_few(steps.as_slice());
+        bytes += area_bytes(unit, area.targets.len());
     }
     Ok(bytes)
 }
 
 // How far areas of so many bytes move what is behind `__TEXT`.
-fn pages_moved(end: u128, bytes: u128) -> Result<u128, OutOfMemory>
-    ensures { IfOk result (λ pages. pages ≡ moved.pages_moved end bytes) }
+fn pages_moved(end: u128, bytes: u128) -> u128
+    requires end { end < 2 ^ 65 }
+    requires bytes { bytes < 2 ^ 126 }
+    ensures { result ≡ moved.pages_moved end bytes }
 {
-    let without = up(end, 14)?;
-    let with = up(sum_of(end, bytes)?, 14)?;
-    Ok(with.saturating_sub(without))
+    let without = up(end, 14);
+    let with = up(end + bytes, 14);
+    with.saturating_sub(without)
 }
 
 /// The address that an atom has with some islands, by the layout without them and the table of how far they move what it

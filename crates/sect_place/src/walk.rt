@@ -1,5 +1,5 @@
 //! Places everything, one behind the other.
-ghost use Rattle.std.specs.Prelude.{◌≡◌, ◌+◌, ◌-◌, ◌<◌, ◌≤◌, ◌^◌, ◌++◌, ◌==◌, ◌&&◌, not, All, IfOk, map, if◌then◌else◌};
+ghost use Rattle.std.specs.Prelude.{◌≡◌, ◌+◌, ◌-◌, ◌*◌, ◌<◌, ◌≤◌, ◌^◌, ◌++◌, ◌==◌, ◌&&◌, not, All, IfOk, length, map, if◌then◌else◌};
 ghost use Rattle.std.specs.List.{find};
 ghost use Rattle.std.specs.List.Sorted.{IsStrictlySortedBy};
 ghost use Rattle.std.specs.Option.{option_copied};
@@ -17,7 +17,7 @@ ghost use Rattle.sect_place.specs.inner.Room.{IsRoom, capped_place, capped_secti
 use crate::island::IslandArea;
 use crate::layout::{Placed, PlacedSection, Segment};
 use crate::part::{Group, Part};
-use crate::wide::{cap, cap_count, sum_of, up};
+use crate::wide::{cap, cap_count, up, widened};
 use atom_index::is_same;
 use mo_format::loader::{
     S_THREAD_LOCAL_ZEROFILL, S_ZEROFILL, SG_READ_ONLY, VM_PROT_EXECUTE, VM_PROT_READ, VM_PROT_WRITE,
@@ -34,17 +34,36 @@ pub(crate) struct Room<'a> {
     pub unit: u8,
 }
 
-// Appends where the atoms of some keys stand from a place on, and answers where the last one ends.
+// Of places, fewer than 2^58 lie in memory.
+fn placed_are_few(placed: &[Placed])
+    ensures { length placed.now < 2 ^ 58 }
+{
+    let _ = placed;
+}
+
+// And of sections fewer than 2^57.
+fn sections_are_few(sections: &[PlacedSection])
+    ensures { length sections.now < 2 ^ 57 }
+{
+    let _ = sections;
+}
+
+// Appends where the atoms of some keys stand from a place on, and answers where the last one ends. Each takes fewer than
+// 15 * 2^64 bytes, with the area behind it.
 fn place_atoms(
     placed: &mut Vec<Placed>,
     room: &Room,
     from: u128,
     keys: &[AtomKey],
 ) -> Result<u128, OutOfMemory>
-    requires { IsRoom room.now.kept.now room.now.areas.now room.now.unit }
+    requires room { IsRoom room.now.kept.now room.now.areas.now room.now.unit }
+    requires reach { from ≤ 2 ^ 125 + 2 ^ 123 + length placed.old.items * (15 * 2 ^ 64) }
+    requires small { from < 2 ^ 127 }
     ensures places { IfOk result (λ end. placed.new.items ≡ placed.old.items
         ++ map capped_place (spec.places (stand from (spec.spaced room.now.kept.now room.now.areas.now room.now.unit keys.now)))) }
     ensures end { IfOk result (λ end. end ≡ end_of from (spec.spaced room.now.kept.now room.now.areas.now room.now.unit keys.now)) }
+    ensures reach { IfOk result (λ end. end + length placed.old.items * (15 * 2 ^ 64) ≤ from + length placed.new.items * (15 * 2 ^ 64)) }
+    ensures small { IfOk result (λ end. end < 2 ^ 127) }
 {
     let mut at = from;
     let mut near = 0;
@@ -53,14 +72,14 @@ fn place_atoms(
         near = next;
         match found {
             Some(atom) => {
-                let place = up(at, atom.align)?;
-                let behind = bytes_behind(room.areas, room.unit, key)?;
+                placed_are_few(placed.as_slice());
+                let place = up(at, atom.align);
+                let size = widened(atom.size) + bytes_behind(room.areas, room.unit, key);
                 placed.push(Placed {
                     atom: *key,
                     address: cap(place),
                 })?;
-                let size = sum_of(u128::from(atom.size), behind)?;
-                at = sum_of(place, size)?;
+                at = place + size;
             }
             None => {}
         }
@@ -86,24 +105,26 @@ fn find_near(kept: &[Atom], near: usize, key: &AtomKey) -> (Option<Atom>, usize)
 }
 
 // How many bytes the area behind an atom has.
-fn bytes_behind(areas: &[IslandArea], unit: u8, key: &AtomKey) -> Result<u128, OutOfMemory>
+fn bytes_behind(areas: &[IslandArea], unit: u8, key: &AtomKey) -> u128
     requires areas { IsStrictlySortedBy (on (λ (area : IslandArea). area.last) compare_keys) areas.now }
     requires unit { unit ≤ 14 }
-    ensures { IfOk result (λ bytes. bytes ≡ spec.bytes_behind areas.now unit key.now) }
+    ensures exact { result ≡ spec.bytes_behind areas.now unit key.now }
+    ensures small { result < 13 * 2 ^ 64 }
 {
     match find_area(areas, key) {
         Some(area) => area_bytes(unit, area.targets.len()),
-        None => Ok(0),
+        None => 0,
     }
 }
 
 // How many bytes an area of so many islands has.
-pub(crate) fn area_bytes(unit: u8, count: usize) -> Result<u128, OutOfMemory>
+pub(crate) fn area_bytes(unit: u8, count: usize) -> u128
     requires { unit ≤ 14 }
-    ensures { IfOk result (λ bytes. bytes ≡ spec.islands_bytes unit count) }
+    ensures exact { result ≡ spec.islands_bytes unit count }
+    ensures small { result < 13 * 2 ^ 64 }
 {
     if count == 0 {
-        return Ok(0);
+        return 0;
     }
     up(3 + 12 * count as u128, unit)
 }
@@ -127,7 +148,7 @@ struct Ends {
 }
 
 // Appends where the sections of a segment stand, and their atoms. The segment begins at `start`, and in the file at
-// `file`; its sections begin at `from`.
+// `file`; its sections begin at `from`. Each takes fewer than 2^65 bytes beside its atoms.
 fn place_parts(
     sections: &mut Vec<PlacedSection>,
     placed: &mut Vec<Placed>,
@@ -141,20 +162,25 @@ fn place_parts(
     requires low { All (λ (part : Part). part.section.align ≤ 14) parts.items }
     requires begins { start ≤ from }
     requires file { file ≤ start }
+    requires reach { from ≤ 2 ^ 125 + length sections.old.items * 2 ^ 65 + length placed.old.items * (15 * 2 ^ 64) }
     ensures sections { IfOk result (λ ends. sections.new.items ≡ sections.old.items
         ++ map capped_section (spec.parts_sections (spec.spaced room.now.kept.now room.now.areas.now room.now.unit) start file from parts.items)) }
     ensures places { IfOk result (λ ends. placed.new.items ≡ placed.old.items
         ++ map capped_place (spec.parts_places (spec.spaced room.now.kept.now room.now.areas.now room.now.unit) from parts.items)) }
     ensures memory { IfOk result (λ ends. ends.memory ≡ spec.parts_end (spec.spaced room.now.kept.now room.now.areas.now room.now.unit) from parts.items) }
     ensures file { IfOk result (λ ends. ends.file ≡ spec.parts_filled (spec.spaced room.now.kept.now room.now.areas.now room.now.unit) from from parts.items) }
+    ensures reach { IfOk result (λ ends. ends.memory + length sections.old.items * 2 ^ 65 + length placed.old.items * (15 * 2 ^ 64)
+        ≤ from + length sections.new.items * 2 ^ 65 + length placed.new.items * (15 * 2 ^ 64)) }
 {
     let mut at = from;
     let mut filled = from;
     for part in parts {
         let Part { section, fixed } = part;
-        let address = up(at, section.align)?;
+        sections_are_few(sections.as_slice());
+        placed_are_few(placed.as_slice());
+        let address = up(at, section.align);
         let atoms_end = place_atoms(placed, room, address, section.atoms.as_slice())?;
-        let end = sum_of(atoms_end, fixed)?;
+        let end = atoms_end + widened(fixed);
         filled = filled_to(section.kind, address, end, filled);
         sections.push(section_at(section, start, file, address, end))?;
         at = end;
@@ -240,6 +266,7 @@ pub(crate) fn place_groups(
 ) -> Result<Laid, OutOfMemory>
     requires room { IsRoom room.now.kept.now room.now.areas.now room.now.unit }
     requires low { All (λ (group : Group). All (λ (part : Part). part.section.align ≤ 14) group.parts) groups.items }
+    requires near { base + lead < 2 ^ 124 + 2 ^ 123 }
     ensures segments { IfOk result (λ laid. laid.segments.items ≡ before.items
         ++ map capped_segment (spec.groups_segments (spec.spaced room.now.kept.now room.now.areas.now room.now.unit) base 0 lead groups.items)) }
     ensures sections { IfOk result (λ laid. laid.sections.items
@@ -249,6 +276,7 @@ pub(crate) fn place_groups(
     ensures end { IfOk result (λ laid. laid.end ≡ spec.groups_end (spec.spaced room.now.kept.now room.now.areas.now room.now.unit) base lead groups.items) }
     ensures file { IfOk result (λ laid. laid.file ≡ spec.groups_file
         (spec.spaced room.now.kept.now room.now.areas.now room.now.unit) base 0 lead groups.items) }
+    ensures small { IfOk result (λ laid. laid.end < 2 ^ 127) }
 {
     let mut segments = before;
     let mut sections = Vec::new(alloc);
@@ -259,11 +287,13 @@ pub(crate) fn place_groups(
     for group in groups {
         let Group { name, parts } = group;
         let count = parts.len();
-        let from = sum_of(at, lead)?;
+        let from = at + lead;
         let parts = parts.into_vec();
         let ends = place_parts(&mut sections, &mut placed, room, at, file, from, parts)?;
-        let next = up(ends.memory, 14)?;
-        let file_end = up(ends.file, 14)?;
+        sections_are_few(sections.as_slice());
+        placed_are_few(placed.as_slice());
+        let next = up(ends.memory, 14);
+        let file_end = up(ends.file, 14);
         let bytes = file_end - at;
         segments.push(segment_at(name, at, next, file, bytes, count))?;
         at = next;

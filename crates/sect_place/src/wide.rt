@@ -1,23 +1,10 @@
 //! Places of up to 128 bits, since atoms may have any size.
-ghost use Rattle.std.specs.Prelude.{◌≡◌, ◌<◌, ◌≤◌, ◌^◌, ◌+◌, ◌-◌, min, IfOk};
+ghost use Rattle.std.specs.Prelude.{◌≡◌, ◌<◌, ◌≤◌, ◌^◌, ◌+◌, ◌-◌, min};
 ghost use Rattle.sect_place.specs.inner.Room.{capped};
 ghost use Rattle.tlv_plan.specs.Template.{aligned};
 
-use mo_types::OutOfMemory;
-
-// The least multiple of 2^`align` from a place on. Places of 2^127 bytes are answered as want of memory.
-pub(crate) fn up(at: u128, align: u8) -> Result<u128, OutOfMemory>
-    requires { align ≤ 14 }
-    ensures { IfOk result (λ place. place ≡ aligned align at) }
-{
-    if at >= 1 << 127 {
-        return Err(OutOfMemory);
-    }
-    Ok(up_near(at, align))
-}
-
 // The least multiple of 2^`align` from a place of fewer than 2^127 bytes on.
-pub(crate) fn up_near(at: u128, align: u8) -> u128
+pub(crate) fn up(at: u128, align: u8) -> u128
     requires low { align ≤ 14 }
     requires near { at < 2 ^ 127 }
     ensures exact { result ≡ aligned align at }
@@ -28,14 +15,12 @@ pub(crate) fn up_near(at: u128, align: u8) -> u128
     at + (unit - 1) >> align << align
 }
 
-// The sum of two numbers, or want of memory where it has more than 128 bits.
-pub(crate) fn sum_of(a: u128, b: u128) -> Result<u128, OutOfMemory>
-    ensures { IfOk result (λ sum. sum ≡ a + b) }
+// A number of 64 bits.
+pub(crate) fn widened(number: u64) -> u128
+    ensures exact { result ≡ number }
+    ensures small { result < 2 ^ 64 }
 {
-    match a.checked_add(b) {
-        Some(sum) => Ok(sum),
-        None => Err(OutOfMemory),
-    }
+    u128::from(number)
 }
 
 fn unit_of(align: u8) -> u128

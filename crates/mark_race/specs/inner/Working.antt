@@ -1,5 +1,5 @@
 -- Markers at work, and what they note of their gains.
-use Rattle.std.specs.Prelude.{◌≡◌, ◌<◌, ◌≤◌, ◌+◌, ℕ, Bool, false, List, All, [], get_or, length, count_by, map, sum_by}
+use Rattle.std.specs.Prelude.{◌≡◌, ◌<◌, ◌≤◌, ◌+◌, ℕ, Bool, false, List, All, [], get_or, length, count_by, is_err, map, sum_by}
 use Rattle.mark_race.specs.Marks.{Holding, times}
 use Rattle.mark_race.specs.Ends.{row_of}
 use Rattle.mark_race.specs.declared.level.Worker.{Worker}
@@ -12,12 +12,12 @@ pub record HasMarked (atoms : List ℕ) (before after : Worker) : Type 0 where
   pub new : List ℕ
   pub gains : (x : ℕ) → times x after.marker.gains ≡ times x before.marker.gains + times x new
   pub few : (x : ℕ) → times x new ≤ times x atoms
-  pub none_lost : after.is_lost ≡ false → before.is_lost ≡ false
-  pub noted : after.is_lost ≡ false → (x : ℕ) → times x after.gained.items ≡ times x before.gained.items + times x new
+  pub none_lost : is_err after.notes ≡ false → is_err before.notes ≡ false
+  pub noted : is_err after.notes ≡ false → (x : ℕ) → times x after.gained.items ≡ times x before.gained.items + times x new
 
 -- how many workers lost a note
 abbrev pub lost : List Worker → ℕ
-lost workers = count_by (λ w. w.is_lost) workers
+lost workers = count_by (λ w. is_err w.notes) workers
 
 -- the same of all workers of a level
 pub record AllMarked (atoms : List ℕ) (before after : List Worker) : Type 0 where

@@ -1,5 +1,5 @@
 -- What the parts of the reader know of the file and of each other's tables.
-use Rattle.std.specs.Prelude.{ℕ, ◌+◌, ◌-◌, ◌/◌, ◌≡◌, ◌<◌, ◌≤◌, ◌==◌, ◌&&◌, Bool, nat_lt, nat_le, List, length, map, slice_index, Result, Ok, Err}
+use Rattle.std.specs.Prelude.{ℕ, ◌+◌, ◌-◌, ◌/◌, ◌^◌, ◌≡◌, ◌<◌, ◌≤◌, ◌==◌, ◌&&◌, Bool, nat_lt, nat_le, List, length, map, slice_index, Result, Ok, Err}
 use Rattle.mo_types.specs.declared.object_fault.ObjFault.{ObjFault}
 use Rattle.mo_ar.specs.Chain.{chain, end_of}
 use Rattle.mo_ar.specs.Contents.{pairs_size, strings_size}
@@ -36,9 +36,10 @@ pub record IsWalked (bytes : List ℕ) (from : ℕ) (walked : Walked) : Type 0 w
 abbrev pub stands : List ℕ → ℕ → ℕ → Bool
 stands places number at = nat_lt 0 number && nat_le number (length places) && slice_index places (number - 1) == at
 
--- A table with a cell for each 60 bytes of a file, in which at most one header begins: its cell has the number.
+-- A table with a cell for each 60 bytes of a file, in which at most one header begins: its cell has the number, where
+-- the place has the 32 bits of a pair's.
 pub record IsNumbered (cells places : List ℕ) : Type 0 where
-  pub found : (i : ℕ) → i < length places → slice_index cells (slice_index places i / 60) ≡ i + 1
+  pub found : (i : ℕ) → i < length places → slice_index places i < 2 ^ 32 → slice_index cells (slice_index places i / 60) ≡ i + 1
 
 -- a table whose pairs and strings lie within it
 pub record IsTable (table : List ℕ) : Type 0 where
