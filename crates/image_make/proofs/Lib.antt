@@ -6,3 +6,9 @@ pub mod ListLemmas
 pub mod ListedLemmas
 pub mod OrderLemmas
 pub mod ToldLemmas
+pub mod ExistLemmas
+pub mod RankLemmas
+pub mod Rowed
+pub mod Spots
+pub mod StoredLemmas
+pub mod WorkLemmas

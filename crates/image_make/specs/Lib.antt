@@ -6,3 +6,4 @@ pub mod AtomReferences
 pub mod Inputs
 pub mod Mets
 pub mod Rows
+pub mod Whole

@@ -3,6 +3,7 @@ ghost use Rattle.std.specs.Prelude.{◌≡◌, ◌<◌, All, IfOk};
 ghost use Rattle.image_make.specs.AtomReferences.{IsReady, met_by};
 ghost use Rattle.image_make.specs.Made as spec;
 ghost use Rattle.image_make.specs.inner.Filled.{IsFilled};
+ghost use Rattle.sect_place.specs.Whole.{IsWholeSegment};
 
 use crate::fault::MakeFault;
 use crate::meeting::AtomReferences;
@@ -14,17 +15,15 @@ use sect_place::{Layout, Segment};
 use std::alloc::Global;
 use std::thread::Threads;
 
-// Where the last segment ends in the file. A place of 2^64 or more is answered as want of memory.
+// Where the last segment ends in the file.
 #[tactic(auto, unfolding(crate::specs::Made::file_end))]
-fn file_end(segments: &[Segment]) -> Result<u64, OutOfMemory>
-    ensures { IfOk result (λ end. end ≡ spec.file_end segments.now) }
+fn file_end(segments: &[Segment]) -> u64
+    requires { All IsWholeSegment segments.now }
+    ensures { result ≡ spec.file_end segments.now }
 {
     match segments.get(segments.len().saturating_sub(1)) {
-        Some(last) => match last.file_offset.checked_add(last.file_size) {
-            Some(end) => Ok(end),
-            None => Err(OutOfMemory),
-        },
-        None => Ok(0),
+        Some(last) => last.file_offset + last.file_size,
+        None => 0,
     }
 }
 
@@ -36,9 +35,10 @@ pub(crate) fn blank_image(
     layout: &Layout,
     front: Bytes,
 ) -> Result<Vec<u8>, OutOfMemory>
+    requires { All IsWholeSegment layout.now.segments }
     ensures { IfOk result (λ blank. blank.items ≡ spec.blank_of front layout.now) }
 {
-    let size = file_end(layout.segments.as_slice())?;
+    let size = file_end(layout.segments.as_slice());
     if size >= 1 << 32 || front.len() as u64 > size {
         return Err(OutOfMemory);
     }

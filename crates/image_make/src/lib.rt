@@ -13,7 +13,8 @@
 //! and `goal_address` where one goal stands (`specs/Addresses.antt`). A place of 2^64 or more is want of memory.
 //!
 //! The module `laying` makes the layout, `front` the header, and `filling` puts the atoms into a blank image; `making`
-//! is the line of these three. What images mean to the loader is said in `loader_laws`.
+//! is the line of these three. The laws say that whole files have an image or a fault (`an_image_or_a_fault_exists`),
+//! as what is laid out stands apart (`what_is_laid_is_work`). What images mean to the loader is said in `loader_laws`.
 //!
 //! Their contracts refuse a body that leads to a merged literal itself, one that tells the entry as an address, and
 //! one that subtracts a reference's own target.
@@ -24,6 +25,7 @@ mod fault;
 mod filling;
 mod front;
 mod kept;
+mod laws;
 mod laying;
 mod making;
 mod meeting;
@@ -34,6 +36,7 @@ mod rows;
 pub use addresses::goal_address;
 pub use fault::MakeFault;
 pub use kept::{KeptAtom, KeptList, kept_atoms};
+pub use laws::{an_image_or_a_fault_exists, what_is_laid_is_work};
 pub use making::{ImageInputs, make_image};
 pub use meeting::AtomReferences;
 pub use rows::work_of;

@@ -45,12 +45,13 @@ pub struct ImageInputs<'a> {
 }
 
 /// The image of the atoms that are kept: its header with the load commands, and each atom at its place, with the fields of
-/// its references, written by as many workers as the command says; or why there is none. Everything stands in one
+/// its references, written by so many workers; or why there is none. Everything stands in one
 /// allocation, in which each byte of an object is written once.
 pub fn make_image<R: Threads + Sync, G: Gate + Sync>(
     rt: &R,
     alloc: Global,
     gate: &G,
+    threads: u32,
     inputs: &ImageInputs,
 ) -> Result<Bytes, MakeFault>
     requires whole { IsWholeLoaded inputs.now.loaded.now }
@@ -93,5 +94,5 @@ pub fn make_image<R: Threads + Sync, G: Gate + Sync>(
         loaded: inputs.loaded,
         meeting: &meets,
     };
-    fill_image(rt, alloc, gate, inputs.command.threads, &atoms, blank)
+    fill_image(rt, alloc, gate, threads, &atoms, blank)
 }

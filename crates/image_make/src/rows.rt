@@ -1,5 +1,5 @@
 //! The atoms that have bytes in the image, in its order, with their places.
-ghost use Rattle.std.specs.Prelude.{◌≡◌, ◌+◌, ◌-◌, ◌++◌, ◌∷◌, [], IfOk, IsTrue, slice_get};
+ghost use Rattle.std.specs.Prelude.{◌≡◌, ◌+◌, ◌-◌, ◌≤◌, ◌++◌, ◌∷◌, [], All, IfOk, IsTrue, slice_get};
 ghost use Rattle.std.specs.List.{filter_map};
 ghost use Rattle.std.specs.Option.{option_map, option_to_list};
 ghost use Rattle.sect_place.specs.Addresses.{AreOnce};
@@ -63,17 +63,12 @@ fn find_near(atoms: &KeptList, near: usize, key: AtomKey) -> Option<PlacedKept>
     find_kept(atoms, key)
 }
 
-// Where an address of a section stands in the file. A place of 2^64 or more is answered as want of memory.
-fn place_in_file(section: &PlacedSection, address: u64) -> Result<u64, OutOfMemory>
-    ensures { IfOk result (λ place. place ≡ section.now.file_offset + (address - section.now.address)) }
+// Where an address of a section stands in the file.
+fn place_in_file(section: &PlacedSection, address: u64) -> u64
+    requires { section.now.file_offset ≤ section.now.address }
+    ensures { result ≡ section.now.file_offset + (address - section.now.address) }
 {
-    match section
-        .file_offset
-        .checked_add(address.saturating_sub(section.address))
-    {
-        Some(place) => Ok(place),
-        None => Err(OutOfMemory),
-    }
+    section.file_offset + address.saturating_sub(section.address)
 }
 
 // Atoms, and a kept one that stands at an address in a section.
@@ -83,13 +78,14 @@ fn with_row(
     kept: &KeptAtom,
     address: u64,
 ) -> Result<Vec<PlacedWork>, OutOfMemory>
+    requires { section.now.file_offset ≤ section.now.address }
     ensures { IfOk result (λ new. new.items ≡ before.items ++ spec.row_at section.now kept.now address ∷ []) }
 {
     let mut items = before;
     items.push(PlacedWork {
         atom: kept.atom,
         file: kept.file,
-        at: place_in_file(section, address)?,
+        at: place_in_file(section, address),
         address,
     })?;
     Ok(items)
@@ -107,6 +103,7 @@ fn with_key(
 ) -> Result<Vec<PlacedWork>, OutOfMemory>
     requires once { AreOnce layout.now.placed }
     requires rising { AreRising atoms.now }
+    requires file { section.now.file_offset ≤ section.now.address }
     ensures { IfOk result (λ new. new.items ≡ before.items ++ option_to_list (spec.row_of layout.now.placed atoms.now section.now key)) }
 {
     let Some(found) = find_near(atoms, *next, key) else {
@@ -130,6 +127,7 @@ fn with_keys(
 ) -> Result<Vec<PlacedWork>, OutOfMemory>
     requires once { AreOnce layout.now.placed }
     requires rising { AreRising atoms.now }
+    requires file { section.now.file_offset ≤ section.now.address }
     ensures { IfOk result (λ new. new.items ≡ before.items ++ filter_map (spec.row_of layout.now.placed atoms.now section.now) keys.now) }
 {
     let mut items = before;
@@ -149,6 +147,7 @@ fn with_section(
 ) -> Result<Vec<PlacedWork>, OutOfMemory>
     requires once { AreOnce layout.now.placed }
     requires rising { AreRising atoms.now }
+    requires file { section.now.file_offset ≤ section.now.address }
     ensures { IfOk result (λ new. new.items ≡ before.items ++ spec.section_rows layout.now.placed atoms.now section.now) }
 {
     with_keys(
@@ -176,6 +175,7 @@ fn with_sections(
 ) -> Result<Vec<PlacedWork>, OutOfMemory>
     requires once { AreOnce layout.now.placed }
     requires rising { AreRising atoms.now }
+    requires files { All (λ section. section.file_offset ≤ section.address) sections.now }
     ensures { IfOk result (λ new. new.items ≡ before.items ++ spec.rows layout.now.placed atoms.now sections.now) }
 {
     let mut items = before;
@@ -188,7 +188,7 @@ fn with_sections(
 }
 
 /// What is written into an image: each kept atom in a section with bytes in the file, in the order of the image, with its
-/// places in the file and in memory. A place of 2^64 or more is answered as want of memory.
+/// places in the file and in memory.
 pub fn work_of(
     alloc: Global,
     kept: &KeptList,
@@ -196,6 +196,7 @@ pub fn work_of(
 ) -> Result<Vec<PlacedWork>, OutOfMemory>
     requires once { AreOnce layout.now.placed }
     requires rising { AreRising kept.now }
+    requires files { All (λ section. section.file_offset ≤ section.address) layout.now.sections }
     ensures { IfOk result (λ work. work.items ≡ spec.rows layout.now.placed kept.now layout.now.sections) }
 {
     let none = Vec::with_capacity(alloc, kept.len())?;

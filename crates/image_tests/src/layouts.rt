@@ -93,7 +93,7 @@ struct Case {
     words: Words,
     stubs: u64,
     tlv: u64,
-    commands: u128,
+    commands: u64,
     unwind: u64,
     islands: Option<(Row, u64)>,
 }
@@ -206,7 +206,7 @@ fn place_all(
         let slots = slots_of(alloc, case.stubs, case.tlv)?;
         let islands = plan(alloc, case)?;
         let sizes = PlaceSizes {
-            commands: case.commands,
+            commands: u128::from(case.commands),
             unwind: case.unwind,
         };
         let command = command_of(alloc, text_of(case.words));

@@ -1,5 +1,4 @@
 -- What holds of a line of steps some of which ask, from a fact for each step.
-use Rattle.std.specs.Prelude.{IfErr}
 use Rattle.std.proofs.Common.{◌≡◌, ◌↔◌, inl, inr, Option, Some, None, Result, Ok, Err, IsErrAnd, refl, sym, ap, ◌∙◌, subst}
 use Rattle.std.proofs.lemmas.Result.{err_from_is_err_and}
 use Rattle.link_steps.specs.Asking.{Acts, Cause, IsLawful, IsOne, Reply, Stops, asked, asks, gives, last, never, refuses, stands, tries, unless}
@@ -193,71 +192,6 @@ last_law {W = W} {S = S} {B = B} x = record {
     λ p. last_case (Ok x) old (Err why) new ⊥ p (λ is same. no_stop is),
     λ c. absurd c,
   );
-}
-
--- ---- a step whose answer is known
-
-pub asks_known_law : {W S A B : Type 0} {r : Result A S} (P : A → Reply W S B) {C : S → Type 0} {Gave : A → Type 0} (D : A → Cause W S) → ((why : S) → (r ≡ Err why) ↔ C why) → ((x : A) → (r ≡ Ok x) ↔ Gave x)
-    → ((x : A) → r ≡ Ok x → IsLawful (P x) (D x)) → IsLawful (asks (last r) P) (stands C Gave D)
-unfolding last
-asks_known_law {W = W} {S = S} {A = A} {B = B} {r = r} P {C = C} {Gave = Gave} D ends goes next = record {
-  one = λ a b old new older newer p q. law.one a b old new older newer (given_so old a new p) (given_so older b newer q);
-  stops = λ old why new. (
-    λ p. (law.stops old why new).0 (given_so old (Err why) new p),
-    λ d. asked_so old (Err why) new ((law.stops old why new).1 d),
-  );
-}
-  where
-    law : IsLawful (gives r P) (stands C Gave D)
-    law = gives_law P D ends goes next
-
-    given_so : (old : W) (given : Result B S) (new : W) → asks (last r) P old given new → gives r P old given new
-    given_so old given new p =
-        asks_case (last r) P old given new (gives r P old given new) p
-        (λ why is stop. gives_ends r P why old given new (sym is.0) stop is.1)
-        (λ x then is follows. gives_on r P x old given new (sym is.0) (subst (λ (w : W). P x w given new) is.1 follows))
-
-    asked_so : (old : W) (given : Result B S) (new : W) → gives r P old given new → asks (last r) P old given new
-    asked_so old given new p =
-        gives_case r P old given new (asks (last r) P old given new) p
-        (λ why e stop same. asks_ends (last r) P why old given new (sym e, same) stop)
-        (λ x e follows. asks_on (last r) P x old old given new (sym e, refl) follows)
-
--- ---- a line that asks for nothing
-
--- What was told stays, so that the other line, which stands over another source, may answer the same; of its stops something
--- holds.
-pub record Quiet {W V S B : Type 0} (Fine : S → Type 0) (may : Reply W S B) (also : Reply V S B) : Type 0 where
-  pub still : (old : W) (given : Result B S) (new : W) → may old given new → new ≡ old
-  pub fine : (old : W) (given : Result B S) (new : W) → may old given new → IfErr given Fine
-  pub there : (old : W) (given : Result B S) (new : W) → may old given new → (w : V) → also w given w
-
-stopped_fine : {S B : Type 0} (Fine : S → Type 0) (given : Result B S) (why : S) → given ≡ Err why → Fine why → IfErr given Fine
-stopped_fine {S = S} {B = B} Fine given why stop fine = subst (λ (r : Result B S). IfErr r Fine) (sym stop) fine
-
-pub gives_quiet : {W V S A B : Type 0} {Fine : S → Type 0} {r : Result A S} (P : A → Reply W S B) (Q : A → Reply V S B) → ((why : S) → r ≡ Err why → Fine why) → ((x : A) → r ≡ Ok x → Quiet Fine (P x) (Q x)) → Quiet Fine (gives r P) (gives r Q)
-gives_quiet {Fine = Fine} {r = r} P Q fine next = record {
-  still = λ old given new is. gives_case r P old given new (new ≡ old) is (λ why e stop same. same) (λ x e follows. (next x e).still old given new follows);
-  fine = λ old given new is. gives_case r P old given new (IfErr given Fine) is (λ why e stop same. stopped_fine Fine given why stop (fine why e)) (λ x e follows. (next x e).fine old given new follows);
-  there = λ old given new is w. gives_case r P old given new (gives r Q w given w) is
-      (λ why e stop same. gives_ends r Q why w given w e stop refl)
-      (λ x e follows. gives_on r Q x w given w e ((next x e).there old given new follows w));
-}
-
-pub tries_quiet : {W V S A B : Type 0} {Fine : S → Type 0} {Is : Answer S A} (P : A → Reply W S B) (Q : A → Reply V S B) → ((why : S) → Is (Err why) → Fine why) → ((x : A) → Is (Ok x) → Quiet Fine (P x) (Q x)) → Quiet Fine (tries Is P) (tries Is Q)
-tries_quiet {Fine = Fine} {Is = Is} P Q fine next = record {
-  still = λ old given new is. tries_case Is P old given new (new ≡ old) is (λ why e stop same. same) (λ x e follows. (next x e).still old given new follows);
-  fine = λ old given new is. tries_case Is P old given new (IfErr given Fine) is (λ why e stop same. stopped_fine Fine given why stop (fine why e)) (λ x e follows. (next x e).fine old given new follows);
-  there = λ old given new is w. tries_case Is P old given new (tries Is Q w given w) is
-      (λ why e stop same. tries_ends Is Q why w given w e stop refl)
-      (λ x e follows. tries_on Is Q x w given w e ((next x e).there old given new follows w));
-}
-
-pub last_quiet : {W V S B : Type 0} {Fine : S → Type 0} (x : B) → Quiet {W = W} {V = V} {S = S} Fine (last (Ok x)) (last (Ok x))
-last_quiet {W = W} {V = V} {S = S} {B = B} {Fine = Fine} x = record {
-  still = λ old given new is. last_case (Ok x) old given new (new ≡ old) is (λ answer same. same);
-  fine = λ old given new is. last_case (Ok x) old given new (IfErr given Fine) is (λ answer same. subst (λ (r : Result B S). IfErr r Fine) (sym answer) tt);
-  there = λ old given new is w. last_case (Ok x) old given new (last (Ok x) w given w) is (λ answer same. last_is (Ok x) w given answer);
 }
 
 -- ---- what a call that ends here or goes on returns

@@ -74,6 +74,14 @@ tries_some {S = S} {A = A} {B = B} Is P one next = by one.0 one.1
     by (Ok x) is = let then = next x is in (then.0, record { gave = Ok x; is = is; follows = then.1 })
     by (Err why) is = (Err why, record { gave = Err why; is = is; follows = refl })
 
+pub checks_some : {S B : Type 0} (Is : Option S → Type 0) (P : Answer S B) → ((found : Option S) × Is found) → (Is None → IsSome P) → IsSome (checks Is P)
+unfolding unless
+checks_some {S = S} {B = B} Is P one next = by one.0 one.1
+  where
+    by : (t : Option S) → Is t → IsSome {B = B} (checks Is P)
+    by (Some why) is = (Err why, record { found = Some why; is = is; follows = refl })
+    by None is = let then = next is in (then.0, record { found = None; is = is; follows = then.1 })
+
 pub last_some : {S B : Type 0} (r : Result B S) → IsSome (last r)
 unfolding last
 last_some r = (r, refl)

@@ -4,3 +4,4 @@ pub mod ArrowLemmas
 pub mod ReachLemmas
 pub mod KeptLemmas
 pub mod LawLemmas
+pub mod ExistLemmas

@@ -11,8 +11,8 @@
 //! however many there are. `is_kept` and `is_kept_near` say whether an atom is one of a list whose keys rise. None of
 //! these questions takes memory.
 //!
-//! The laws say that the same edges, supports and roots have one list of kept atoms (`kept_atoms_are_one_list`), and
-//! that edges that end in a root, and supports that begin in one, may be left out
+//! The laws say that all edges, supports and roots have kept atoms (`kept_atoms_exist`), and just one list of them
+//! (`kept_atoms_are_one_list`), and that edges that end in a root, and supports that begin in one, may be left out
 //! (`what_leads_to_roots_adds_nothing`).
 //!
 //! A body that keeps the roots alone, or the end of each edge, wherever it begins, isn't proved, nor one that leaves
@@ -27,6 +27,6 @@ mod marking;
 mod reach;
 
 pub use key_set::KeySet;
-pub use laws::{kept_atoms_are_one_list, what_leads_to_roots_adds_nothing};
+pub use laws::{kept_atoms_are_one_list, kept_atoms_exist, what_leads_to_roots_adds_nothing};
 pub use lookup::{is_kept, is_kept_near};
 pub use marking::{kept, kept_from};

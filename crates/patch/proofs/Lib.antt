@@ -8,3 +8,6 @@ pub mod OrderLemmas
 pub mod RangeLemmas
 pub mod ReadingLemmas
 pub mod WriteLemmas
+pub mod ExistLemmas
+pub mod ChosenLemmas
+pub mod ReferenceLemmas

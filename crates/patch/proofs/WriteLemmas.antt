@@ -59,7 +59,7 @@ apart_from address size mets k at d met fields before within is =
     subst (λ (m : Met). AreApart (get_or mets k d) m) there (fields.apart k at d before within)
 
 -- the field at a place is as it was
-unwritten : (address : ℕ) (old : List ℕ) (mets : List Met) (at : ℕ) (now : List ℕ) (met : Met) → IsWriting address old mets at now → AreFields address (length old) mets → at < length mets → met ≡ get_or mets at met → field_of address now met ≡ field_of address old met
+pub unwritten : (address : ℕ) (old : List ℕ) (mets : List Met) (at : ℕ) (now : List ℕ) (met : Met) → IsWriting address old mets at now → AreFields address (length old) mets → at < length mets → met ≡ get_or mets at met → field_of address now met ≡ field_of address old met
 unfolding field_of
 unwritten address old mets at now met writing fields within is =
     let room : 4 ≤ size_of met = four_at_least met.kind in

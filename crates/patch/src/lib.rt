@@ -13,7 +13,8 @@
 //!
 //! Where `fields_are_in_order` says yes, fields are as `patch_atom` wants them, and `work_stands` says whether atoms
 //! are as `patch_range` does. The laws say that what was written reads back as the target (`fields_read_back`), that
-//! instructions keep their other bits, that no byte is in two fields or two atoms, and that the bytes are one thing.
+//! instructions keep their other bits, that no byte is in two fields or two atoms, and that the bytes are one thing and
+//! exist, where all values fit (`atoms_are_placed_or_a_fault_exists`).
 //!
 //! Refused are a body that adds an addend twice, one that cuts a branch out of reach to its lowest bits, and one that
 //! has written bytes before it answers a fault.
@@ -30,8 +31,9 @@ mod range;
 
 pub use atom::patch_atom;
 pub use laws::{
-    fields_read_back, instructions_keep_their_other_bits, no_byte_is_in_two_atoms,
-    no_byte_is_in_two_fields, patched_bytes_are_one,
+    atoms_are_placed_or_a_fault_exists, fields_of_references_lie_apart, fields_read_back,
+    instructions_keep_their_other_bits, no_byte_is_in_two_atoms, no_byte_is_in_two_fields,
+    patched_bytes_are_one,
 };
 pub use meeting::Meeting;
 pub use met::{Met, RangeFault};

@@ -26,3 +26,4 @@ pub mod WeakLemmas
 pub mod WinnerLemmas
 pub mod WordLemmas
 pub mod WordsLemmas
+pub mod ExistLemmas

@@ -12,6 +12,7 @@ ghost use Rattle.name_ids.specs.Names.{IsNumbering, gathered};
 ghost use Rattle.symbol_winners.specs.Duplicates.{IsDuplicate};
 ghost use Rattle.symbol_winners.specs.Found.{AreNamed};
 ghost use Rattle.symbol_winners.specs.Laws.{AreSameFiles, HasRoom};
+ghost use Rattle.symbol_winners.specs.SymbolTable.{IsSymbolTable, SymbolTable};
 ghost use Rattle.symbol_winners.specs.Winners.{AreWinners};
 ghost use Rattle.symbol_winners.specs.declared.winner.Winner.{Winner};
 
@@ -34,6 +35,17 @@ pub fn the_earlier_wins()
 #[tactic(auto, using(crate::proofs::NamedLemmas::names))]
 pub fn candidates_have_numbers()
     ensures { (files : List LoadedFile) (extra names : List (List ℕ)) → gathered files extra ≡ Ok names → AreNamed names files }
+{}
+
+/// All files have a symbol table, whatever the command.
+pub fn a_symbol_table_exists()
+    ensures { (command : Command) (files : List LoadedFile) → (symbols : SymbolTable) × IsSymbolTable command files symbols }
+{}
+
+/// Of names that have those of all candidates one is the least that two strong definitions have, or no name has two.
+pub fn a_least_duplicate_exists()
+    ensures { (files : List LoadedFile) (names : List (List ℕ)) → AreNamed names files
+        → (found : Option (ℕ × FileId × FileId)) × IsDuplicate files names found }
 {}
 
 /// No two winners have one name.

@@ -17,13 +17,13 @@ place-requires-clause-sections c = c.in_ok-sections.ensures.low (place-requires-
 
 pub returns-in-Ok-clause-layout_of : goal.returns-in-Ok-clause-layout_of
 returns-in-Ok-clause-layout_of c =
-    let same = same_plan c.args.command.now c.args.libs.now c.args.loaded.now.files c.args.kept.now c.args.slots.now c.args.islands.now c.atoms-atoms.result.now c.in_ok-sections.sections c.other_size.result c.atoms-atoms.ensures c.in_ok-sections.ensures.exact c.other_size.ensures in
+    let same = same_plan c.args.command.now c.args.libs.now c.args.loaded.now.files c.args.kept.now c.args.slots.now c.args.islands.now c.atoms-atoms.result.now c.in_ok-sections.sections c.other_size.result c.atoms-atoms.ensures c.in_ok-sections.ensures.exact c.other_size.ensures.size in
     subst (λ (plan : Plan). IsLayoutOf c.args.command.now plan c.in-Ok.layout) same
     (record { segments = c.in-Ok.ensures.segments; sections = c.in-Ok.ensures.sections; places = c.in-Ok.ensures.places; order = c.in-Ok.ensures.order })
 
 pub returns-in-Ok-clause-small : goal.returns-in-Ok-clause-small
 returns-in-Ok-clause-small c =
-    let same = same_plan c.args.command.now c.args.libs.now c.args.loaded.now.files c.args.kept.now c.args.slots.now c.args.islands.now c.atoms-atoms.result.now c.in_ok-sections.sections c.other_size.result c.atoms-atoms.ensures c.in_ok-sections.ensures.exact c.other_size.ensures in
+    let same = same_plan c.args.command.now c.args.libs.now c.args.loaded.now.files c.args.kept.now c.args.slots.now c.args.islands.now c.atoms-atoms.result.now c.in_ok-sections.sections c.other_size.result c.atoms-atoms.ensures c.in_ok-sections.ensures.exact c.other_size.ensures.size in
     subst (λ (plan : Plan). image_size plan < 2 ^ 32) same c.in-Ok.ensures.size
 
 pub returns-in-Ok-clause-once : goal.returns-in-Ok-clause-once
@@ -35,5 +35,5 @@ returns-in-Ok-clause-once c =
 
 pub returns-clause-fault : goal.returns-clause-fault
 returns-clause-fault c =
-    let same = same_plan c.args.command.now c.args.libs.now c.args.loaded.now.files c.args.kept.now c.args.slots.now c.args.islands.now c.atoms-atoms.result.now c.in_ok-sections.sections c.other_size.result c.atoms-atoms.ensures c.in_ok-sections.ensures.exact c.other_size.ensures in
+    let same = same_plan c.args.command.now c.args.libs.now c.args.loaded.now.files c.args.kept.now c.args.slots.now c.args.islands.now c.atoms-atoms.result.now c.in_ok-sections.sections c.other_size.result c.atoms-atoms.ensures c.in_ok-sections.ensures.exact c.other_size.ensures.size in
     subst (λ (plan : Plan). IsTooLarge (image_size plan) c.in-Err.fault) same c.in-Err.ensures.size
