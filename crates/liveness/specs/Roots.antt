@@ -71,6 +71,14 @@ plain_roots symbols file =
     filter_map (plain_root symbols.literals (external_atoms file) (winning_atoms symbols.winners file)) file.atoms
     ++ filter_map common_root (winning_atoms symbols.winners file)
 
+-- the atom in which a winner stands
+abbrev pub winner_atom : List Representative → Winner → AtomKey
+winner_atom literals winner = stands_for literals winner.atom
+
+-- the literal that stands for a winner's own, where another one does: the winner stands there, whichever file has its symbol
+unfoldable pub merged_root : List Representative → Winner → Option AtomKey
+merged_root literals winner = when (not (same_atom (winner_atom literals winner) winner.atom)) (winner_atom literals winner)
+
 -- ---- with -dead_strip
 
 -- functions that run before the program, or what an attribute marks
@@ -95,11 +103,7 @@ kept_roots symbols file =
     filter_map (section_root file.object) file.atoms
     ++ filter_map (marked_root symbols file) (enumerate_from 0 file.object.symbols)
 
--- the atom in which a winner stands
-abbrev pub winner_atom : List Representative → Winner → AtomKey
-winner_atom literals winner = stands_for literals winner.atom
-
--- that of a name's winner
+-- the atom in which a name's winner stands
 unfoldable pub name_root : SymbolTable → List ℕ → Option AtomKey
 name_root symbols name = option_map (winner_atom symbols.literals) (winner_named symbols.winners name)
 
@@ -121,4 +125,4 @@ unfoldable pub roots : Command → SymbolTable → List LoadedFile → List Atom
 roots command symbols files =
     if command.dead_strip then
     wanted_roots command symbols ++ exported_roots command symbols ++ flat_map (kept_roots symbols) files
-    else flat_map (plain_roots symbols) files
+    else flat_map (plain_roots symbols) files ++ filter_map (merged_root symbols.literals) symbols.winners

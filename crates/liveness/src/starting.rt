@@ -118,6 +118,34 @@ fn with_plain_roots(
     Ok(with_commons(roots, winning.as_slice())?)
 }
 
+// The literal that stands for that of a winner, where another one does.
+#[tactic(auto, unfolding(crate::specs::Roots::merged_root))]
+fn merged_root(symbols: &SymbolTable, winner: &Winner) -> Option<AtomKey>
+    ensures { result ≡ spec.merged_root symbols.now.literals winner.now }
+{
+    let stands = symbols.representative(winner.atom);
+    if stands == winner.atom {
+        None
+    } else {
+        Some(stands)
+    }
+}
+
+// Roots, and the literals in which winners stand that are another's.
+fn with_merged(
+    before: Vec<AtomKey>,
+    symbols: &SymbolTable,
+    list: &[Winner],
+) -> Result<Vec<AtomKey>, OutOfMemory>
+    ensures { IfOk result (λ new. new.items ≡ before.items ++ filter_map (spec.merged_root symbols.now.literals) list.now) }
+{
+    let mut roots = before;
+    for winner in list {
+        roots = with_atom(roots, merged_root(symbols, winner))?;
+    }
+    Ok(roots)
+}
+
 fn is_kept_section(section: &Section) -> bool
     ensures { result ≡ spec.is_kept_section section.now }
 {
@@ -353,8 +381,8 @@ fn all_plain(
 }
 
 /// The atoms from which all that the image keeps is reached. Without `-dead_strip` all atoms but the literals for which
-/// others stand, and those whose external symbols all name winners elsewhere; a common symbol that wins has an atom of its
-/// own. With it those of an executable's entry, of the wanted names, of the exported winners of a library or where the
+/// others stand, and those whose external symbols all name winners elsewhere; a winner in a literal stands in the one that
+/// stands for it, whichever file that is in, and a common symbol that wins has an atom of its own. With it those of an executable's entry, of the wanted names, of the exported winners of a library or where the
 /// command lists what is exported, of symbols and sections that are marked as kept (`nlist.h`: N_NO_DEAD_STRIP;
 /// `loader.h`: S_ATTR_NO_DEAD_STRIP), and of the pointers to initializers. An atom may be listed more than once. The
 /// symbols' winners are found by the numbers of their names.
@@ -373,7 +401,8 @@ pub fn roots(
     let files = loaded.files.as_slice();
     let numbers = numbers.as_slice();
     if !command.dead_strip {
-        return Ok(Items::from_vec(all_plain(alloc, symbols, files, numbers)?));
+        let plain = all_plain(alloc, symbols, files, numbers)?;
+        return Ok(Items::from_vec(with_merged(plain, symbols, symbols.winners())?));
     }
     let wanted = wanted_roots(alloc, symbols, command)?;
     let exported = with_exports(wanted, symbols, command)?;

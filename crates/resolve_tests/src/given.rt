@@ -28,8 +28,9 @@ pub enum Is {
     Undefined,
     /// N_WEAK_REF.
     MayBeMissing,
-    /// A strong definition at an address.
+    /// A strong definition at an address, and a weak one.
     At(u64),
+    WeakAt(u64),
     /// A definition at an address that other files don't see.
     Local(u64),
 }
@@ -48,7 +49,7 @@ pub fn id_of(place: (u16, u32)) -> FileId {
 fn kind_of(is: Is) -> SymbolKind {
     match is {
         Is::Strong | Is::Weak | Is::Hidden | Is::HiddenWeak => defined(1, 0),
-        Is::At(value) | Is::Local(value) => defined(1, value),
+        Is::At(value) | Is::WeakAt(value) | Is::Local(value) => defined(1, value),
         Is::Common(size, align) => SymbolKind::Common { size, align },
         Is::Undefined | Is::MayBeMissing => SymbolKind::Undefined,
     }
@@ -59,7 +60,7 @@ pub fn symbol(name: &'static [u8], is: Is) -> Symbol {
     Symbol {
         external: !matches!(is, Is::Local(_)),
         hidden: matches!(is, Is::Hidden | Is::HiddenWeak),
-        weak_def: matches!(is, Is::Weak | Is::HiddenWeak),
+        weak_def: matches!(is, Is::Weak | Is::WeakAt(_) | Is::HiddenWeak),
         weak_ref: matches!(is, Is::MayBeMissing),
         ..test_objects::symbol(name, kind_of(is))
     }

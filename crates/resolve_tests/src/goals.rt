@@ -11,6 +11,7 @@ use crate::given::{Is, Row, Section1, add, id_of, literal_section, loaded, objec
 use crate::libraries::libraries;
 use command_line::Command;
 use lib_bind::Libraries;
+use liveness::roots;
 use mo_cmd::read_all_words;
 use mo_obj::read_object;
 use mo_types::{
@@ -397,11 +398,23 @@ const STRINGS: [(Section1, &[(&[u8], Is)]); 2] = [
     ),
 ];
 
-fn strings(alloc: Global) -> Result<Option<Loaded>, OutOfMemory>
+// Two files with one string, whose name the first defines weakly and the second strongly.
+const SHARED: [(Section1, &[(&[u8], Is)]); 2] = [
+    (
+        (0, b"__cstring", 2, 0, b"hi\0"),
+        &[(b"_s", Is::WeakAt(0x40))],
+    ),
+    ((4, b"__cstring", 2, 0, b"hi\0"), &[(b"_s", Is::At(0x40))]),
+];
+
+fn strings(
+    alloc: Global,
+    rows: &[(Section1, &[(&'static [u8], Is)])],
+) -> Result<Option<Loaded>, OutOfMemory>
     ensures { IfOk result (λ loaded. IfSome loaded IsWholeLoaded) }
 {
     let mut files = Vec::new(alloc);
-    for (section, symbols) in &STRINGS {
+    for (section, symbols) in rows {
         let object = object(alloc, literal_section(alloc, section), *symbols)?;
         match add(files, alloc, (section.0, 0), object)? {
             Some(more) => files = more,
@@ -473,7 +486,11 @@ fn goals_are_found(alloc: Global) -> Result<bool, OutOfMemory> {
     let libs = libraries(alloc)?;
     match &libs {
         Some(libs) => {
-            Ok(names_lead(alloc, libs)? && is_so(alloc, &strings(alloc)?, "", &Ask::Targets(libs))?)
+            Ok(
+                names_lead(alloc, libs)?
+                    && is_so(alloc, &strings(alloc, &STRINGS)?, "", &Ask::Targets(libs))?
+                    && is_so(alloc, &strings(alloc, &SHARED)?, "", &Ask::Root((0, 0)))?,
+            )
         }
         None => Ok(false),
     }
@@ -521,6 +538,8 @@ enum Ask<'a> {
     Seen(&'static [u8], bool),
     Names(&'a Libraries, Names),
     Targets(&'a Libraries),
+    // that the first atom of a file is the one root
+    Root((u16, u32)),
     // that the winners are those that llvm-nm tells
     Told,
 }
@@ -546,6 +565,11 @@ fn is_answered(
         ),
         Ask::Names(libs, names) => all_lead(alloc, *libs, loaded, command, symbols, *names),
         Ask::Targets(libs) => targets_lead(alloc, *libs, loaded, command, numbers, symbols),
+        Ask::Root(file) => {
+            let roots = roots(alloc, loaded, symbols, numbers, command)?;
+            let key = key_of(*file, 1, 0);
+            Ok(roots.len() == 1 && roots.as_slice().iter().all(|root| *root == key))
+        }
         Ask::Told => Ok(
             NAMES
                 .iter()
