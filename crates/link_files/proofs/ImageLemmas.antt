@@ -17,8 +17,8 @@ use Rattle.slot_plan.specs.Slots.{AreSlots, needed, in_got, in_stubs, in_tlv}
 use Rattle.slot_plan.specs.declared.list.Slots.{Slots}
 use Rattle.slot_plan.specs.declared.need.Need.{Need}
 use Rattle.link_files.specs.Flags.{header_flags}
-use Rattle.link_files.specs.Linked.{AsImage, IsAnswer, making, no_islands, no_slots}
-use Rattle.link_files.specs.Refusals.{refusal_of}
+use Rattle.link_files.specs.Linked.{AsImage, making, no_islands, no_slots}
+use Rattle.link_files.specs.Refusals.{IsToldAs}
 use Rattle.link_files.specs.Resolved.{IsResolved, files_of, table_of}
 use Rattle.link_files.specs.declared.resolved.Resolved.{Resolved}
 
@@ -73,19 +73,10 @@ same_scheme r flags keys slots islands is f s i =
 
 pub image_made : (r : Resolved) (flags : ℕ) (keys : List AtomKey) (slots : Slots) (islands : IslandPlan) (image : List ℕ) → IsResolved r → flags ≡ header_flags r.command.now r.libs.now r.symbols.now keys → slots ≡ no_slots → islands ≡ no_islands
     → IsMade (scheme_of r flags keys slots islands) (Ok image) → AsImage r.command.now r.libs.now (files_of r) r.symbols.now keys (Ok image)
-image_made r flags keys slots islands image is f s i made = record {
-  made = Ok image;
-  is_made = subst (λ (m : ImageInputs). IsMade m (Ok image)) (same_scheme r flags keys slots islands is f s i) made;
-  answer = tt;
-  told = refl;
-}
+image_made r flags keys slots islands image is f s i made = subst (λ (m : ImageInputs). IsMade m (Ok image)) (same_scheme r flags keys slots islands is f s i) made
 
 pub fault_made : (r : Resolved) (flags : ℕ) (keys : List AtomKey) (slots : Slots) (islands : IslandPlan) (why : MakeFault) (refusal : Refusal) → IsResolved r → flags ≡ header_flags r.command.now r.libs.now r.symbols.now keys → slots ≡ no_slots → islands ≡ no_islands
-    → IsMade (scheme_of r flags keys slots islands) (Err why) → IsAnswer {A = List ℕ} (Err why) → refusal ≡ refusal_of r.command.now (files_of r) why
+    → IsMade (scheme_of r flags keys slots islands) (Err why) → IsToldAs r.command.now (files_of r) why refusal
     → AsImage r.command.now r.libs.now (files_of r) r.symbols.now keys (Err refusal)
-fault_made r flags keys slots islands why refusal is f s i made real told = record {
-  made = Err why;
-  is_made = subst (λ (m : ImageInputs). IsMade m (Err why)) (same_scheme r flags keys slots islands is f s i) made;
-  answer = real;
-  told = ap Err told;
-}
+fault_made r flags keys slots islands why refusal is f s i made told =
+    (why, subst (λ (m : ImageInputs). IsMade m (Err why)) (same_scheme r flags keys slots islands is f s i) made, told)

@@ -1,12 +1,14 @@
 mod ApartLemmas
 pub mod CauseLemmas
 pub mod DuplicateLemmas
+pub mod ExistLemmas
 pub mod ImageLemmas
 pub mod InsideLemmas
 mod KeepingLemmas
 pub mod KeptLemmas
 pub mod LaterLemmas
 pub mod LostLemmas
+pub mod MissingLemmas
 pub mod NameLemmas
 pub mod OneLemmas
 mod RaceLemmas

@@ -1,7 +1,7 @@
 -- Loaded files link to one thing.
 use Rattle.std.proofs.Common.{◌≡◌, ℕ, ◌+◌, ◌<◌, ◌≤◌, ◌^◌, ◌++◌, Bool, true, false, ℤ, List, [], ◌∷◌, map, Option, Some, None, Result, Ok, Err, refl, sym, ap, ap₂, subst, ◌∙◌, arith, if◌then◌else◌}
 use Rattle.std.specs.Prelude.{All, slice_get}
-use Rattle.std.specs.List.{AllPairs, flat_map, list_any}
+use Rattle.std.specs.List.{AllPairs, filter_map, flat_map, list_any}
 use Rattle.std.specs.List.Sorted.{IsStrictlySortedBy}
 use Rattle.std.specs.Ordering.{on}
 use Rattle.image_make.specs.Atoms.{atom_of, kept_atoms}
@@ -32,7 +32,7 @@ use Rattle.liveness.specs.Edges.{edges_by, supports_by}
 use Rattle.resolve.specs.Goals.{goal_of_name, goal_table}
 use Rattle.symbol_winners.specs.SymbolTable.{IsSymbolTable, SymbolTable}
 use Rattle.literal_merge.specs.Representatives.{representatives_of}
-use Rattle.liveness.specs.Roots.{exported_root, exported_roots, kept_roots, marked_root, name_root, plain_roots, roots, wanted_roots}
+use Rattle.liveness.specs.Roots.{exported_root, exported_roots, kept_roots, marked_root, name_root, merged_root, plain_roots, roots, wanted_roots}
 use Rattle.literal_merge.specs.declared.representative.Representative.{Representative}
 use Rattle.symbol_winners.specs.declared.winner.Winner.{Winner}
 use Rattle.sect_list.proofs.Once.{listed_once}
@@ -43,10 +43,10 @@ use Rattle.sect_place.specs.declared.layout.Layout.{Layout}
 use Rattle.sect_place.specs.declared.size.PlaceFault.TheVariants as place
 use Rattle.link_files.specs.Flags.{header_flags, is_weak_export, kind_flag, weak_flag}
 use Rattle.link_files.specs.Later.{later_refusal}
-use Rattle.link_files.specs.Linked.{AsImage, AsMade, IsAnswer, IsLinked, making}
+use Rattle.link_files.specs.Linked.{AsImage, AsMade, IsLinked, making}
 use Rattle.link_files.specs.Lost.{undefined_refusal}
 use Rattle.link_files.specs.Names.{label_of, wanted}
-use Rattle.link_files.specs.Refusals.{AreOnce, IsDuplicateTold, IsTwice, told_as}
+use Rattle.link_files.specs.Refusals.{AreOnce, IsDuplicateTold, IsToldAs, IsTwice}
 use Rattle.link_files.specs.Resolved.{AreKept}
 use Rattle.link_files.proofs.ApartLemmas.{work_apart}
 use Rattle.link_files.proofs.KeptLemmas.{IsCut, kept_rise}
@@ -102,6 +102,10 @@ plain_looked : (symbols : SymbolTable) (file : LoadedFile) → plain_roots symbo
 unfolding plain_roots looked_at
 plain_looked symbols file = refl
 
+merged_looked : (symbols : SymbolTable) → filter_map (merged_root symbols.literals) symbols.winners ≡ filter_map (merged_root (looked_at symbols).literals) (looked_at symbols).winners
+unfolding looked_at
+merged_looked symbols = refl
+
 either_same : (b : Bool) (xs ys zs ws : List AtomKey) → xs ≡ ys → zs ≡ ws → (if b then xs else zs) ≡ (if b then ys else ws)
 either_same true xs ys zs ws first second = first
 either_same false xs ys zs ws first second = second
@@ -113,7 +117,7 @@ roots_looked command symbols files =
     (ap₂ (λ (xs ys : List AtomKey). xs ++ ys)
     (ap₂ (λ (xs ys : List AtomKey). xs ++ ys) (wanted_looked command symbols) (exported_looked command symbols))
     (flat_same (kept_roots symbols) (kept_roots (looked_at symbols)) (kept_looked symbols) files))
-    (flat_same (plain_roots symbols) (plain_roots (looked_at symbols)) (plain_looked symbols) files)
+    (ap₂ (λ (xs ys : List AtomKey). xs ++ ys) (flat_same (plain_roots symbols) (plain_roots (looked_at symbols)) (plain_looked symbols) files) (merged_looked symbols))
 
 roots_same : (command : Command) (files : List LoadedFile) (a b : SymbolTable) → IsSymbolTable command files a → IsSymbolTable command files b → roots command a files ≡ roots command b files
 unfolding looked_at
@@ -163,6 +167,14 @@ fault_one m key other_key fault other_fault rising (lay, laid, work, least) (oth
     one_fault m.files (mets_of m lay) (rows_of m lay) (key, fault) (other_key, other_fault) work.fields (work_apart m lay rising laid) least
     (subst (λ (l : Layout). IsLeastFault m.files (mets_of m l) (rows_of m l) other_key other_fault) same more)
 
+-- an image, or a fault of what it is made of
+abbrev IsAnswer : Result (List ℕ) MakeFault → Type 0
+IsAnswer (Ok image) = Unit {0}
+IsAnswer (Err (make.Place (place.ImageSize value))) = Unit {0}
+IsAnswer (Err (make.Place place.OutOfMemory)) = ⊥
+IsAnswer (Err (make.Range key fault)) = Unit {0}
+IsAnswer (Err make.OutOfMemory) = ⊥
+
 made_one : (m : ImageInputs) (a b : Result (List ℕ) MakeFault) → IsStrictlySortedBy (on (λ (atom : Atom). atom.key) compare_keys) (map atom_of (kept_of m)) → IsAnswer a → IsAnswer b → IsMade m a → IsMade m b → a ≡ b
 made_one m (Ok a) (Ok b) rising p q x y = ap Ok (image_one m a b rising x y)
 made_one m (Ok a) (Err (make.Place (place.ImageSize value))) rising p q (lay, laid, filled) y = let small : image_size (plan_for m) < 2 ^ 32 = laid.small in let large : 2 ^ 32 ≤ image_size (plan_for m) = y.0 in absurd (omega (arith, small, large))
@@ -189,11 +201,43 @@ unfolding making
 rising_of command libs files flags keys pairs cut =
     rising_atoms (kept_atoms (representatives_of files) keys files) (kept_rise (representatives_of files) keys files pairs cut)
 
+answer_of : (command : Command) (files : List LoadedFile) (fault : MakeFault) (why : Refusal) → IsToldAs command files fault why → IsAnswer (Err fault)
+answer_of command files (make.Place (place.ImageSize value)) why told = tt
+answer_of command files (make.Place place.OutOfMemory) why told = absurd told
+answer_of command files (make.Range key fault) why told = tt
+answer_of command files make.OutOfMemory why told = absurd told
+
+told_same : (command : Command) (files : List LoadedFile) (fault : MakeFault) (a b : Refusal) → IsToldAs command files fault a → IsToldAs command files fault b → a ≡ b
+told_same command files (make.Place (place.ImageSize value)) a b p q = p ∙ sym q
+told_same command files (make.Place place.OutOfMemory) a b p q = absurd p
+told_same command files (make.Range key fault) a b p q = p ∙ sym q
+told_same command files make.OutOfMemory a b p q = absurd p
+
 made_same : (command : Command) (libs : LibraryGraph) (files : List LoadedFile) (flags : ℕ) (keys : List AtomKey) (a b : Result (List ℕ) Refusal) → AllPairs (λ a b. IsBefore a.id b.id) files → All IsCut files → AsMade command libs files flags keys a → AsMade command libs files flags keys b → a ≡ b
-made_same command libs files flags keys a b pairs cut p q =
-    p.told
-    ∙ ap (told_as command files) (made_one (making command libs files flags keys) p.made q.made (rising_of command libs files flags keys pairs cut) p.answer q.answer p.is_made q.is_made)
-    ∙ sym q.told
+made_same command libs files flags keys a b pairs cut p q = by a b p q
+  where
+    m : ImageInputs
+    m = making command libs files flags keys
+
+    rising : IsStrictlySortedBy (on (λ (atom : Atom). atom.key) compare_keys) (map atom_of (kept_of m))
+    rising = rising_of command libs files flags keys pairs cut
+
+    no_fault : (image : List ℕ) (fault : MakeFault) (why : Refusal) → IsMade m (Ok image) → IsMade m (Err fault) → IsToldAs command files fault why → ⊥
+    no_fault image fault why is other told =
+        let same : ◌≡◌ {A = Result (List ℕ) MakeFault} (Ok image) (Err fault) = made_one m (Ok image) (Err fault) rising tt (answer_of command files fault why told) is other in
+        cc
+
+    one_fault_only : (f g : MakeFault) (v w : Refusal) → IsMade m (Err f) → IsMade m (Err g) → IsToldAs command files f v → IsToldAs command files g w → v ≡ w
+    one_fault_only f g v w is other told tell =
+        let both : ◌≡◌ {A = Result (List ℕ) MakeFault} (Err f) (Err g) = made_one m (Err f) (Err g) rising (answer_of command files f v told) (answer_of command files g w tell) is other in
+        let same : g ≡ f = cc in
+        told_same command files f v w told (subst (λ (x : MakeFault). IsToldAs command files x w) same tell)
+
+    by : (a b : Result (List ℕ) Refusal) → AsMade command libs files flags keys a → AsMade command libs files flags keys b → a ≡ b
+    by (Ok x) (Ok y) is other = ap Ok (image_one m x y rising is other)
+    by (Ok x) (Err w) is other = absurd (no_fault x other.0 w is other.1 other.2)
+    by (Err v) (Ok y) is other = absurd (no_fault y is.0 v other is.1 is.2)
+    by (Err v) (Err w) is other = ap Err (one_fault_only is.0 other.0 v w is.1 other.1 is.2 other.2)
 
 image_same : (command : Command) (libs : LibraryGraph) (files : List LoadedFile) (symbols other : SymbolTable) (keys others : List AtomKey) → AllPairs (λ a b. IsBefore a.id b.id) files → All IsCut files → IsSymbolTable command files symbols → IsSymbolTable command files other → keys ≡ others
     → Agree (AsImage command libs files symbols keys) (AsImage command libs files other others)

@@ -1,7 +1,8 @@
 -- Why loaded files are refused: the causes in the order of the steps.
-use Rattle.std.specs.Prelude.{ℕ, ◌≡◌, ◌<◌, ◌≤◌, ◌^◌, ◌++◌, ◌⊎◌, ℤ, List, length, Some, None, Ok, Err}
-use Rattle.image_make.specs.Made.{IsMade, ImageInputs}
-use Rattle.image_make.specs.declared.fault.MakeFault.TheVariants as make
+use Rattle.std.specs.Prelude.{ℕ, ◌≡◌, ◌<◌, ◌≤◌, ◌^◌, ◌++◌, ◌⊎◌, pos, true, false, List, [], length, slice_get, Some, None, Ok}
+use Rattle.std.specs.Cmp.Lexicographic.{slice_cmp}
+use Rattle.std.specs.Ordering.{is_lt, nat_cmp}
+use Rattle.image_make.specs.Made.{IsLaid, ImageInputs, blank, mets_of, plan_for, rows_of}
 use Rattle.liveness.specs.Undefined.{undefined}
 use Rattle.lib_bind.specs.declared.library.LibraryGraph.{LibraryGraph}
 use Rattle.link_steps.specs.Steps.{Cause, ◌>>=◌, ◌>>◌, always, passes, refuses, stands, taken}
@@ -15,14 +16,17 @@ use Rattle.mo_types.specs.declared.goal.Goal.{Goal}
 use Rattle.mo_types.specs.declared.key.AtomKey.{AtomKey}
 use Rattle.mo_types.specs.declared.loaded.LoadedFile.{LoadedFile}
 use Rattle.name_ids.specs.Names.{external_names, numbered}
+use Rattle.patch.specs.Range.{AreWork, IsLeastFault}
 use Rattle.patch.specs.declared.met.RangeFault.{RangeFault}
 use Rattle.resolve.specs.Goals.{goal_of_name, goal_table}
 use Rattle.symbol_winners.specs.SymbolTable.{IsSymbolTable, SymbolTable}
-use Rattle.sect_place.specs.declared.size.PlaceFault.TheVariants as place
+use Rattle.sect_place.specs.Layout.{image_size}
+use Rattle.sect_place.specs.declared.layout.Layout.{Layout}
 use Rattle.link_files.specs.Flags.{header_flags}
-use Rattle.link_files.specs.Later.{first_later}
+use Rattle.link_files.specs.Later.{first_later, is_outer}
 use Rattle.link_files.specs.Linked.{AsMade, making}
 use Rattle.link_files.specs.Lost.{lost_wanted}
+use Rattle.link_files.specs.Missing.{Asks, HoldsOfNone, IsFirstFile, IsWantedInVain, Misses}
 use Rattle.link_files.specs.Names.{atoms_in, label_of, wanted}
 use Rattle.link_files.specs.Refusals.{AreOnce, IsTwice}
 use Rattle.link_files.specs.Resolved.{AreKept}
@@ -43,31 +47,47 @@ AreNames files wanted names = (length (all_names files wanted) < 2 ^ 24) × (nam
 abbrev pub HaveManyAtoms : List LoadedFile → Cause Refusal
 HaveManyAtoms files why = (2 ^ 24 ≤ atoms_in files) × (why ≡ Limit Atoms)
 
--- a name leads nowhere, and no lesser one does, of those to which kept atoms refer and of the wanted ones; the file is the
--- first of which a kept atom refers to it
-pub record IsLost (command : Command) (libs : LibraryGraph) (files : List LoadedFile) (goals : List (List Goal)) (keys : List AtomKey) (why : Refusal) : Type 0 where
+-- a name that some kept atom refers to, or that the command line wants, and that stands for nothing
+abbrev pub IsMissed : Command → LibraryGraph → List LoadedFile → List AtomKey → List ℕ → Type 0
+IsMissed command libs files keys name =
+    ((k : ℕ) × (file : LoadedFile) × (slice_get files k ≡ Some file) × Misses command libs files keys name file) ⊎ IsWantedInVain command libs files name
+
+-- what messages call the first file of which a kept atom refers to it; what the command line alone wants is of none
+abbrev pub IsMissedIn : Command → LibraryGraph → List LoadedFile → List AtomKey → List ℕ → List ℕ → Type 0
+IsMissedIn command libs files keys name label =
+    ((file : LoadedFile) × IsFirstFile (Misses command libs files keys name) files file × (label ≡ file.label))
+    ⊎ (HoldsOfNone (Misses command libs files keys name) files × IsWantedInVain command libs files name × (label ≡ []))
+
+-- a name stands for nothing, and no lesser one does, of those to which kept atoms refer and of the wanted ones
+pub record IsLost (command : Command) (libs : LibraryGraph) (files : List LoadedFile) (keys : List AtomKey) (why : Refusal) : Type 0 where
   pub name : List ℕ
   pub file : List ℕ
-  pub lost : undefined keys files goals (lost_wanted command libs files) ≡ Some (name, file)
+  pub missed : IsMissedIn command libs files keys name file
+  pub least : (other : List ℕ) → IsMissed command libs files keys other → is_lt (slice_cmp nat_cmp other name) ≡ false
   pub told : why ≡ Undefined name file
 
--- a kept atom of the file, or the entry, refers to what the loader looks up
-pub record IsLookedUp (command : Command) (files : List LoadedFile) (goals : List (List Goal)) (entry : Goal) (keys : List AtomKey) (why : Refusal) : Type 0 where
-  pub file : List ℕ
-  pub later : first_later command files goals entry keys ≡ Some file
-  pub told : why ≡ Unsupported file Later
+-- a kept atom of a file refers to what the loader looks up, and none of an earlier file does; or the entry alone is in another
+-- image
+abbrev pub IsLookedUp : Command → LibraryGraph → List LoadedFile → List AtomKey → Cause Refusal
+IsLookedUp command libs files keys why =
+    ((file : LoadedFile) × IsFirstFile (Asks command libs files keys) files file × (why ≡ Unsupported file.label Later))
+    ⊎ (HoldsOfNone (Asks command libs files keys) files × (command.dylib ≡ false)
+    × (is_outer (goal_of_name files libs command command.entry) ≡ true) × (why ≡ Unsupported command.output Later))
 
--- what stands before `__LINKEDIT` has so many bytes, which are too many
+-- the layout has 2^32 bytes or more before `__LINKEDIT`
 pub record IsTooLong (m : ImageInputs) (why : Refusal) : Type 0 where
-  pub value : ℤ
-  pub size : IsMade m (Err (make.Place (place.ImageSize value)))
-  pub told : why ≡ Range m.command.output 0 ImageSize value
+  pub long : 2 ^ 32 ≤ image_size (plan_for m)
+  pub told : why ≡ Range m.command.output 0 ImageSize (pos (image_size (plan_for m)))
 
--- a value of a reference doesn't fit its field, and none of an atom with a lesser key, or before it in its atom, doesn't
+-- The layout has fewer. A value of a reference of a kept atom doesn't fit its field, and all fit of the atoms with lesser
+-- keys, and of those at lesser places in the atom.
 pub record IsOutOfRange (m : ImageInputs) (why : Refusal) : Type 0 where
+  pub layout : Layout
+  pub laid : IsLaid m layout
+  pub stands : AreWork m.files (mets_of m layout) 0 (length (blank m layout)) (rows_of m layout)
   pub key : AtomKey
   pub fault : RangeFault
-  pub unfit : IsMade m (Err (make.Range key fault))
+  pub unfit : IsLeastFault m.files (mets_of m layout) (rows_of m layout) key fault
   pub told : why ≡ Range (label_of m.files key.file) fault.file_place fault.kind fault.value
 
 -- the image is too long, or the value of a reference is out of range
@@ -82,10 +102,9 @@ LinkCause command libs files = do
   passes (IsTwice files names) (AreOnce files)
   symbols ← taken (IsSymbolTable command files)
   goals ← always (goal_table files libs command)
-  entry ← always (goal_of_name files libs command command.entry)
   keys ← taken (AreKept command files symbols goals)
-  refuses (IsLost command libs files goals keys)
-  refuses (IsLookedUp command files goals entry keys)
+  refuses (IsLost command libs files keys)
+  refuses (IsLookedUp command libs files keys)
   IsUnfit (making command libs files (header_flags command libs symbols keys) keys)
 
 -- ---- where nothing is refused

@@ -3,6 +3,7 @@ pub mod Names
 pub mod Flags
 pub mod Lost
 pub mod Later
+pub mod Missing
 pub mod Refusals
 pub mod Resolved
 pub mod Linked

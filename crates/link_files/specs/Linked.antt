@@ -1,14 +1,14 @@
 -- What loaded files link to: an image, or the first refusal in the order of the steps.
-use Rattle.std.specs.Prelude.{ℕ, ◌≡◌, ◌≤◌, List, [], All, Result, Ok, Err}
+use Rattle.std.specs.Prelude.{ℕ, ◌≡◌, ◌≤◌, List, [], All, Ok, Err}
 use Rattle.std.specs.List.{AllPairs}
 use Rattle.image_make.specs.Made.{IsMade, ImageInputs}
+use Rattle.image_make.specs.Whole.{AreBytesIn, HasFront}
 use Rattle.image_make.specs.declared.fault.MakeFault.{MakeFault}
-use Rattle.image_make.specs.declared.fault.MakeFault.TheVariants as make
 use Rattle.lib_bind.specs.declared.library.LibraryGraph.{LibraryGraph}
 use Rattle.link_steps.specs.Steps.{Answer, ◌>>=◌, ◌>>◌, always, checks, gives, some, unless}
 use Rattle.command_line.specs.declared.command.Command.{Command}
 use Rattle.mo_types.specs.Atoms.{atoms_of}
-use Rattle.mo_types.specs.Loaded.{IsBefore}
+use Rattle.mo_types.specs.Loaded.{IsBefore, IsWholeFile}
 use Rattle.mo_types.specs.declared.answer.Refusal.{Refusal}
 use Rattle.mo_types.specs.declared.key.AtomKey.{AtomKey}
 use Rattle.mo_types.specs.declared.loaded.LoadedFile.{LoadedFile}
@@ -16,13 +16,12 @@ use Rattle.resolve.specs.Goals.{goal_of_name, goal_table}
 use Rattle.symbol_winners.specs.SymbolTable.{IsSymbolTable, SymbolTable}
 use Rattle.literal_merge.specs.Representatives.{representatives_of}
 use Rattle.sect_place.specs.declared.island.IslandPlan.{IslandPlan}
-use Rattle.sect_place.specs.declared.size.PlaceFault.TheVariants as place
 use Rattle.slot_plan.specs.declared.list.Slots.{Slots}
 use Rattle.link_files.specs.Flags.{header_flags}
 use Rattle.link_files.specs.Later.{later_refusal}
 use Rattle.link_files.specs.Lost.{undefined_refusal}
 use Rattle.link_files.specs.Names.{atoms_refusal, names_of, wanted}
-use Rattle.link_files.specs.Refusals.{IsDuplicateTold, told_as}
+use Rattle.link_files.specs.Refusals.{IsDuplicateTold, IsToldAs}
 use Rattle.link_files.specs.Resolved.{AreKept}
 
 -- the ids of files rise
@@ -59,20 +58,11 @@ making command libs files flags keys = record {
   islands = no_islands;
 }
 
--- an image, or a fault of what it is made of
-abbrev pub IsAnswer : {A : Type 0} → Result A MakeFault → Type 0
-IsAnswer (Ok image) = Unit {0}
-IsAnswer (Err (make.Place (place.ImageSize value))) = Unit {0}
-IsAnswer (Err (make.Place place.OutOfMemory)) = ⊥
-IsAnswer (Err (make.Range key fault)) = Unit {0}
-IsAnswer (Err make.OutOfMemory) = ⊥
-
--- the image of the kept atoms, or the fault for which there is none
-pub record AsMade (command : Command) (libs : LibraryGraph) (files : List LoadedFile) (flags : ℕ) (keys : List AtomKey) (given : Result (List ℕ) Refusal) : Type 0 where
-  pub made : Result (List ℕ) MakeFault
-  pub is_made : IsMade (making command libs files flags keys) made
-  pub answer : IsAnswer made
-  pub told : given ≡ told_as command files made
+-- the image of the kept atoms, or the fault for which there is none, as it is told
+abbrev pub AsMade : Command → LibraryGraph → List LoadedFile → ℕ → List AtomKey → Answer Refusal (List ℕ)
+AsMade command libs files flags keys (Ok image) = IsMade (making command libs files flags keys) (Ok image)
+AsMade command libs files flags keys (Err why) =
+    (fault : MakeFault) × IsMade (making command libs files flags keys) (Err fault) × IsToldAs command files fault why
 
 -- the same, with the flags that its header has
 abbrev pub AsImage : Command → LibraryGraph → List LoadedFile → SymbolTable → List AtomKey → Answer Refusal (List ℕ)
@@ -98,3 +88,12 @@ abbrev pub IsLinked : Command → LibraryGraph → List LoadedFile → Answer Re
 IsLinked command libs files = do
   names ← gives (names_of files (wanted command))
   AsNamed command libs files names
+
+-- Files as a link has them: whole ones in order, none of whose atoms is aligned to more than a page, and of bytes, as are
+-- the names that stand in the load commands of any image of theirs.
+pub record AreLinkable (command : Command) (libs : LibraryGraph) (files : List LoadedFile) : Type 0 where
+  pub ordered : AreOrdered files
+  pub whole : All IsWholeFile files
+  pub low : AreLow files
+  pub bytes : AreBytesIn files
+  pub front : (flags : ℕ) (keys : List AtomKey) → HasFront (making command libs files flags keys)

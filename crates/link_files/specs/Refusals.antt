@@ -1,5 +1,5 @@
 -- How a link tells what it found.
-use Rattle.std.specs.Prelude.{ℕ, ◌≡◌, pos, List, Option, Some, None, Result, Ok, Err}
+use Rattle.std.specs.Prelude.{ℕ, ◌≡◌, List, Option, Some, None}
 use Rattle.image_make.specs.declared.fault.MakeFault.{MakeFault}
 use Rattle.image_make.specs.declared.fault.MakeFault.TheVariants as make
 use Rattle.command_line.specs.declared.command.Command.{Command}
@@ -28,14 +28,10 @@ abbrev pub IsDuplicateTold : List LoadedFile → List (List ℕ) → Option Refu
 IsDuplicateTold files names None = AreOnce files
 IsDuplicateTold files names (Some why) = IsTwice files names why
 
--- The image is at fault by its size, and a reference by its file and its place there. Want of memory is no refusal: that
--- row only makes the table whole.
-abbrev pub refusal_of : Command → List LoadedFile → MakeFault → Refusal
-refusal_of command files (make.Place (place.ImageSize value)) = refusal.Range command.output 0 ImageSize value
-refusal_of command files (make.Place place.OutOfMemory) = refusal.Range command.output 0 ImageSize (pos 0)
-refusal_of command files (make.Range key fault) = refusal.Range (label_of files key.file) fault.file_place fault.kind fault.value
-refusal_of command files make.OutOfMemory = refusal.Range command.output 0 ImageSize (pos 0)
-
-abbrev pub told_as : Command → List LoadedFile → Result (List ℕ) MakeFault → Result (List ℕ) Refusal
-told_as command files (Ok image) = Ok image
-told_as command files (Err fault) = Err (refusal_of command files fault)
+-- An image that is too large is refused by its path and its size, and a reference whose value doesn't fit by its file and
+-- its place there. Want of memory is no refusal.
+abbrev pub IsToldAs : Command → List LoadedFile → MakeFault → Refusal → Type 0
+IsToldAs command files (make.Place (place.ImageSize value)) why = why ≡ refusal.Range command.output 0 ImageSize value
+IsToldAs command files (make.Place place.OutOfMemory) why = ⊥
+IsToldAs command files (make.Range key fault) why = why ≡ refusal.Range (label_of files key.file) fault.file_place fault.kind fault.value
+IsToldAs command files make.OutOfMemory why = ⊥

@@ -1,11 +1,11 @@
 //! The image of the atoms that are kept.
-ghost use Rattle.std.specs.Prelude.{◌≡◌, ℕ, List, Err, IfOk};
+ghost use Rattle.std.specs.Prelude.{◌≡◌, IfOk};
 ghost use Rattle.std.specs.List.Sorted.{IsStrictlySortedBy};
 ghost use Rattle.link_steps.specs.Steps.{Meets};
 ghost use Rattle.mo_types.specs.Keys.{compare_keys};
 ghost use Rattle.mo_types.specs.Loaded.{IsWholeLoaded};
-ghost use Rattle.link_files.specs.Linked.{AreLow, AsImage, IsAnswer, no_islands, no_slots};
-ghost use Rattle.link_files.specs.Refusals as refusals;
+ghost use Rattle.link_files.specs.Linked.{AreLow, AsImage, no_islands, no_slots};
+ghost use Rattle.link_files.specs.Refusals.{IsToldAs};
 ghost use Rattle.link_files.specs.Resolved.{IsResolved, files_of};
 
 use crate::flags::header_flags;
@@ -41,8 +41,7 @@ fn no_islands(alloc: Global) -> IslandPlan
 
 // The refusal of what isn't made.
 fn refusal_of(command: &Command, loaded: &Loaded, fault: MakeFault) -> Result<Refusal, OutOfMemory>
-    ensures real { IfOk result (λ refusal. IsAnswer {A = List ℕ} (Err fault)) }
-    ensures told { IfOk result (λ refusal. refusal ≡ refusals.refusal_of command.now loaded.now.files fault) }
+    ensures { IfOk result (IsToldAs command.now loaded.now.files fault) }
 {
     match fault {
         MakeFault::Place(PlaceFault::ImageSize { value }) => Ok(Refusal::Range {
@@ -66,6 +65,7 @@ pub(crate) fn image_of<R: Threads + Sync, G: Gate + Sync>(
     rt: &R,
     alloc: Global,
     gate: &G,
+    threads: u32,
     resolved: &Resolved,
     keys: &KeyList,
 ) -> Result<Bytes, StepFault<Refusal>>
@@ -97,7 +97,7 @@ pub(crate) fn image_of<R: Threads + Sync, G: Gate + Sync>(
         slots: &slots,
         islands: &islands,
     };
-    match make_image(rt, alloc, gate, &scheme) {
+    match make_image(rt, alloc, gate, threads, &scheme) {
         Ok(image) => Ok(image),
         Err(fault) => Err(StepFault::Stop(refusal_of(command, loaded, fault)?)),
     }

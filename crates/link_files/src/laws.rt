@@ -1,11 +1,16 @@
 //! What holds of what loaded files link to, each on a call that does nothing.
 ghost use Rattle.std.specs.Prelude.{ℕ, List, Ok};
 ghost use Rattle.lib_bind.specs.declared.library.LibraryGraph.{LibraryGraph};
-ghost use Rattle.link_steps.specs.Steps.{IsOne, Stops};
+ghost use Rattle.link_steps.specs.Steps.{IsOne, IsSome, Stops};
 ghost use Rattle.command_line.specs.declared.command.Command.{Command as Commanded};
 ghost use Rattle.mo_types.specs.declared.loaded.LoadedFile.{LoadedFile};
 ghost use Rattle.link_files.specs.Causes.{LinkCause, WentThrough};
-ghost use Rattle.link_files.specs.Linked.{AreCut, AreOrdered, IsLinked};
+ghost use Rattle.link_files.specs.Linked.{AreCut, AreLinkable, AreOrdered, IsLinked};
+
+/// Files as a link has them link to something.
+pub fn a_link_exists()
+    ensures { (command : Commanded) (libs : LibraryGraph) (files : List LoadedFile) → AreLinkable command libs files → IsSome (IsLinked command libs files) }
+{}
 
 /// Files whose ids rise, each cut into the pieces of its object, link to one thing.
 pub fn a_link_is_one()

@@ -8,10 +8,11 @@
 //! meets, such as the atoms that are kept, is said by what that answer is. `LinkCause` (`specs/Causes.antt`) lists in
 //! the same order why each step refuses.
 //!
-//! Files link to one thing (`a_link_is_one`), which is a refusal exactly where its cause stands and none before it
-//! does (`refusals_have_causes`); where it is an image none of the steps refused (`images_went_through_all_steps`).
-//! All three come by one fact for each step. So refused are a body that links names with two strong definitions, one
-//! that tells what the loader looks up before names that lead nowhere, and one that doesn't ask for wanted names.
+//! Files link to something (`a_link_exists`), and to one thing (`a_link_is_one`), which is a refusal exactly where its
+//! cause stands and none before it does (`refusals_have_causes`); where it is an image none of the steps refused
+//! (`images_went_through_all_steps`). All four come by one fact for each step. So refused are a body that links names
+//! with two strong definitions, one that tells what the loader looks up before names that lead nowhere, and one that
+//! doesn't ask for wanted names.
 #![tactic(auto)]
 
 mod duplicates;
@@ -27,6 +28,6 @@ mod names;
 mod racing;
 mod resolved;
 
-pub use laws::{a_link_is_one, images_went_through_all_steps, refusals_have_causes};
+pub use laws::{a_link_exists, a_link_is_one, images_went_through_all_steps, refusals_have_causes};
 pub use linking::link_files;
 pub use names::wanted_names;

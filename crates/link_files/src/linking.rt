@@ -26,7 +26,7 @@ use std::alloc::Global;
 use std::thread::Threads;
 use symbol_winners::winners;
 
-/// The image of loaded files, written by as many workers as the command says, or the first refusal of these: 2^24 names;
+/// The image of loaded files, written by so many workers, or the first refusal of these: 2^24 names;
 /// 2^24 atoms; a name with two strong definitions; one that is referred to or wanted and leads nowhere; a goal that comes
 /// with a later version; an image of 2^32 bytes; a value that doesn't fit its field. The answer is the same for every number
 /// of workers.
@@ -35,6 +35,7 @@ pub fn link_files<R: Threads + Sync, G: Gate + Sync>(
     rt: &R,
     alloc: Global,
     gate: &G,
+    threads: u32,
     command: &Command,
     libs: &Libraries,
     loaded: &Loaded,
@@ -46,6 +47,7 @@ pub fn link_files<R: Threads + Sync, G: Gate + Sync>(
     let wanted = wanted_names(alloc, command)?;
     let numbered = names_of(alloc, loaded, &wanted)?;
     let inputs = Inputs {
+        threads,
         command,
         libs,
         loaded,
@@ -72,6 +74,7 @@ fn link_named<R: Threads + Sync, G: Gate + Sync>(
     ensures { Meets (AsNamed inputs.now.command.now inputs.now.libs.now inputs.now.loaded.now.files numbered.now.names) result }
 {
     let Inputs {
+        threads,
         command,
         libs,
         loaded,
@@ -79,7 +82,7 @@ fn link_named<R: Threads + Sync, G: Gate + Sync>(
     let Numbered { names, numbers } = numbered;
     few_atoms(loaded.files.as_slice())?;
     defined_once(alloc, loaded, numbered)?;
-    let words = raced_words(rt, alloc, gate, command, loaded, numbered)?;
+    let words = raced_words(rt, alloc, gate, inputs, numbered)?;
     let symbols = winners(alloc, loaded, names, numbers, words.as_slice(), command)?;
     let goals = goal_table(alloc, loaded, &symbols, numbers, libs, command)?;
     let start = command.entry.as_slice();
@@ -95,5 +98,5 @@ fn link_named<R: Threads + Sync, G: Gate + Sync>(
     let keys = kept_keys(alloc, &resolved, numbers)?;
     all_defined(alloc, &resolved, wanted, &keys)?;
     all_inside(&resolved, &keys)?;
-    image_of(rt, alloc, gate, &resolved, &keys)
+    image_of(rt, alloc, gate, threads, &resolved, &keys)
 }

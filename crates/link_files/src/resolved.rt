@@ -5,9 +5,10 @@ use mo_types::{Goal, Loaded};
 use resolve::GoalTable;
 use symbol_winners::SymbolTable;
 
-/// Loaded files, with the command that links them and its libraries.
+/// Loaded files, with how many workers link them, by which command, and with which libraries.
 #[derive(Clone, Copy)]
 pub(crate) struct Inputs<'c, 'l, 'f> {
+    pub threads: u32,
     pub command: &'c Command,
     pub libs: &'l Libraries,
     pub loaded: &'f Loaded,

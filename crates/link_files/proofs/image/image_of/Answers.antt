@@ -20,4 +20,4 @@ pub returns : goal.returns
 returns g c =
     fault_made c.args.resolved.now c.header_flags.result c.args.keys.now c.in_ok-slots.slots c.no_islands-islands.result c.in-Err.fault c.in_ok-refusal_of-in-Err.field-0
     c.requires.resolved (rw c.as_slice.ensures at c.header_flags.ensures) c.in_ok-slots.ensures c.no_islands-islands.ensures c.in-Err.ensures
-    c.in_ok-refusal_of-in-Err.ensures.real c.in_ok-refusal_of-in-Err.ensures.told
+    c.in_ok-refusal_of-in-Err.ensures
