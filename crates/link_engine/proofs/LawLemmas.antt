@@ -1,10 +1,11 @@
 -- The laws of the verdict, a line for each step: there is one at most, and it is a stop just where its cause stands.
 use Rattle.std.proofs.Common.{◌≡◌, ◌↔◌, ℕ, ◌+◌, ◌<◌, ◌^◌, ◌++◌, if◌then◌else◌, Bool, true, false, nat_lt, List, [], ◌∷◌, length, Option, Some, None, Result, Ok, Err, refl, sym, ap, ◌∙◌, subst, arith}
 use Rattle.std.specs.List.{range_with_len}
-use Rattle.std.specs.Prelude.{IfErr}
+use Rattle.std.specs.Prelude.{IfErr, IfOk}
 use Rattle.std.specs.Result.{result_err}
 use Rattle.std.proofs.lemmas.Bool.{ltb-true, ltb-false}
-use Rattle.input_fetch.specs.Contents.{content_of, contents_of, first_of, places_of}
+use Rattle.file_cache.specs.Program.{File, There, Absent, Unread, Outcome, and_then, ends, read_as}
+use Rattle.input_fetch.specs.Contents.{IsFetchStop, content_of, contents_of, first_of, places_of, there_or}
 use Rattle.input_fetch.specs.declared.content.Content.{Content}
 use Rattle.input_fetch.specs.declared.stop.FetchStop.{FetchStop}
 use Rattle.input_fetch.specs.declared.stop.FetchStop.TheVariants as fetch
@@ -14,17 +15,18 @@ use Rattle.input_read.specs.Opening.{opening_of}
 use Rattle.input_read.proofs.LawLemmas.{told as told_first}
 use Rattle.input_read.proofs.OpenedLemmas.{keeps_order}
 use Rattle.input_read.proofs.PlaceLemmas.{input_faulty, read_faulty}
-use Rattle.lib_bind.specs.Closing.{Ended}
+use Rattle.lib_bind.specs.Closure.{Bound, IsLast, Shows, bound_after}
+use Rattle.lib_bind.specs.Graph.{IsWhole}
 use Rattle.lib_bind.specs.declared.bind_fault.BindFault.{BindFault}
 use Rattle.lib_bind.specs.declared.library.LibraryGraph.{LibraryGraph}
 use Rattle.lib_bind.specs.declared.named.NamedStub.{NamedStub}
-use Rattle.lib_bind.proofs.OneLemmas.{fault_one, graph_one, not_both_ways}
+use Rattle.lib_bind.proofs.OneLemmas.{outcomes_one, whole_one}
 use Rattle.link_files.proofs.CauseLemmas.{link_stops}
 use Rattle.link_files.proofs.OneLemmas.{link_one}
 use Rattle.link_files.specs.Linked.{AreCut, IsLinked}
 use Rattle.link_files.specs.Names.{wanted}
-use Rattle.link_steps.proofs.AskLemmas.{asks_known_law, asks_law, gives_law, last_law, tries_law, unless_law}
-use Rattle.link_steps.specs.Asking.{IsLawful, IsOne, Stops, last}
+use Rattle.link_steps.proofs.AskLemmas.{asks_law, gives_law, last_law, tries_law, unless_law}
+use Rattle.link_steps.specs.Asking.{IsLawful, IsOne, Stops, gives}
 use Rattle.link_steps.specs.Steps.{Agree}
 use Rattle.link_steps.specs.declared.fault.StepFault.{StepFault}
 use Rattle.list_lemmas.proofs.Members.{Contains_from_in}
@@ -43,8 +45,6 @@ use Rattle.mo_cmd.specs.Command.{command_by}
 use Rattle.command_line.specs.declared.command.Command.{Command}
 use Rattle.mo_cmd.specs.declared.usage_fault.UsageFault.{UsageFault}
 use Rattle.mo_cmd.specs.declared.usage_fault.UsageFault.TheVariants as usage
-use Rattle.mo_outside.specs.Answers.{Answer, There, Absent, Unread}
-use Rattle.mo_outside.specs.Answers as given
 use Rattle.mo_types.specs.Atoms.{atoms_of}
 use Rattle.mo_types.specs.Gives.{◌>>=◌}
 use Rattle.mo_types.specs.Scan.{first_some, option_or_else}
@@ -57,14 +57,15 @@ use Rattle.mo_types.specs.declared.loaded.LoadedFile.{LoadedFile}
 use Rattle.link_engine.specs.declared.plan.Plan.{Plan}
 use Rattle.link_engine.specs.declared.stop.Stop.{Stop}
 use Rattle.link_engine.specs.declared.stop.Stop.TheVariants as stop
-use Rattle.link_engine.specs.Bound.{BoundBy, IsBound}
-use Rattle.link_engine.specs.Causes.{IsAbsent, IsCommand, IsCrowded, IsFaulty, IsMisused, IsUnbound, IsUnlinked, IsUnloaded, StopCause, causes}
+use Rattle.link_engine.specs.Bound.{BoundBy}
+use Rattle.link_engine.specs.Causes.{IsAbsent, IsAbsentBy, IsCommand, IsCrowded, IsFaulty, IsMisused, IsUnbound, IsUnlinked, IsUnloaded, StopCause, causes}
 use Rattle.link_engine.specs.Command.{commanded, crowd_stop, linked_rows, told}
 use Rattle.link_engine.specs.Input.{inputs_with}
 use Rattle.link_engine.specs.Stop.{bind_fault_for, fetch_fault_for, load_fault_for, stop_in, stopped}
-use Rattle.link_engine.specs.Told.{Told}
-use Rattle.link_engine.specs.Verdict.{IsImage, IsVerdict, contents_with, files_for, found_by, plan_by, plan_of}
+use Rattle.link_engine.specs.Fetched.{FetchedBy}
+use Rattle.link_engine.specs.Verdict.{IsImage, IsVerdict, IsVerdictAfter, contents_with, files_for, plan_by, plan_of}
 use Rattle.link_engine.proofs.InputLemmas.{inputs_rise}
+use Rattle.link_engine.specs.Lines.{after_command}
 
 -- ---- the words
 
@@ -109,29 +110,29 @@ crowded command why = by (nat_lt (length command.inputs) (2 ^ 16)) refl
 
 -- ---- no step lacks memory
 
--- a stop of fetching that files may lead to
-abbrev IsReal : FetchStop → Type 0
-IsReal (fetch.ReadFault path) = Unit {0}
-IsReal (fetch.Missing path) = Unit {0}
-IsReal fetch.OutOfMemory = ⊥
+then_real : {A B E : Type 0} (P : E → Type 0) (tried : List (List ℕ)) (end : Result A E) (next : A → Outcome B E) → IfErr end P → ((x : A) → IfErr (next x).end P) → IfErr (and_then tried end next).end P
+then_real P tried (Ok x) next first rest = rest x
+then_real P tried (Err why) next first rest = first
 
-content_real : (first : List ℕ) (paths : List (List ℕ)) (answers : List Answer) → IfErr (content_of first paths answers) IsReal
-content_real first [] answers = tt
-content_real first (path ∷ paths) [] = tt
-content_real first (path ∷ paths) (There bytes ∷ answers) = tt
-content_real first (path ∷ paths) (Absent ∷ answers) = content_real first paths answers
-content_real first (path ∷ paths) (Unread ∷ answers) = tt
-content_real first (path ∷ paths) (given.Refused ∷ answers) = tt
+file_real : (path : List ℕ) (stands : File) → IfErr (read_as (fetch.ReadFault path) stands) IsFetchStop
+file_real path (There bytes) = tt
+file_real path Absent = tt
+file_real path Unread = tt
 
-then_real : {A B E : Type 0} (P : E → Type 0) (r : Result A E) (next : A → Result B E) → IfErr r P → ((x : A) → IfErr (next x) P) → IfErr (r >>= next) P
-then_real P (Ok x) next first rest = rest x
-then_real P (Err why) next first rest = first
+content_real : (look : List ℕ → File) (first : List ℕ) (paths : List (List ℕ)) → IfErr (content_of first paths look).end IsFetchStop
+content_real look first [] = tt
+content_real look first (path ∷ paths) =
+    then_real IsFetchStop (path ∷ []) (read_as (fetch.ReadFault path) (look path)) (λ file. there_or path (content_of first paths) file look) (file_real path (look path)) (by (content_real look first paths))
+  where
+    by : IfErr (content_of first paths look).end IsFetchStop → (file : Option (List ℕ)) → IfErr (there_or path (content_of first paths) file look).end IsFetchStop
+    by later (Some bytes) = tt
+    by later None = later
 
-contents_real : (places : List (List (List ℕ))) (answers : List Answer) → IfErr (contents_of places answers) IsReal
-contents_real [] answers = tt
-contents_real (paths ∷ places) answers =
-    then_real IsReal (content_of (first_of paths) paths answers) _ (content_real (first_of paths) paths answers) (λ found.
-    then_real IsReal (contents_of places found.1) _ (contents_real places found.1) (λ more. tt))
+contents_real : (look : List ℕ → File) (places : List (List (List ℕ))) → IfErr (contents_of places look).end IsFetchStop
+contents_real look [] = tt
+contents_real look (paths ∷ places) =
+    then_real IsFetchStop (content_of (first_of paths) paths look).tried (content_of (first_of paths) paths look).end _ (content_real look (first_of paths) paths) (λ content.
+    then_real IsFetchStop (contents_of places look).tried (contents_of places look).end (λ more. ends (Ok (content ∷ more)) look) (contents_real look places) (λ more. tt))
 
 first_real : {A : Type 0} (f : A → Option LoadFault) (xs : List A) (why : LoadFault) → ((x : A) → f x ≡ Some why → IsLoadFault why) → first_some f xs ≡ Some why → IsLoadFault why
 first_real f [] why each e = absurd cc
@@ -148,9 +149,9 @@ real_err (Err other) why real e = let same : other ≡ why = cc in subst IsLoadF
 opened_real : (inputs : List Input) (why : LoadFault) → opened.contents_of inputs ≡ Err why → IsLoadFault why
 opened_real inputs why e = first_real (λ input. result_err (opening_of input)) inputs why (λ input is. real_err (opening_of input) why (input_faulty input) is) ((told_first inputs why).0 e)
 
-file_real : (inputs : List Input) (id : FileId) → IfErr (file_of inputs id) IsLoadFault
+member_real : (inputs : List Input) (id : FileId) → IfErr (file_of inputs id) IsLoadFault
 unfolding file_of
-file_real inputs id = read_faulty id (file_content inputs id).label (file_content inputs id).bytes
+member_real inputs id = read_faulty id (file_content inputs id).label (file_content inputs id).bytes
 
 either_real : (a b : Option LoadFault) (why : LoadFault) → (a ≡ Some why → IsLoadFault why) → (b ≡ Some why → IsLoadFault why) → option_or_else a b ≡ Some why → IsLoadFault why
 either_real (Some x) b why p q e = p e
@@ -167,7 +168,7 @@ round_real : (inputs : List Input) (libs : LibraryGraph) (names : List (List ℕ
 unfolding round_fault
 round_real inputs libs names k why e =
     either_real _ _ why
-    (λ f. first_real (λ id. result_err (file_of inputs id)) (new_ids inputs libs names k) why (λ id is. real_err (file_of inputs id) why (file_real inputs id) is) f)
+    (λ f. first_real (λ id. result_err (file_of inputs id)) (new_ids inputs libs names k) why (λ id is. real_err (file_of inputs id) why (member_real inputs id) is) f)
     (names_real (files_of inputs (round inputs libs names k)) names why) e
 
 abbrev fault_in : List Input → LibraryGraph → List (List ℕ) → Option LoadFault
@@ -198,25 +199,35 @@ stopped_fault : {A E : Type 0} (fault : E → StepFault Stop) (r : Result A E) (
 stopped_fault fault (Ok x) why e = absurd cc
 stopped_fault {A = A} fault (Err end) why e = (end, refl, same_stop {A = A} e)
 
-absent : (command : Command) (answers : List Answer) (why : Stop) → (found_by answers command ≡ Err why) ↔ IsAbsent command answers why
-absent command answers why = (λ e. let f = stopped_fault fetch_fault_for (contents_of (places_of command) answers) why e in to f.0 f.1 (subst (λ (r : Result (List Content) FetchStop). IfErr r IsReal) f.1 (contents_real (places_of command) answers)) f.2, λ c. from why c)
-  where
-    to : (end : FetchStop) → contents_of (places_of command) answers ≡ Err end → IsReal end → stop_in (fetch_fault_for end) ≡ why → IsAbsent command answers why
-    to (fetch.ReadFault path) e real same = subst (IsAbsent command answers) same e
-    to (fetch.Missing path) e real same = subst (IsAbsent command answers) same e
-    to fetch.OutOfMemory e real same = absurd real
+-- ---- the inputs
 
-    from : (other : Stop) → IsAbsent command answers other → found_by answers command ≡ Err other
-    from (stop.Usage word rule) c = absurd c
-    from (stop.ReadFault path) c = ap (stopped fetch_fault_for) c
-    from (stop.Refused (refusal.Missing path)) c = ap (stopped fetch_fault_for) c
-    from (stop.Refused (refusal.Malformed path place rule)) c = absurd c
-    from (stop.Refused (refusal.Unsupported path feature)) c = absurd c
-    from (stop.Refused (refusal.Limit which)) c = absurd c
-    from (stop.Refused (refusal.Duplicate name first second)) c = absurd c
-    from (stop.Refused (refusal.Undefined name file)) c = absurd c
-    from (stop.Refused (refusal.NeedsImage file place)) c = absurd c
-    from (stop.Refused (refusal.Range file place kind value)) c = absurd c
+module _ (look : List ℕ → File) (command : Command) where
+  fetched_one : IsOne (FetchedBy look command)
+  fetched_one a b old new older newer p q = p.told ∙ sym q.told
+
+  absent : Stops (FetchedBy look command) (IsAbsent look command)
+  absent old why new = (
+    λ p. record { ends = to (contents_of (places_of command) look).end (contents_real look (places_of command)) p.told; tries = p.tries },
+    λ c. record { told = sym (from (contents_of (places_of command) look).end why c.ends); tries = c.tries },
+  )
+    where
+      to : (end : Result (List Content) FetchStop) → IfErr end IsFetchStop → ◌≡◌ {A = Result (List Content) Stop} (Err why) (stopped fetch_fault_for end) → IsAbsentBy end why
+      to (Ok found) real e = absurd cc
+      to (Err (fetch.ReadFault path)) real e = subst (IsAbsentBy (Err (fetch.ReadFault path))) (sym (same_stop {A = List Content} e)) refl
+      to (Err (fetch.Missing path)) real e = subst (IsAbsentBy (Err (fetch.Missing path))) (sym (same_stop {A = List Content} e)) refl
+      to (Err fetch.OutOfMemory) real e = absurd real
+
+      from : (end : Result (List Content) FetchStop) (other : Stop) → IsAbsentBy end other → stopped fetch_fault_for end ≡ Err other
+      from end (stop.Usage word rule) c = absurd c
+      from end (stop.ReadFault path) c = ap (stopped fetch_fault_for) c
+      from end (stop.Refused (refusal.Missing path)) c = ap (stopped fetch_fault_for) c
+      from end (stop.Refused (refusal.Malformed path place rule)) c = absurd c
+      from end (stop.Refused (refusal.Unsupported path feature)) c = absurd c
+      from end (stop.Refused (refusal.Limit which)) c = absurd c
+      from end (stop.Refused (refusal.Duplicate name first second)) c = absurd c
+      from end (stop.Refused (refusal.Undefined name file)) c = absurd c
+      from end (stop.Refused (refusal.NeedsImage file place)) c = absurd c
+      from end (stop.Refused (refusal.Range file place kind value)) c = absurd c
 
 -- what is refused by a round fault is refused by the link
 module _ {A : Type 0} (r : Result A LoadFault) (why : Stop) where
@@ -253,29 +264,44 @@ unloaded command inputs libs why = (
 
 -- ---- the libraries
 
-module _ (look : List ℕ → Answer) (command : Command) (stubs : List NamedStub) where
+module _ (look : List ℕ → File) (command : Command) (stubs : List NamedStub) where
   -- the same libraries, or the same fault
-  libraries_one : (paths others : List (List ℕ)) (x y : Result LibraryGraph BindFault) → IsBound look command stubs paths x → IsBound look command stubs others y → x ≡ y
-  libraries_one paths others (Ok graph) (Ok other) p q = ap Ok (graph_one look command stubs paths others p.count q.count graph other p.binds q.binds p.whole q.whole)
-  libraries_one paths others (Ok graph) (Err why) p q = absurd (not_both_ways look command stubs paths p.count q.count graph (record { why = why; asked = others }) p.binds (q.binds q.fault))
-  libraries_one paths others (Err why) (Ok graph) p q = absurd (not_both_ways look command stubs others q.count p.count graph (record { why = why; asked = paths }) q.binds (p.binds p.fault))
-  libraries_one paths others (Err why) (Err other) p q = ap (λ (e : Ended). Err e.why) (fault_one look command stubs p.count q.count (record { why = why; asked = paths }) (record { why = other; asked = others }) (p.binds p.fault) (q.binds q.fault))
+  libraries_one : (count more : ℕ) (x y : Result LibraryGraph BindFault) (end : Result Bound BindFault) → Shows count x end → Shows more y end → IfOk x IsWhole → IfOk y IsWhole → x ≡ y
+  libraries_one count more (Ok graph) (Ok other) (Ok bound) p q whole also =
+      ap Ok (whole_one graph other whole also (p.libraries ∙ sym q.libraries) (p.documents ∙ sym q.documents) (p.links ∙ sym q.links))
+  libraries_one count more (Ok graph) (Err why) (Ok bound) p q whole also = absurd q
+  libraries_one count more (Ok graph) y (Err fault) p q whole also = absurd p
+  libraries_one count more (Err why) y (Ok bound) p q whole also = absurd p
+  libraries_one count more (Err why) (Ok graph) (Err fault) p q whole also = absurd q
+  libraries_one count more (Err why) (Err other) (Err fault) p q whole also = ap Err (p ∙ sym q)
 
   bound_one : IsOne (BoundBy look command stubs)
-  bound_one a b old new older newer p q = p.told ∙ ap (stopped bind_fault_for) (libraries_one p.paths q.paths p.bound q.bound p.is_bound q.is_bound) ∙ sym q.told
+  bound_one a b old new older newer p q =
+      let same : (bound_after command stubs q.count look).end ≡ (bound_after command stubs p.count look).end =
+      ap (λ (o : Outcome Bound BindFault). o.end) (outcomes_one look command stubs q.count p.count q.last p.last) in
+      p.told
+      ∙ ap (stopped bind_fault_for) (libraries_one p.count q.count p.bound q.bound (bound_after command stubs p.count look).end p.is (subst (Shows q.count q.bound) same q.is) p.whole q.whole)
+      ∙ sym q.told
 
   unbound : Stops (BoundBy look command stubs) (IsUnbound look command stubs)
-  unbound old why new = (to, from)
+  unbound old why new = (
+    λ p. to p p.bound (bound_after command stubs p.count look).end refl p.is p.told,
+    λ c. record {
+      count = c.count;
+      last = subst (IsLast c.count) (sym c.ends) tt;
+      bound = Err c.end;
+      is = subst (Shows c.count (Err c.end)) (sym c.ends) refl;
+      whole = tt;
+      told = ap Err c.is;
+      tries = c.tries;
+    },
+  )
     where
-      to : BoundBy look command stubs old (Err why) new → IsUnbound look command stubs old why new
-      to p = by p.bound p.is_bound p.told
-        where
-          by : (r : Result LibraryGraph BindFault) → IsBound look command stubs p.paths r → ◌≡◌ {A = Result LibraryGraph Stop} (Err why) (stopped bind_fault_for r) → IsUnbound look command stubs old why new
-          by (Ok libs) is e = absurd cc
-          by (Err end) is e = record { paths = p.paths; asked = p.asked; end = end; real = is.fault; is = same_stop {A = LibraryGraph} e; count = is.count; ends = is.binds is.fault }
-
-      from : IsUnbound look command stubs old why new → BoundBy look command stubs old (Err why) new
-      from c = record { paths = c.paths; asked = c.asked; bound = Err c.end; is_bound = record { count = c.count; binds = λ real. c.ends; whole = tt; fault = c.real }; told = ap Err c.is }
+      to : (p : BoundBy look command stubs old (Err why) new) (r : Result LibraryGraph BindFault) (end : Result Bound BindFault) → (bound_after command stubs p.count look).end ≡ end → Shows p.count r end
+          → ◌≡◌ {A = Result LibraryGraph Stop} (Err why) (stopped bind_fault_for r) → IsUnbound look command stubs old why new
+      to p (Ok libs) end is shows e = absurd cc
+      to p (Err fault) (Ok bound) is shows e = absurd shows
+      to p (Err fault) (Err other) is shows e = record { count = p.count; end = fault; ends = is ∙ ap (λ w. Err w) (sym shows); is = same_stop {A = LibraryGraph} e; tries = p.tries }
 
 -- ---- the image
 
@@ -322,22 +348,26 @@ unlinked command libs files (stop.Refused why) = link_stops command libs files w
 opened_order : (command : Command) (found : List Content) (contents : Contents) → contents_with command found ≡ Ok contents → AreInOrder contents.inputs
 opened_order command found contents e = keeps_order (inputs_with command found) contents (inputs_rise command found) ((stopped_value load_fault_for (opened.contents_of (inputs_with command found)) contents).0 e)
 
-lawful : (answers : List Answer) (look : List ℕ → Answer) (words : List (List ℕ)) → IsLawful (plan_by (λ command. last (found_by answers command)) (BoundBy look) words) (causes answers look words)
-lawful answers look words =
+lawful : (look : List ℕ → File) (words : List (List ℕ)) → IsLawful (plan_by look words) (causes look words)
+lawful look words =
     gives_law _ _ (misused words) (command_is words) (λ command read.
     unless_law _ _ (crowded command) (λ few.
-    asks_known_law _ _ (absent command answers) (λ found. stopped_value fetch_fault_for (contents_of (places_of command) answers) found) (λ found there.
+    asks_law _ _ (fetched_one look command) (absent look command) (λ found old new there.
     gives_law _ _ (faulty command found) (λ contents. stopped_value load_fault_for (opened.contents_of (inputs_with command found)) contents) (λ contents are.
-    asks_law _ _ (bound_one look command contents.stubs) (unbound look command contents.stubs) (λ libs old later bound.
+    asks_law _ _ (bound_one look command contents.stubs) (unbound look command contents.stubs) (λ libs before later bound.
     gives_law _ _ (unloaded command contents.inputs libs) (λ loaded. stopped_value load_fault_for (loaded_of contents.inputs libs (wanted command)) loaded) (λ loaded e.
     tries_law _ _ (image_one command libs contents.inputs loaded (opened_order command found contents are) ((stopped_value load_fault_for (loaded_of contents.inputs libs (wanted command)) loaded).0 e)) (unlinked command libs loaded.files) (λ image is.
     last_law (plan_of command image))))))))
 
--- the verdict is the same, whatever paths were asked for after those of the inputs
-pub one_verdict : (words : List (List ℕ)) (told : Told) (others : List (List ℕ)) (a b : Result Plan Stop) → IsVerdict words told a → IsVerdict words (record { answers = told.answers; look = told.look; more = others }) b → a ≡ b
-unfolding IsVerdict
-one_verdict words told others a b p q = (lawful told.answers told.look words).one a b [] told.more [] others p q
+pub one_verdict : (words : List (List ℕ)) (look : List ℕ → File) (a b : Result Plan Stop) → IsVerdict words look a → IsVerdict words look b → a ≡ b
+unfolding IsVerdictAfter
+one_verdict words look a b p q = (lawful look words).one a b [] p.0 [] q.0 p.1 q.1
 
-pub stop_causes : (words : List (List ℕ)) (told : Told) (why : Stop) → IsVerdict words told (Err why) ↔ StopCause words told why
-unfolding IsVerdict
-stop_causes words told why = (lawful told.answers told.look words).stops [] why told.more
+pub stop_causes : (words : List (List ℕ)) (look : List ℕ → File) (why : Stop) (tried : List (List ℕ)) → IsVerdictAfter words look (Err why) tried ↔ StopCause words look why tried
+unfolding IsVerdictAfter
+stop_causes words look why tried = (lawful look words).stops [] why tried
+
+pub same_command : (words others : List (List ℕ)) (look : List ℕ → File) (given : Result Plan Stop) (tried : List (List ℕ)) → commanded words ≡ commanded others → IsVerdictAfter words look given tried → IsVerdictAfter others look given tried
+unfolding IsVerdictAfter
+same_command words others look given tried same is =
+    subst (λ (r : Result Command Stop). gives r (λ command. after_command look command) [] given tried) same is

@@ -1,9 +1,9 @@
-pub mod AskedLemmas
 pub mod FilesLemmas
 pub mod InputLemmas
-pub mod KeptLemmas
 pub mod LawLemmas
+pub mod LineLemmas
 pub mod LinkLemmas
+pub mod RanLemmas
 pub mod ReadLemmas
 pub mod SaysLemmas
 pub mod WordLemmas

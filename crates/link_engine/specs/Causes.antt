@@ -1,14 +1,15 @@
 -- Why there is no plan: the cause of each stop, in the order of the steps. It stands, and none before it does.
-use Rattle.std.specs.Prelude.{ℕ, ◌≡◌, ◌+◌, ◌++◌, ◌≤◌, ◌^◌, List, [], length, Some, Ok, Err}
+use Rattle.std.specs.Prelude.{ℕ, ◌≡◌, ◌+◌, ◌++◌, ◌≤◌, ◌^◌, List, [], length, Some, Result, Ok, Err}
 use Rattle.std.specs.List.{range_with_len}
 use Rattle.std.specs.Result.{result_err}
+use Rattle.file_cache.specs.Program.{File}
 use Rattle.input_fetch.specs.Contents.{contents_of, places_of}
 use Rattle.input_fetch.specs.declared.content.Content.{Content}
+use Rattle.input_fetch.specs.declared.stop.FetchStop.{FetchStop}
 use Rattle.input_fetch.specs.declared.stop.FetchStop.TheVariants as fetch
 use Rattle.input_read.specs.Opened.{Contents}
 use Rattle.input_read.specs.Opened as opened
 use Rattle.input_read.specs.Opening.{opening_of}
-use Rattle.lib_bind.specs.Closing.{IsBindFault}
 use Rattle.lib_bind.specs.Closure.{bound_after}
 use Rattle.lib_bind.specs.declared.bind_fault.BindFault.{BindFault}
 use Rattle.lib_bind.specs.declared.library.LibraryGraph.{LibraryGraph}
@@ -23,7 +24,6 @@ use Rattle.input_files.specs.declared.fault.LoadFault.TheVariants as rounds
 use Rattle.input_files.specs.declared.input.Input.{Input}
 use Rattle.mo_cmd.specs.Command.{command_by}
 use Rattle.command_line.specs.declared.command.Command.{Command}
-use Rattle.mo_outside.specs.Answers.{Answer}
 use Rattle.mo_types.specs.Scan.{first_some}
 use Rattle.mo_types.specs.declared.answer.Refusal.TheVariants.{Limit, Missing}
 use Rattle.mo_types.specs.declared.cause.Which.TheVariants.{Inputs}
@@ -31,9 +31,9 @@ use Rattle.mo_types.specs.declared.loaded.Loaded.{Loaded}
 use Rattle.mo_types.specs.declared.loaded.LoadedFile.{LoadedFile}
 use Rattle.link_engine.specs.Bound.{BoundBy}
 use Rattle.link_engine.specs.Command.{commanded, linked_rows}
+use Rattle.link_engine.specs.Fetched.{FetchedBy}
 use Rattle.link_engine.specs.Input.{inputs_with}
 use Rattle.link_engine.specs.Stop.{bind_fault_for, stop_in}
-use Rattle.link_engine.specs.Told.{Told}
 use Rattle.link_engine.specs.Verdict.{IsImage}
 use Rattle.link_engine.specs.declared.stop.Stop.{Stop}
 use Rattle.link_engine.specs.declared.stop.Stop.TheVariants.{ReadFault, Refused, Usage}
@@ -53,14 +53,18 @@ IsCrowded command why = (2 ^ 16 ≤ length command.inputs) × (why ≡ Refused (
 
 -- a path of the first of its inputs that isn't found couldn't be read, or none of that input's paths is there and this is the
 -- first of them
-abbrev pub IsAbsent : Command → List Answer → Stop → Type 0
-IsAbsent command answers (ReadFault path) = contents_of (places_of command) answers ≡ Err (fetch.ReadFault path)
-IsAbsent command answers (Refused (Missing path)) = contents_of (places_of command) answers ≡ Err (fetch.Missing path)
-IsAbsent command answers _ = ⊥
+abbrev pub IsAbsentBy : Result (List Content) FetchStop → Stop → Type 0
+IsAbsentBy end (ReadFault path) = end ≡ Err (fetch.ReadFault path)
+IsAbsentBy end (Refused (Missing path)) = end ≡ Err (fetch.Missing path)
+IsAbsentBy end _ = ⊥
+
+pub record IsAbsent (look : List ℕ → File) (command : Command) (old : List (List ℕ)) (why : Stop) (new : List (List ℕ)) : Type 0 where
+  pub ends : IsAbsentBy (contents_of (places_of command) look).end why
+  pub tries : new ≡ old ++ (contents_of (places_of command) look).tried
 
 -- its inputs are there
-abbrev pub AreThere : Command → List Answer → List Content → Type 0
-AreThere command answers found = contents_of (places_of command) answers ≡ Ok found
+abbrev pub AreThere : (List ℕ → File) → Command → List Content → List (List ℕ) → List (List ℕ) → Type 0
+AreThere look command found old new = FetchedBy look command old (Ok found) new
 
 -- the first of them that can't be read has this fault
 abbrev pub IsFaulty : Command → List Content → Stop → Type 0
@@ -72,18 +76,16 @@ abbrev pub AreOpen : Command → List Content → Contents → Type 0
 AreOpen command found contents = opened.contents_of (inputs_with command found) ≡ Ok contents
 
 -- there are too many libraries, or what they re-export isn't there or can't be read, after these paths
-pub record IsUnbound (look : List ℕ → Answer) (command : Command) (stubs : List NamedStub)
+pub record IsUnbound (look : List ℕ → File) (command : Command) (stubs : List NamedStub)
     (old : List (List ℕ)) (why : Stop) (new : List (List ℕ)) : Type 0 where
-  pub paths : List (List ℕ)
-  pub asked : new ≡ old ++ paths
-  pub end : BindFault
-  pub real : IsBindFault end
-  pub is : why ≡ stop_in (bind_fault_for end)
   pub count : ℕ
-  pub ends : bound_after look command stubs count ≡ Err (record { why = end; asked = paths })
+  pub end : BindFault
+  pub ends : (bound_after command stubs count look).end ≡ Err end
+  pub is : why ≡ stop_in (bind_fault_for end)
+  pub tries : new ≡ old ++ (bound_after command stubs count look).tried
 
 -- the libraries are these, after these paths
-abbrev pub AreBound : (List ℕ → Answer) → Command → List NamedStub → LibraryGraph → List (List ℕ) → List (List ℕ) → Type 0
+abbrev pub AreBound : (List ℕ → File) → Command → List NamedStub → LibraryGraph → List (List ℕ) → List (List ℕ) → Type 0
 AreBound look command stubs libs old new = BoundBy look command stubs old (Ok libs) new
 
 -- the first round of which a member can't be read, or that has too many names, has this fault
@@ -105,18 +107,17 @@ IsUnlinked command libs files _ = ⊥
 abbrev pub IsLinkedTo : Command → LibraryGraph → List LoadedFile → List ℕ → Type 0
 IsLinkedTo command libs files image = IsImage command libs files (Ok image)
 
--- the cause of each stop, where files answer so for the paths of the inputs and by this look-up for others
-abbrev pub causes : List Answer → (List ℕ → Answer) → List (List ℕ) → Cause (List (List ℕ)) Stop
-causes answers look words = do
+-- the cause of each stop, where this stands under each path, and the paths that are tried before it
+abbrev pub causes : (List ℕ → File) → List (List ℕ) → Cause (List (List ℕ)) Stop
+causes look words = do
   command ← stands (IsMisused words) (IsCommand words)
   refuses (IsCrowded command)
-  found ← stands (IsAbsent command answers) (AreThere command answers)
+  found ← asked (IsAbsent look command) (AreThere look command)
   contents ← stands (IsFaulty command found) (AreOpen command found)
   libs ← asked (IsUnbound look command contents.stubs) (AreBound look command contents.stubs)
   loaded ← stands (IsUnloaded command contents.inputs libs) (AreLoaded command contents.inputs libs)
   image ← stands (IsUnlinked command libs loaded.files) (IsLinkedTo command libs loaded.files)
   never
 
--- the same by what the files told: before the libraries no path but those of the inputs was asked for
-abbrev pub StopCause : List (List ℕ) → Told → Stop → Type 0
-StopCause words told why = causes told.answers told.look words [] why told.more
+abbrev pub StopCause : List (List ℕ) → (List ℕ → File) → Stop → List (List ℕ) → Type 0
+StopCause words look why tried = causes look words [] why tried

@@ -2,6 +2,7 @@
 use Rattle.std.specs.Prelude.{ℕ, ◌^◌, nat_lt, List, length, Option, Some, None, Result, Ok, Err, if◌then◌else◌}
 use Rattle.mo_cmd.specs.Command.{command_by}
 use Rattle.command_line.specs.declared.command.Command.{Command}
+use Rattle.mo_cmd.specs.declared.read.CommandLine.{CommandLine}
 use Rattle.mo_cmd.specs.declared.usage_fault.UsageFault.{UsageFault}
 use Rattle.mo_cmd.specs.declared.usage_fault.UsageFault.TheVariants as usage
 use Rattle.mo_cmd.specs.declared.parts.Rows.{Rows}
@@ -26,6 +27,10 @@ told (Err usage.OutOfMemory) = Err (Usage 0 NoInput)
 -- the command of the words, or the fault of the least word that has one
 abbrev pub commanded : List (List ℕ) → Result Command Stop
 commanded words = told (command_by linked_rows words)
+
+-- the command of a line that was read
+abbrev pub command_of_line : CommandLine → Command
+command_of_line line = line.command
 
 -- each input has a position, a number of 16 bits
 abbrev pub crowd_stop : Command → Option Stop

@@ -1,12 +1,15 @@
+pub mod Answered
 pub mod Asks
 pub mod Bound
 pub mod Causes
 pub mod Command
+pub mod Fetched
 pub mod Input
 pub mod Kept
+pub mod Lines
 pub mod Read
 pub mod Settles
 pub mod Stop
-pub mod Told
+pub mod Unread
 pub mod Verdict
 pub mod Writing

@@ -22,6 +22,7 @@ pub fn load_rounds<R: Threads + Sync, G: Gate + Sync>(
     rt: &R,
     alloc: Global,
     gate: &G,
+    threads: u32,
     command: &Command,
     inputs: Inputs,
     libs: &Libraries,
@@ -31,7 +32,7 @@ pub fn load_rounds<R: Threads + Sync, G: Gate + Sync>(
     ensures low { IfOk result (λ loaded. All HasLowAtoms loaded.files) }
 {
     let wanted = wanted_names(alloc, command)?;
-    load(rt, alloc, gate, command.threads, inputs, libs, &wanted).map_err(load_fault)
+    load(rt, alloc, gate, threads, inputs, libs, &wanted).map_err(load_fault)
 }
 
 /// The image to which the loaded files link, or the first refusal.
@@ -39,6 +40,7 @@ pub fn image_of<R: Threads + Sync, G: Gate + Sync>(
     rt: &R,
     alloc: Global,
     gate: &G,
+    threads: u32,
     command: &Command,
     libs: &Libraries,
     loaded: &Loaded,
@@ -47,5 +49,5 @@ pub fn image_of<R: Threads + Sync, G: Gate + Sync>(
     requires low { All HasLowAtoms loaded.now.files }
     ensures { Meets (IsImage command.now libs.now loaded.now.files) result }
 {
-    link_files(rt, alloc, gate, command, libs, loaded).map_err(refused)
+    link_files(rt, alloc, gate, threads, command, libs, loaded).map_err(refused)
 }

@@ -1,18 +1,17 @@
 //! The inputs of a command: their bytes, and what they are.
 ghost use Rattle.std.specs.Prelude.{◌≡◌, ◌<◌, ◌^◌, length, true, All, IfOk};
-ghost use Rattle.lib_bind.specs.Asking.{seen};
+ghost use Rattle.file_cache.specs.Kept.{seen};
 ghost use Rattle.lib_bind.specs.Named.{are_named};
-ghost use Rattle.link_engine.specs.Asks.{AsksFor, FetchesInputs};
+ghost use Rattle.link_engine.specs.Asks.{FetchesInputs};
 ghost use Rattle.link_engine.specs.Input as spec;
 ghost use Rattle.link_engine.specs.Read.{contents_as};
 ghost use Rattle.link_engine.specs.Verdict.{contents_with};
-ghost use Rattle.link_steps.specs.Asking.{Acts};
 ghost use Rattle.link_steps.specs.Steps.{Shows};
-ghost use Rattle.input_fetch.specs.Contents.{places_of};
 ghost use Rattle.input_files.specs.Sources.{AreInOrder};
 
 use crate::stop::{Stop, fetch_fault, load_fault};
 use command_line::{Command, CommandInput};
+use file_cache::FileCache;
 use input_fetch::{Content, ContentList, fetch_inputs};
 use input_files::{Input, InputList, Inputs};
 use input_read::{Opened, open_inputs};
@@ -27,16 +26,15 @@ use std::thread::Threads;
 pub fn fetch<F: Files>(
     alloc: Global,
     files: &mut F,
+    cache: &mut FileCache,
     command: &Command,
 ) -> Result<ContentList, StepFault<Stop>>
     requires few { length command.now.inputs < 2 ^ 16 }
-    ensures exact { Acts (FetchesInputs F.answers command.now)
-        (seen F.holds F.asked F.faults files.old) result (seen F.holds F.asked F.faults files.new) }
-    ensures asks { AsksFor F.answers (places_of command.now)
-        (seen F.holds F.asked F.faults files.old) (seen F.holds F.asked F.faults files.new) }
+    ensures exact { FetchesInputs F.answers command.now result
+        (seen F.holds F.asked F.faults files.old cache.old) (seen F.holds F.asked F.faults files.new cache.new) }
     ensures size { IfOk result (λ found. length found ≡ length command.now.inputs) }
 {
-    fetch_inputs(alloc, files, command).map_err(fetch_fault)
+    fetch_inputs(alloc, files, cache, command).map_err(fetch_fault)
 }
 
 fn input_at(
@@ -75,12 +73,13 @@ fn inputs_with(
     Ok(made)
 }
 
-/// What the inputs are, each read by one of the command's workers: those of which files are loaded, and the stub libraries;
+/// What the inputs are, each read by one of so many workers: those of which files are loaded, and the stub libraries;
 /// or the refusal of the first input that has one. Their bytes are let go.
 pub fn read<R: Threads + Sync, G: Gate + Sync>(
     rt: &R,
     alloc: Global,
     gate: &G,
+    threads: u32,
     command: &Command,
     found: ContentList,
 ) -> Result<(Inputs, StubFileList), StepFault<Stop>>
@@ -94,6 +93,6 @@ pub fn read<R: Threads + Sync, G: Gate + Sync>(
         sources,
         objects,
         stubs,
-    } = open_inputs(rt, alloc, gate, command.threads, inputs.as_slice()).map_err(load_fault)?;
+    } = open_inputs(rt, alloc, gate, threads, inputs.as_slice()).map_err(load_fault)?;
     Ok((Inputs { sources, objects }, stubs))
 }

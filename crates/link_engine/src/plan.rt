@@ -1,8 +1,8 @@
 //! The link up to writing: one line for each step, in the order in which refusals count.
-ghost use Rattle.std.specs.Prelude.{Ok};
-ghost use Rattle.lib_bind.specs.Asking.{seen};
-ghost use Rattle.link_engine.specs.Asks.{AsksFor, BindsLibraries, FetchesInputs, places_by};
-ghost use Rattle.link_engine.specs.Command.{command_of as commanded_by};
+ghost use Rattle.std.specs.Prelude.{ℕ, ◌≡◌, ◌<◌, ◌^◌, List, Ok, length};
+ghost use Rattle.file_cache.specs.Kept.{seen};
+ghost use Rattle.link_engine.specs.Answered.{Ran};
+ghost use Rattle.link_engine.specs.Lines as lines;
 ghost use Rattle.link_engine.specs.Verdict as spec;
 ghost use Rattle.link_steps.specs.Asking.{Acts};
 ghost use Rattle.link_steps.specs.Steps.{Yields};
@@ -11,9 +11,14 @@ use crate::bind::bind;
 use crate::files::{image_of, load_rounds};
 use crate::inputs::{fetch, read};
 use crate::stop::Stop;
-use crate::words::{command_of, few_inputs};
+use crate::words::{few_inputs, line_of};
 use command_line::Command;
+use file_cache::FileCache;
+use input_fetch::ContentList;
+use input_files::Inputs;
+use lib_bind::Libraries;
 use link_steps::StepFault;
+use mo_cmd::CommandLine;
 use mo_outside::{FileList, Files, Gate};
 use mo_types::{ArgList, Bytes};
 use std::alloc::Global;
@@ -28,27 +33,74 @@ pub struct Plan {
     pub line: Bytes,
 }
 
-/// What is to be written for the words and the files, or why nothing is: the first of the steps that stops.
+/// What is to be written for the words and the files, or why nothing is: the first of the steps that stops. No path is asked
+/// for of which something is kept.
 pub fn make_plan<R: Threads + Sync, F: Files, G: Gate + Sync>(
     rt: &R,
     alloc: Global,
     gate: &G,
     words: &ArgList,
     files: &mut F,
+    cache: &mut FileCache,
 ) -> Result<Plan, StepFault<Stop>>
-    ensures exact { Acts (spec.plan_by (FetchesInputs F.answers) (BindsLibraries F.answers) words.now)
-        (seen F.holds F.asked F.faults files.old) result (seen F.holds F.asked F.faults files.new) }
-    ensures asks { AsksFor F.answers (places_by (commanded_by words.now))
-        (seen F.holds F.asked F.faults files.old) (seen F.holds F.asked F.faults files.new) }
+    ensures { Ran F.answers (λ look. spec.plan_by look words.now) result
+        (seen F.holds F.asked F.faults files.old cache.old) (seen F.holds F.asked F.faults files.new cache.new) }
 {
-    let command = command_of(alloc, words)?;
-    few_inputs(&command)?;
-    let found = fetch(alloc, files, &command)?;
-    let (inputs, stubs) = read(rt, alloc, gate, &command, found)?;
-    let libs = bind(alloc, files, &command, stubs)?;
-    let loaded = load_rounds(rt, alloc, gate, &command, inputs, &libs)?;
-    let image = image_of(rt, alloc, gate, &command, &libs, &loaded)?;
-    plan_of(alloc, &command, image)
+    let line = line_of(alloc, words)?;
+    plan_for(rt, alloc, gate, &line, files, cache)
+}
+
+// The plan for a command line that was read.
+fn plan_for<R: Threads + Sync, F: Files, G: Gate + Sync>(
+    rt: &R,
+    alloc: Global,
+    gate: &G,
+    line: &CommandLine,
+    files: &mut F,
+    cache: &mut FileCache,
+) -> Result<Plan, StepFault<Stop>>
+    ensures { Ran F.answers (λ look. lines.after_command look line.now.command) result
+        (seen F.holds F.asked F.faults files.old cache.old) (seen F.holds F.asked F.faults files.new cache.new) }
+{
+    few_inputs(&line.command)?;
+    let found = fetch(alloc, files, cache, &line.command)?;
+    plan_from(rt, alloc, gate, line, found, files, cache)
+}
+
+// The plan for the bytes of the inputs.
+fn plan_from<R: Threads + Sync, F: Files, G: Gate + Sync>(
+    rt: &R,
+    alloc: Global,
+    gate: &G,
+    line: &CommandLine,
+    found: ContentList,
+    files: &mut F,
+    cache: &mut FileCache,
+) -> Result<Plan, StepFault<Stop>>
+    requires size { length found ≡ length line.now.command.inputs }
+    requires few { length line.now.command.inputs < 2 ^ 16 }
+    ensures { Ran F.answers (λ look. lines.after_inputs look line.now.command found) result
+        (seen F.holds F.asked F.faults files.old cache.old) (seen F.holds F.asked F.faults files.new cache.new) }
+{
+    let (inputs, stubs) = read(rt, alloc, gate, line.threads, &line.command, found)?;
+    let libs = bind(alloc, files, cache, &line.command, stubs)?;
+    plan_with(rt, alloc, gate, line, inputs, &libs)
+}
+
+// The plan for what is bound; no file is asked any more.
+fn plan_with<R: Threads + Sync, G: Gate + Sync>(
+    rt: &R,
+    alloc: Global,
+    gate: &G,
+    line: &CommandLine,
+    inputs: Inputs,
+    libs: &Libraries,
+) -> Result<Plan, StepFault<Stop>>
+    ensures { (start : List (List ℕ)) → Acts (lines.after_libraries line.now.command inputs.inputs libs.now) start result start }
+{
+    let loaded = load_rounds(rt, alloc, gate, line.threads, &line.command, inputs, libs)?;
+    let image = image_of(rt, alloc, gate, line.threads, &line.command, libs, &loaded)?;
+    plan_of(alloc, &line.command, image)
 }
 
 // The image is written to the command's output, and no line is put.

@@ -1,12 +1,12 @@
-//! The command of the words.
+//! The command line of the words.
 ghost use Rattle.std.specs.Prelude.{◌<◌, ◌^◌, length, IfOk};
-ghost use Rattle.link_engine.specs.Command.{commanded, crowd_stop};
-ghost use Rattle.link_steps.specs.Steps.{Finds, Yields};
+ghost use Rattle.link_engine.specs.Command.{command_of_line, commanded, crowd_stop};
+ghost use Rattle.link_steps.specs.Steps.{Finds, Shows};
 
 use crate::stop::Stop;
 use command_line::Command;
 use link_steps::StepFault;
-use mo_cmd::{Rows, UsageFault, read_words};
+use mo_cmd::{CommandLine, Rows, UsageFault, read_words};
 use mo_types::{ArgList, Refusal, Which};
 use std::alloc::Global;
 
@@ -16,12 +16,12 @@ const LINKED: Rows = Rows::Libraries;
 // Each input has a position, a number of 16 bits.
 const INPUTS: usize = 1 << 16;
 
-/// The command of the words of a command line after the program's name.
-pub fn command_of(alloc: Global, words: &ArgList) -> Result<Command, StepFault<Stop>>
-    ensures { Yields (commanded words.now) result }
+/// The command of the words of a command line after the program's name, and how many workers they name.
+pub fn line_of(alloc: Global, words: &ArgList) -> Result<CommandLine, StepFault<Stop>>
+    ensures { Shows command_of_line (commanded words.now) result }
 {
     match read_words(alloc, LINKED, words) {
-        Ok(command) => Ok(command),
+        Ok(line) => Ok(line),
         Err(UsageFault::At { word, rule }) => Err(StepFault::Stop(Stop::Usage { word, rule })),
         Err(UsageFault::OutOfMemory) => Err(StepFault::OutOfMemory),
     }
