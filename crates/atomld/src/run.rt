@@ -1,13 +1,12 @@
 //! The program, over any words, files, output and messages.
 
-ghost use Rattle.std.specs.Prelude.{◌≡◌, ◌≢◌, IfOk, IfErr};
+ghost use Rattle.std.specs.Prelude.{◌≡◌, ◌≢◌, [], IfOk, IfErr};
 ghost use Rattle.mo_types.specs.declared.answer.Status.TheVariants as answer;
-ghost use Rattle.lib_bind.specs.Asking.{seen};
-ghost use Rattle.link_engine.specs.Asks.{Answered, places_by};
-ghost use Rattle.link_engine.specs.Command.{command_of};
+ghost use Rattle.file_cache.specs.Kept.{seen};
+ghost use Rattle.link_engine.specs.Answered.{Answered};
 ghost use Rattle.link_engine.specs.Settles.{Stopped, output_seen};
-ghost use Rattle.link_engine.specs.Verdict.{IsVerdict};
 ghost use Rattle.atomld.specs.Exits.{Exits};
+ghost use Rattle.atomld.specs.Links.{Links};
 
 use link_engine::{ended, link};
 use mo_outside::{Diag, Files, FreeGate, Out};
@@ -24,10 +23,13 @@ fn link_words<R: Threads + Sync, F: Files, O: Out, D: Diag>(
     out: &mut O,
     diag: &mut D,
 ) -> u8
-    ensures { Answered F.answers (places_by (command_of words.now)) (result ≢ 4)
-        (λ told. Exits (IsVerdict words.now told) result
+    ensures exits { Answered F.answers words.now (result ≢ 4)
+        (λ is. Exits is result
         (output_seen O.files O.calls O.faults D.lines D.faults out.old diag.old) (output_seen O.files O.calls O.faults D.lines D.faults out.new diag.new))
-        (seen F.holds F.asked F.faults files.old) (seen F.holds F.asked F.faults files.new) }
+        (seen F.holds F.asked F.faults files.old []) (seen F.holds F.asked F.faults files.new []) }
+    ensures links { result ≡ 0 → Links F.answers words.now
+        (seen F.holds F.asked F.faults files.old []) (seen F.holds F.asked F.faults files.new [])
+        (output_seen O.files O.calls O.faults D.lines D.faults out.old diag.old) (output_seen O.files O.calls O.faults D.lines D.faults out.new diag.new) }
 {
     link(rt, alloc, words, files, out, diag, &FreeGate).code()
 }
@@ -42,16 +44,20 @@ pub fn run<R: Threads + Sync, F: Files, O: Out, D: Diag>(
     out: &mut O,
     diag: &mut D,
 ) -> u8
-    ensures exits { IfOk words (λ words. Answered F.answers (places_by (command_of words)) (result ≢ 4)
-        (λ told. Exits (IsVerdict words told) result
+    ensures exits { IfOk words (λ words. Answered F.answers words (result ≢ 4)
+        (λ is. Exits is result
         (output_seen O.files O.calls O.faults D.lines D.faults out.old diag.old) (output_seen O.files O.calls O.faults D.lines D.faults out.new diag.new))
-        (seen F.holds F.asked F.faults files.old) (seen F.holds F.asked F.faults files.new)) }
+        (seen F.holds F.asked F.faults files.old []) (seen F.holds F.asked F.faults files.new [])) }
+    // Where it answers success, what was written links the files that were loaded.
+    ensures links { IfOk words (λ words. result ≡ 0 → Links F.answers words
+        (seen F.holds F.asked F.faults files.old []) (seen F.holds F.asked F.faults files.new [])
+        (output_seen O.files O.calls O.faults D.lines D.faults out.old diag.old) (output_seen O.files O.calls O.faults D.lines D.faults out.new diag.new)) }
     ensures memory { IfErr words (λ fault. result ≡ 4) }
     ensures stopped { IfErr words (λ fault. Stopped answer.OutOfMemory
         (output_seen O.files O.calls O.faults D.lines D.faults out.old diag.old) (output_seen O.files O.calls O.faults D.lines D.faults out.new diag.new)) }
 {
     match words {
         Ok(words) => link_words(rt, alloc, &words, files, out, diag),
-        Err(_) => ended(diag, b"", Status::OutOfMemory).code(),
+        Err(OutOfMemory) => ended(diag, b"", Status::OutOfMemory).code(),
     }
 }

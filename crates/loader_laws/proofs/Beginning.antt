@@ -41,14 +41,13 @@ use Rattle.lib_bind.specs.Provides.{provider_of}
 use Rattle.lib_bind.specs.declared.provider.Provider.{Provider}
 use Rattle.loader_laws.specs.Means.{IsGoalAt}
 use Rattle.loader_laws.proofs.Loading.{from_all}
-use Rattle.loader_laws.proofs.Stated.{begins_at}
 use Rattle.link_files.specs.Causes.{AreInside}
 use Rattle.link_files.specs.Later.{is_outer, later_entry, later_file}
-use Rattle.link_files.specs.Linked.{AreOrdered, making}
+use Rattle.link_files.specs.Linked.{AreOrdered}
 use Rattle.link_files.specs.Lost.{lost_wanted}
 use Rattle.link_files.specs.Names as names
 use Rattle.loader_laws.specs.Images.{IsImageOf}
-use Rattle.loader_laws.specs.Tellings.{AreInForm, AreWhole, HasEntry, made_of}
+use Rattle.loader_laws.specs.Tellings.{AreInForm, AreWhole}
 use Rattle.loader_laws.proofs.Cuts.{at_place}
 use Rattle.loader_laws.proofs.LinkedGoals.{AreSolid, IsWinnerIn, name_atom, place_in_file, winner_there}
 use Rattle.loader_laws.proofs.Lists.{both_empty, from_then, from_when, in_slice, neither, no_some, none_passes, not_none, not_second, some_is}
@@ -91,17 +90,20 @@ no_literal file l whole form h =
     let type = (neither (not (is_dropped section) && is_later_type section.kind) (is_unwind section) one).0 in
     false≢true (sym (not_second (not (is_dropped section)) (is_later_type section.kind) type (ap not linked)) ∙ literal_type section.kind kind)
 
-itself : (files : List LoadedFile) (key : AtomKey) → AreWhole files → AreInForm files → stands_for (representatives_of files) key ≡ key
+pub plain_literal : (files : List LoadedFile) (key : AtomKey) → AreWhole files → AreInForm files → literal_at (representatives_of files) key ≡ None
 unfolding representatives_of literals
-itself files key whole form = by (literal_at (representatives_of files) key) refl
+plain_literal files key whole form = by (literal_at (representatives_of files) key) refl
   where
-    by : (o : Option Representative) → literal_at (representatives_of files) key ≡ o → option_map_or (λ r. r.representative) o key ≡ key
+    by : (o : Option Representative) → literal_at (representatives_of files) key ≡ o → o ≡ None
     by None e = refl
     by (Some r) e =
         let there = (find_some (λ (s : Representative). is_eq (compare_keys s.literal key)) (representatives_of files) r e).0 in
         let l = from_map (representative_of (literals files)) (literals files) r there in
         let file = from_flat literals_in files l.0 l.1 in
         absurd (no_literal file.0 l.0 (from_all IsWholeFile files file.0 whole file.1) (from_all (λ (f : LoadedFile). is_later f ≡ false) files file.0 form file.1) file.2)
+
+itself : (files : List LoadedFile) (key : AtomKey) → AreWhole files → AreInForm files → stands_for (representatives_of files) key ≡ key
+itself files key whole form = ap (λ (o : Option Representative). option_map_or (λ r. r.representative) o key) (plain_literal files key whole form)
 
 -- ---- the atom of the entry is a root
 
@@ -146,7 +148,8 @@ entry_root command files symbols winner are whole form program e = by command.de
     by : (b : Bool) → command.dead_strip ≡ b → In (stands_for (representatives_of files) winner.atom) (roots command symbols files)
     by true s = rw s (in_left _ _ (stands_for (representatives_of files) winner.atom) (in_left (wanted_roots command symbols) _ (stands_for (representatives_of files) winner.atom)
         (subst (λ (ls : List Representative). In (stands_for ls winner.atom) (wanted_roots command symbols)) are.literals (wanted_there command files symbols winner are program e))))
-    by false s = rw s (subst (λ (k : AtomKey). In k (flat_map (plain_roots symbols) files)) (sym (itself files winner.atom whole form)) (plain_there command files symbols command.entry winner are whole form e))
+    by false s = rw s (in_left (flat_map (plain_roots symbols) files) _ (stands_for (representatives_of files) winner.atom)
+        (subst (λ (k : AtomKey). In k (flat_map (plain_roots symbols) files)) (sym (itself files winner.atom whole form)) (plain_there command files symbols command.entry winner are whole form e)))
 
 -- ---- the goal of the entry
 
@@ -177,9 +180,10 @@ entry_kept command libs files flags keys key inside whole form program = by (win
         weakly false to = kept winner e to
     by None e = nowhere (is_header_symbol command.dylib command.entry)
 
-entry_found : (command : Command) (libs : LibraryGraph) (files : List LoadedFile) (flags : ℕ) (keys : List AtomKey) → AreInside command libs files flags keys → command.dylib ≡ false → undefined.is_nobody (goal_of_name files libs command command.entry) ≡ false
+-- no name that the command line wants leads nowhere
+pub wanted_found : (command : Command) (libs : LibraryGraph) (files : List LoadedFile) (flags : ℕ) (keys : List AtomKey) (name : List ℕ) → AreInside command libs files flags keys → In name (names.wanted command) → undefined.is_nobody (goal_of_name files libs command name) ≡ false
 unfolding undefined.undefined lost_wanted
-entry_found command libs files flags keys inside program = by (undefined.is_nobody (goal_of_name files libs command command.entry)) refl
+wanted_found command libs files flags keys name inside among = by (undefined.is_nobody (goal_of_name files libs command name)) refl
   where
     lost_one : (name : List ℕ) → Bool
     lost_one name = undefined.is_nobody (goal_of_name files libs command name)
@@ -189,12 +193,15 @@ entry_found command libs files flags keys inside program = by (undefined.is_nobo
         (both_empty (undefined.lost keys files (goal_table files libs command)) (undefined.wanted (lost_wanted command libs files))
         (least_none (undefined.lost keys files (goal_table files libs command) ++ undefined.wanted (lost_wanted command libs files)) inside.found)).1
 
-    by : (b : Bool) → lost_one command.entry ≡ b → lost_one command.entry ≡ false
+    by : (b : Bool) → lost_one name ≡ b → lost_one name ≡ false
     by false e = e
     by true e =
-        let among : In command.entry (names.wanted command) = in_left (if command.dylib then [] else command.entry ∷ []) command.roots command.entry (rw program (inl refl)) in
-        let told = in_map (λ name. (name, [])) (lost_wanted command libs files) command.entry (in_filter lost_one (names.wanted command) command.entry among e) in
-        absurd (subst (λ (xs : List (List ℕ × List ℕ)). In (command.entry, []) xs) none told)
+        let told = in_map (λ name. (name, [])) (lost_wanted command libs files) name (in_filter lost_one (names.wanted command) name among e) in
+        absurd (subst (λ (xs : List (List ℕ × List ℕ)). In (name, []) xs) none told)
+
+entry_found : (command : Command) (libs : LibraryGraph) (files : List LoadedFile) (flags : ℕ) (keys : List AtomKey) → AreInside command libs files flags keys → command.dylib ≡ false → undefined.is_nobody (goal_of_name files libs command command.entry) ≡ false
+entry_found command libs files flags keys inside program =
+    wanted_found command libs files flags keys command.entry inside (in_left (if command.dylib then [] else command.entry ∷ []) command.roots command.entry (rw program (inl refl)))
 
 no_second : {B : Type 0} (a b : Option B) → option_or_else a b ≡ None → b ≡ None
 no_second None b e = e
@@ -215,18 +222,13 @@ entry_own command libs files flags keys inside program = by (is_outer (goal_of_n
     by false e = e
     by true e = not_none command.output (sym (told e) ∙ none)
 
-pub has_entry : (command : Command) (libs : LibraryGraph) (files : List LoadedFile) (image : List ℕ) (is : IsImageOf command libs files image) → AreOrdered files → AreWhole files → AreInForm files → command.dylib ≡ false → HasEntry (made_of is) is.layout image
-unfolding making
-has_entry command libs files image is ordered whole form program =
-    record { address = there.0; leads = there.1; begins = λ low. begins_at (making command libs files is.flags is.keys) is.layout image there.0 is.rising is.is_image program there.1 low }
+pub entry_stands : (command : Command) (libs : LibraryGraph) (files : List LoadedFile) (image : List ℕ) (is : IsImageOf command libs files image) → AreOrdered files → AreWhole files → AreInForm files → command.dylib ≡ false → (address : ℕ) × IsGoalAt image is.layout (goal_of_name files libs command command.entry) address
+entry_stands command libs files image is ordered whole form program =
+    goal_stands command libs files is.flags is.keys is.layout image (goal_of_name files libs command command.entry) linked (name_atom files libs command command.entry solid)
+    (λ key to. entry_kept command libs files is.flags is.keys key is.inside whole form program to) (entry_own command libs files is.flags is.keys is.inside program) (entry_found command libs files is.flags is.keys is.inside program)
   where
     solid : AreSolid files
     solid = are_solid files whole form
 
     linked : AreLinked command libs files is.flags is.keys is.layout image
     linked = record { ordered = ordered; whole = whole; solid = solid; inside = is.inside; rising = is.rising; is_image = is.is_image }
-
-    there : (address : ℕ) × IsGoalAt image is.layout (goal_of_name files libs command command.entry) address
-    there =
-        goal_stands command libs files is.flags is.keys is.layout image (goal_of_name files libs command command.entry) linked (name_atom files libs command command.entry solid)
-        (λ key to. entry_kept command libs files is.flags is.keys key is.inside whole form program to) (entry_own command libs files is.flags is.keys is.inside program) (entry_found command libs files is.flags is.keys is.inside program)

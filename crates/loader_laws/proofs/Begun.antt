@@ -38,6 +38,7 @@ use Rattle.image_read.specs.Commands.{ncmds, sizeofcmds}
 use Rattle.loader_laws.specs.Means.{AreRising, IsImage}
 use Rattle.loader_laws.proofs.Fronted.{IsFronted}
 use Rattle.loader_laws.proofs.Listed.{all_join, few, length_join, other_list, others_are, others_each, others_many, segment_list, segments_are, segments_each, segments_many}
+use Rattle.loader_laws.proofs.Named.{all_named}
 use Rattle.loader_laws.proofs.Planned.{IsPlan, all_held, base_small, in_turn, lead_room, sections_count, segments_count}
 use Rattle.loader_laws.proofs.Rowed.{row_in}
 use Rattle.loader_laws.proofs.Turned.{IsHeldBy, appended, ends_before}
@@ -59,6 +60,7 @@ is_plan m layout laid =
       later = later_groups sections bytes;
       groups = groups_split sections bytes;
       named = refl;
+      segments = all_named sections bytes;
       base = refl;
       small = laid.small;
       room = omega arith;
@@ -176,7 +178,7 @@ pub held_in_layout : (m : ImageInputs) (layout : Layout) (section : PlacedSectio
 held_in_layout m layout section laid among =
     let plan = plan_for m in
     let held : IsHeldBy (image_segments m.command plan) (plan.base + plan.lead) plan.lead section =
-    all_in (IsHeldBy (image_segments m.command plan) (plan.base + plan.lead) plan.lead) (image_sections plan) section (all_held m.command plan) (subst (λ (ss : List PlacedSection). In section ss) laid.layout_of.sections among) in
+    all_in (IsHeldBy (image_segments m.command plan) (plan.base + plan.lead) plan.lead) (image_sections plan) section (all_held m.command plan (is_plan m layout laid).segments) (subst (λ (ss : List PlacedSection). In section ss) laid.layout_of.sections among) in
     subst (λ (ss : List Segment). IsHeldBy ss (plan.base + plan.lead) plan.lead section) (sym laid.layout_of.segments) held
 
 pub row_at_place : (m : ImageInputs) (layout : Layout) (row : PlacedWork) → AreRising m → IsLaid m layout → In row (rows_of m layout) → IsRowAt m layout row

@@ -40,7 +40,7 @@ record HasHome (atoms : List AtomKey → List Atom) (sections : List PlacedSecti
   pub of_section : In atom (atoms section.section.atoms)
   pub named : atom.key ≡ p.atom
 
-stand_from : (at : ℕ) (atoms : List Atom) (p : Atom × ℕ) → In p (stand at atoms) → In p.0 atoms
+pub stand_from : (at : ℕ) (atoms : List Atom) (p : Atom × ℕ) → In p (stand at atoms) → In p.0 atoms
 unfolding stand
 stand_from at [] p h = absurd h
 stand_from at (atom ∷ atoms) p (inl e) = inl (ap (λ (q : Atom × ℕ). q.0) e)
@@ -95,14 +95,14 @@ spaced_from kept areas unit keys atom h =
 
 -- ---- a kept atom in its section
 
-record IsSeated (m : ImageInputs) (layout : Layout) (key : AtomKey) : Type 0 where
+pub record IsSeated (m : ImageInputs) (layout : Layout) (key : AtomKey) : Type 0 where
   pub section : PlacedSection
   pub among : In section layout.sections
   pub listed : In key section.section.atoms
   pub address : ℕ
   pub stood : address_in layout.placed key ≡ Some address
 
-seated : (m : ImageInputs) (layout : Layout) (kept : KeptAtom) (home : Home) → AreRising m → IsLaid m layout → Contains (kept_of m) kept → Some home ≡ home_of m.files kept.atom.key.file kept.atom.key.section → IsSeated m layout kept.atom.key
+pub seated : (m : ImageInputs) (layout : Layout) (kept : KeptAtom) (home : Home) → AreRising m → IsLaid m layout → Contains (kept_of m) kept → Some home ≡ home_of m.files kept.atom.key.file kept.atom.key.section → IsSeated m layout kept.atom.key
 unfolding plan_with plan_of
 seated m layout kept home rising laid keeps is =
     let atoms = map atom_of (kept_of m) in

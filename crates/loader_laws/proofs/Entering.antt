@@ -31,45 +31,45 @@ use Rattle.loader_laws.proofs.Walk.{all_bytes, number_there, places_from}
 
 -- ---- commands of other kinds
 
--- bytes that begin with a number that isn't the kind of the entry's command
-record IsOther (bytes : List ℕ) : Type 0 where
+-- bytes that begin with a number that isn't the kind that is sought
+pub record IsOther (sought : ℕ) (bytes : List ℕ) : Type 0 where
   pub kind : ℕ
   pub told : (rest : List ℕ) → number 4 (bytes ++ rest) 0 ≡ kind
-  pub other : kind ≢ LC_MAIN
+  pub other : kind ≢ sought
 
-begins_with : (kind : ℕ) (bytes more : List ℕ) → bytes ≡ number_bytes 4 kind ++ more → kind < 256 ^ 4 → kind ≢ LC_MAIN → IsOther bytes
-begins_with kind bytes more is low other = record {
+pub begins_with : (sought kind : ℕ) (bytes more : List ℕ) → bytes ≡ number_bytes 4 kind ++ more → kind < 256 ^ 4 → kind ≢ sought → IsOther sought bytes
+begins_with sought kind bytes more is low other = record {
   kind = kind;
   told = λ rest.
       ap (λ (z : List ℕ). number 4 (z ++ rest) 0) is ∙ ap (λ (z : List ℕ). number 4 z 0) (append_assoc (number_bytes 4 kind) more rest) ∙ number-number_bytes 4 kind (more ++ rest) low;
   other = other;
 }
 
-sized_other : (segment : Segment) (memory file stubs slots : ℕ) (sections : List PlacedSection) → IsOther (segment_with (sized_command segment memory file) stubs slots sections)
-sized_other segment memory file stubs slots sections =
-    begins_with LC_SEGMENT_64 (segment_with (sized_command segment memory file) stubs slots sections) _
-    (append_assoc (number_bytes 4 LC_SEGMENT_64) _ (flat_map (section_bytes stubs slots) sections)) (omega arith) (λ e. omega (arith, e))
+sized_other : (sought : ℕ) (segment : Segment) (memory file stubs slots : ℕ) (sections : List PlacedSection) → LC_SEGMENT_64 ≢ sought → IsOther sought (segment_with (sized_command segment memory file) stubs slots sections)
+sized_other sought segment memory file stubs slots sections other =
+    begins_with sought LC_SEGMENT_64 (segment_with (sized_command segment memory file) stubs slots sections) _
+    (append_assoc (number_bytes 4 LC_SEGMENT_64) _ (flat_map (section_bytes stubs slots) sections)) (omega arith) other
 
-segment_other : (parts : PartSizes) (last : Bool) (segment : Segment) (stubs slots : ℕ) (sections : List PlacedSection) → IsOther (segment_with (segment_command parts last segment) stubs slots sections)
-segment_other parts true segment stubs slots sections = sized_other segment (u64_of (least_multiple 0x4000 (linkedit_size parts segment))) (u64_of (linkedit_size parts segment)) stubs slots sections
-segment_other parts false segment stubs slots sections = sized_other segment segment.vmsize segment.file_size stubs slots sections
+segment_other : (sought : ℕ) (parts : PartSizes) (last : Bool) (segment : Segment) (stubs slots : ℕ) (sections : List PlacedSection) → LC_SEGMENT_64 ≢ sought → IsOther sought (segment_with (segment_command parts last segment) stubs slots sections)
+segment_other sought parts true segment stubs slots sections other = sized_other sought segment (u64_of (least_multiple 0x4000 (linkedit_size parts segment))) (u64_of (linkedit_size parts segment)) stubs slots sections other
+segment_other sought parts false segment stubs slots sections other = sized_other sought segment segment.vmsize segment.file_size stubs slots sections other
 
-segments_other : (parts : PartSizes) (stubs slots : ℕ) (segments : List Segment) (sections : List PlacedSection) → AllByRecursion IsOther (segment_list parts stubs slots segments sections)
-segments_other parts stubs slots [] sections = tt
-segments_other parts stubs slots (segment ∷ segments) sections =
-    (segment_other parts (is_empty segments) segment stubs slots (take segment.sections sections), segments_other parts stubs slots segments (drop segment.sections sections))
+pub segments_other : (sought : ℕ) (parts : PartSizes) (stubs slots : ℕ) (segments : List Segment) (sections : List PlacedSection) → LC_SEGMENT_64 ≢ sought → AllByRecursion (IsOther sought) (segment_list parts stubs slots segments sections)
+segments_other sought parts stubs slots [] sections other = tt
+segments_other sought parts stubs slots (segment ∷ segments) sections other =
+    (segment_other sought parts (is_empty segments) segment stubs slots (take segment.sections sections) other, segments_other sought parts stubs slots segments (drop segment.sections sections) other)
 
-dylinker_other : IsOther dylinker_bytes
+pub dylinker_other : (sought : ℕ) → LC_LOAD_DYLINKER ≢ sought → IsOther sought dylinker_bytes
 unfolding dylinker_bytes
-dylinker_other = begins_with LC_LOAD_DYLINKER dylinker_bytes _ (append_assoc (number_bytes 4 LC_LOAD_DYLINKER) _ _) (omega arith) (λ e. omega (arith, e))
+dylinker_other sought other = begins_with sought LC_LOAD_DYLINKER dylinker_bytes _ (append_assoc (number_bytes 4 LC_LOAD_DYLINKER) _ _) (omega arith) other
 
-version_other : (command : Command) → IsOther (version_bytes command)
+pub version_other : (sought : ℕ) (command : Command) → LC_BUILD_VERSION ≢ sought → IsOther sought (version_bytes command)
 unfolding version_bytes
-version_other command = begins_with LC_BUILD_VERSION (version_bytes command) _ refl (omega arith) (λ e. omega (arith, e))
+version_other sought command other = begins_with sought LC_BUILD_VERSION (version_bytes command) _ refl (omega arith) other
 
 -- ---- the search
 
-none_here : (image front bytes rest : List ℕ) → IsOther bytes → image ≡ front ++ (bytes ++ rest) → entry_at image (length front) ≡ None
+none_here : (image front bytes rest : List ℕ) → IsOther LC_MAIN bytes → image ≡ front ++ (bytes ++ rest) → entry_at image (length front) ≡ None
 unfolding entry_at cmd
 none_here image front bytes rest one is =
     let kind : number 4 image (length front) ≡ one.kind = number_there 4 image front (bytes ++ rest) 0 (length front) is (omega arith) ∙ one.told rest in
@@ -78,7 +78,7 @@ none_here image front bytes rest one is =
     by : (n : ℕ) → n ≢ LC_MAIN → when (n == LC_MAIN && nat_le 24 (cmdsize image (length front))) (entry_point_command_at image (length front)) ≡ None
     by n other = let away : (n == LC_MAIN) ≡ false = grind (arith, tests) in rw away refl
 
-skipped : (image front rest : List ℕ) (others more : List (List ℕ)) → image ≡ front ++ (all_bytes (others ++ more) ++ rest) → AllByRecursion IsOther others → first_some (entry_at image) (places_from (length front) (others ++ more)) ≡ first_some (entry_at image) (places_from (length front + length (all_bytes others)) more)
+skipped : (image front rest : List ℕ) (others more : List (List ℕ)) → image ≡ front ++ (all_bytes (others ++ more) ++ rest) → AllByRecursion (IsOther LC_MAIN) others → first_some (entry_at image) (places_from (length front) (others ++ more)) ≡ first_some (entry_at image) (places_from (length front + length (all_bytes others)) more)
 skipped image front rest [] more is each = ap (λ (n : ℕ). first_some (entry_at image) (places_from n more)) (let e : length front ≡ length front + 0 = omega arith in e)
 skipped image front rest (bytes ∷ others) more is each =
     let here : image ≡ front ++ (bytes ++ (all_bytes (others ++ more) ++ rest)) = is ∙ ap (λ (z : List ℕ). front ++ z) (append_assoc bytes (all_bytes (others ++ more)) rest) in
@@ -126,7 +126,9 @@ entry_found m layout image rising is program low =
     let all : commands_list m layout ≡ (segments ++ before) ++ (entry_bytes parts ∷ behind) =
     ap (λ (z : List (List ℕ)). segments ++ z) (program_list parts m.command m.libs program) ∙ sym (append_assoc segments before (entry_bytes parts ∷ behind)) in
     let split : image ≡ front.header ++ (all_bytes ((segments ++ before) ++ (entry_bytes parts ∷ behind)) ++ front.rest) = front.is ∙ ap (λ (z : List (List ℕ)). front.header ++ (all_bytes z ++ front.rest)) all in
-    let others : AllByRecursion IsOther (segments ++ before) = appended IsOther segments before (segments_other parts (stub_count layout.sections) (slot_count layout.sections) layout.segments layout.sections) (dylinker_other, (version_other m.command, tt)) in
+    let others : AllByRecursion (IsOther LC_MAIN) (segments ++ before) =
+    appended (IsOther LC_MAIN) segments before (segments_other LC_MAIN parts (stub_count layout.sections) (slot_count layout.sections) layout.segments layout.sections (λ e. omega (arith, e)))
+    (dylinker_other LC_MAIN (λ e. omega (arith, e)), (version_other LC_MAIN m.command (λ e. omega (arith, e)), tt)) in
     let past = skipped image front.header front.rest (segments ++ before) (entry_bytes parts ∷ behind) split others in
     let joined : all_bytes ((segments ++ before) ++ (entry_bytes parts ∷ behind)) ≡ all_bytes (segments ++ before) ++ (entry_bytes parts ++ all_bytes behind) = Rattle.loader_laws.proofs.Listed.all_join (segments ++ before) (entry_bytes parts ∷ behind) in
     let here : image ≡ (front.header ++ all_bytes (segments ++ before)) ++ (entry_bytes parts ++ (all_bytes behind ++ front.rest)) =

@@ -98,7 +98,7 @@ placed_at placed key offset address e = by (address_in placed key) (ap (option_m
     by None is = absurd cc
     by (Some start) is = some_is (start + offset) address is
 
-none_at : {X : Type 0} (address : ℕ) → None ≡ Some address → X
+pub none_at : {X : Type 0} (address : ℕ) → None ≡ Some address → X
 none_at address e = absurd cc
 
 pub goal_there : (m : ImageInputs) (layout : Layout) (image : List ℕ) (goal : Goal) (address : ℕ) → AreRising m → IsImage m layout image → goal_address image (addresses_of layout.placed) goal ≡ Some address → work.goal_address (layouts.base_of m.command) layout.placed goal ≡ address

@@ -75,7 +75,7 @@ are_solid files whole form = record {
 -- ---- the atom of a row
 
 -- a row's atom is one that its file has and that is kept
-record IsKeptIn (files : List LoadedFile) (keys : List AtomKey) (row : PlacedWork) : Type 0 where
+pub record IsKeptIn (files : List LoadedFile) (keys : List AtomKey) (row : PlacedWork) : Type 0 where
   pub file : LoadedFile
   pub there : slice_get files row.file ≡ Some file
   pub atom : Atom
@@ -103,7 +103,7 @@ kept_from command libs files flags keys row one h same_file same_atom =
       keeps = ap (has keys) (sym named) ∙ chosen.1;
     }
 
-row_kept : (command : Command) (libs : LibraryGraph) (files : List LoadedFile) (flags : ℕ) (keys : List AtomKey) (layout : Layout) (row : PlacedWork) → IsRowIn (making command libs files flags keys) layout row → IsKeptIn files keys row
+pub row_kept : (command : Command) (libs : LibraryGraph) (files : List LoadedFile) (flags : ℕ) (keys : List AtomKey) (layout : Layout) (row : PlacedWork) → IsRowIn (making command libs files flags keys) layout row → IsKeptIn files keys row
 row_kept command libs files flags keys layout row is =
     let m : ImageInputs = making command libs files flags keys in
     kept_from command libs files flags keys row is.kept (find_some (λ (k : KeptAtom). is_eq (compare_keys k.atom.key is.key)) (kept_of m) is.kept is.known).0
@@ -114,7 +114,7 @@ row_kept command libs files flags keys layout row is =
 same_place : (a b c d : ℕ) → b < 2 ^ 64 → d < 2 ^ 64 → a * 2 ^ 64 + b ≡ c * 2 ^ 64 + d → (a ≡ c) × (b ≡ d)
 same_place a b c d low high e = (omega (arith, low, high, e), omega (arith, low, high, e))
 
-ref_key : (files : List LoadedFile) (keys : List AtomKey) (row : PlacedWork) (file : LoadedFile) (r : Ref) → IsKeptIn files keys row → IsWholeFile file → slice_get files row.file ≡ Some file → In r file.refs → is_ref_of row.atom.key.section row.atom.key.offset r ≡ true → r.atom ≡ row.atom.key
+pub ref_key : (files : List LoadedFile) (keys : List AtomKey) (row : PlacedWork) (file : LoadedFile) (r : Ref) → IsKeptIn files keys row → IsWholeFile file → slice_get files row.file ≡ Some file → In r file.refs → is_ref_of row.atom.key.section row.atom.key.offset r ≡ true → r.atom ≡ row.atom.key
 ref_key files keys row file r kept whole is h own =
     let same : kept.file ≡ file = some_is kept.file file (sym kept.there ∙ is) in
     let atom : Atom = kept.atom in

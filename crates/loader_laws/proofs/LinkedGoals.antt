@@ -155,6 +155,7 @@ pub record IsWinnerIn (files : List LoadedFile) (name : List ℕ) (winner : Winn
   pub place : Place
   pub stands : place_of file index symbol.kind ≡ Some place
   pub atom : place.atom ≡ winner.atom
+  pub offset : place.offset ≡ winner.offset
   pub word : word_of file.id index symbol ≡ winner.word
 
 pub winner_there : (command : Command) (files : List LoadedFile) (name : List ℕ) (winner : Winner) → winner_of command files name ≡ Some winner → IsWinnerIn files name winner
@@ -182,6 +183,7 @@ winner_there command files name winner e =
       place = place.0;
       stands = ap (λ (i : ℕ). place_of of.0 i p.0.1.kind) index ∙ ap (λ (g : FileCandidate). place_of g.file g.index g.symbol.kind) candidate.1 ∙ place.1;
       atom = ap (λ (w : Winner). w.atom) place.2;
+      offset = ap (λ (w : Winner). w.offset) place.2;
       word = ap (λ (i : ℕ). word_of of.0.id i p.0.1) index ∙ ap (λ (g : FileCandidate). found_word g) candidate.1 ∙ ap (λ (w : Winner). w.word) place.2;
     }
 

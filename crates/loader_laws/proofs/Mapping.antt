@@ -57,16 +57,19 @@ holder_found : (m : ImageInputs) (layout : Layout) (image : List ℕ) (address :
 unfolding holder holder_at
 holder_found m layout image address command found = found
 
-pub mapped_in : (m : ImageInputs) (layout : Layout) (image : List ℕ) (segment : Segment) (address : ℕ) → AreRising m → IsImage m layout image → In segment layout.segments → segment.address ≤ address → address < segment.address + segment.vmsize → mapped image address ≡ byte_in image address (own segment)
-unfolding mapped
-mapped_in m layout image segment address rising is among low high =
+pub holder_in : (m : ImageInputs) (layout : Layout) (image : List ℕ) (segment : Segment) (address : ℕ) → AreRising m → IsImage m layout image → In segment layout.segments → segment.address ≤ address → address < segment.address + segment.vmsize → holder image address ≡ Some (own segment)
+holder_in m layout image segment address rising is among low high =
     let plan = plan_for m in
     let planned = is.laid.layout_of.segments in
     let first : IsFirst (holds address) layout.segments (own segment) =
     subst (λ (ss : List Segment). IsFirst (holds address) ss (own segment)) (sym planned)
     (first_holder 0 0 address _ segment (in_turn m.command plan (is_plan m layout is.laid)) (last_empty m.command plan) (subst (λ (ss : List Segment). In segment ss) planned among) low high) in
-    if_fits (fits image) image address (holder image address) (own segment) (are_there image (commands_list m layout) (is_fronted m layout image rising is))
-    (holder_found m layout image address (own segment) (first_found (holds address) m layout image (own segment) rising is first))
+    holder_found m layout image address (own segment) (first_found (holds address) m layout image (own segment) rising is first)
+
+pub mapped_in : (m : ImageInputs) (layout : Layout) (image : List ℕ) (segment : Segment) (address : ℕ) → AreRising m → IsImage m layout image → In segment layout.segments → segment.address ≤ address → address < segment.address + segment.vmsize → mapped image address ≡ byte_in image address (own segment)
+unfolding mapped
+mapped_in m layout image segment address rising is among low high =
+    if_fits (fits image) image address (holder image address) (own segment) (are_there image (commands_list m layout) (is_fronted m layout image rising is)) (holder_in m layout image segment address rising is among low high)
 
 -- the byte of a segment that may be looked at
 byte_stored : (image : List ℕ) (address : ℕ) (segment : Segment) → 0 < segment.protection → address < segment.address + segment.file_size → byte_in image address (own segment) ≡ slice_get image (segment.file_offset + (address - segment.address))

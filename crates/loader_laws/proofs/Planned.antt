@@ -15,7 +15,7 @@ use Rattle.sect_place.specs.declared.part.Part.{Part}
 use Rattle.sect_place.proofs.Spread.{group_bounds, groups_after}
 use Rattle.loader_laws.proofs.First.{IsFirst, IsFitSegment, own}
 use Rattle.loader_laws.proofs.Seek.{EndsEmpty, ends_empty, first_text, is_text}
-use Rattle.loader_laws.proofs.Turned.{InTurn, IsHeldBy, appended, earlier, held_by_more, sections_held, turned}
+use Rattle.loader_laws.proofs.Turned.{InTurn, IsHeldBy, IsNamed, appended, earlier, held_by_more, sections_held, turned}
 
 -- A plan of an image of a command: where its memory begins, its segments with sections, of which `__TEXT` is the first, and
 -- fewer than 2^32 bytes.
@@ -24,6 +24,7 @@ pub record IsPlan (command : Command) (plan : Plan) : Type 0 where
   pub later : List Group
   pub groups : plan.groups ≡ first ∷ later
   pub named : first.name ≡ codes "__TEXT"
+  pub segments : AllByRecursion IsNamed plan.groups
   pub base : plan.base ≡ base_of command
   pub small : image_size plan < 2 ^ 32
   pub room : 32 + 72 * (length plan.groups + others_of command) + 80 * parts_count plan.groups ≤ plan.lead
@@ -62,13 +63,13 @@ held_by : (dylib : Bool) (segments : List Segment) (from begin : ℕ) (sections 
 held_by true segments from begin sections all = all
 held_by false segments from begin sections all = held_by_more pagezero segments from begin sections all
 
-pub all_held : (command : Command) (plan : Plan) → AllByRecursion (IsHeldBy (image_segments command plan) (plan.base + plan.lead) plan.lead) (image_sections plan)
+pub all_held : (command : Command) (plan : Plan) → AllByRecursion IsNamed plan.groups → AllByRecursion (IsHeldBy (image_segments command plan) (plan.base + plan.lead) plan.lead) (image_sections plan)
 unfolding image_sections
-all_held command plan =
+all_held command plan named =
     let sections = groups_sections plan.atoms plan.base 0 plan.lead plan.groups in
     subst (λ (ss : List Segment). AllByRecursion (IsHeldBy ss (plan.base + plan.lead) plan.lead) sections) (sym (segments_split command plan))
     (held_by command.dylib (behind plan) (plan.base + plan.lead) plan.lead sections
-    (sections_held plan.atoms plan.base 0 plan.lead (plan.base + plan.lead) plan.lead plan.groups (linkedit (end_of_image plan) (groups_file plan.atoms plan.base 0 plan.lead plan.groups)) (omega arith) (omega arith)))
+    (sections_held plan.atoms plan.base 0 plan.lead (plan.base + plan.lead) plan.lead plan.groups (linkedit (end_of_image plan) (groups_file plan.atoms plan.base 0 plan.lead plan.groups)) named (omega arith) (omega arith)))
 
 -- ---- numbers that fit
 

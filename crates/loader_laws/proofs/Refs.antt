@@ -1,15 +1,15 @@
 -- The references of an object: the atom that has each, and that its targets are there.
-use Rattle.std.proofs.Common.{◌≡◌, ℕ, zero, suc, ◌+◌, ◌-◌, ◌*◌, ◌<◌, ◌^◌, ◌==◌, ◌&&◌, not, Bool, true, false, nat_lt, List, [], ◌∷◌, length, Option, Some, None, Result, Ok, inl, inr, refl, sym, ap, ◌∙◌, subst, arith, if◌then◌else◌}
-use Rattle.std.specs.Prelude.{slice_get}
+use Rattle.std.proofs.Common.{◌≡◌, ℕ, zero, suc, ◌+◌, ◌-◌, ◌*◌, ◌<◌, ◌^◌, ◌%◌, ◌==◌, ◌&&◌, ◌||◌, not, Bool, true, false, nat_lt, List, [], ◌∷◌, length, Option, Some, None, Result, Ok, inl, inr, refl, sym, ap, ◌∙◌, subst, arith, if◌then◌else◌}
+use Rattle.std.specs.Prelude.{is_none, slice_get}
 use Rattle.std.specs.List.{range_with_len}
 use Rattle.std.specs.Option.{option_map, option_map_or}
-use Rattle.std.proofs.lemmas.Bool.{false≢true, ltb-true}
+use Rattle.std.proofs.lemmas.Bool.{false≢true, ltb-true, ne_eqb}
 use Rattle.list_lemmas.proofs.Members.{In, from_filter_map, in_either}
 use Rattle.mo_types.specs.Atoms.{cut_of}
-use Rattle.mo_types.specs.Refs.{or_fault, or_unsupported, has_absolute, has_authenticated, minus_of, place_of, reference, reference_at, refs_from, refs_of, section_refs, target_of}
-use Rattle.mo_types.specs.RelocationRules.{RelocationRule, faults_from, faults_in, field_at, field_number, first_fault, is_bad_target, is_outside, is_unnameable, is_within, least, pair_fault, place_fault, section_numbered, shape_fault, target_fault}
-use Rattle.mo_types.specs.Rows.{field_size, first_before, is_distance, is_subtractor, is_value, kind_alone, kind_at, kind_of, last_at, when}
-use Rattle.mo_types.specs.Whole.{is_dropped}
+use Rattle.mo_types.specs.Refs.{or_fault, or_unsupported, has_absolute, has_authenticated, minus_of, place_of, reference_at, refs_from, refs_of, section_refs, target_of}
+use Rattle.mo_types.specs.RelocationRules.{RelocationRule, faults_from, faults_in, field_at, field_number, first_fault, has_fields, is_bad_field, is_bad_target, is_in_one_atom, is_misplaced, is_outside, is_unnameable, is_within, least, overlaps_another, pair_fault, place_fault, row_start, section_numbered, shape_fault, target_fault}
+use Rattle.mo_types.specs.Rows.{field_size, first_before, is_distance, is_instruction, is_subtractor, is_value, kind_alone, kind_at, kind_of, last_at, when}
+use Rattle.mo_types.specs.Whole.{is_dropped, is_strings, is_zerofill, literal_size}
 use Rattle.mo_types.specs.declared.key.FileId.{FileId}
 use Rattle.mo_types.specs.declared.object.Object.{Object}
 use Rattle.mo_types.specs.declared.object.RawReloc.{RawReloc}
@@ -44,6 +44,7 @@ all_supported object all refs e = by (has_absolute object) (has_authenticated ob
 
 -- the references are those of the sections, and each target may be named
 pub record AreRead (object : Object) (file : FileId) (refs : List Ref) : Type 0 where
+  pub places : first_fault place_fault object ≡ None
   pub targets : first_fault target_fault object ≡ None
   pub all : refs_from object file 1 object.sections ≡ refs
 
@@ -54,7 +55,7 @@ are_read object file refs e =
     let shape = no_fault BadShape (first_fault shape_fault object) _ refs pair.1 in
     let place = no_fault BadPlace (first_fault place_fault object) _ refs shape.1 in
     let target = no_fault BadTarget (first_fault target_fault object) _ refs place.1 in
-    record { targets = target.0; all = all_supported object (refs_from object file 1 object.sections) refs target.1 }
+    record { places = place.0; targets = target.0; all = all_supported object (refs_from object file 1 object.sections) refs target.1 }
 
 no_least : (xs : List ℕ) → least xs ≡ None → xs ≡ []
 no_least [] e = refl
@@ -194,10 +195,16 @@ has_minus object file bytes field (Some first) reloc kind e good = by (is_subtra
         let fine : is_bad_target object bytes field first ≡ false = not_second (is_subtractor first) (is_bad_target object bytes field first) good f in
         minus_by object file kind (minus_of (Some first)) (rw f (good_symbol object first.number (rw external at fine)))
 
--- what holds of a reference that was read
+-- what holds of a reference that was read: its atom is that of an offset of a linked section with bytes
 pub record IsRead (object : Object) (file : FileId) (r : Ref) : Type 0 where
   pub number : ℕ
+  pub section : Section
+  pub numbered : section_numbered object.sections number ≡ Some section
+  pub linked : is_dropped section ≡ false
+  pub solid : is_zerofill section.kind ≡ false
+  pub at : ℕ
   pub offset : ℕ
+  pub cut : offset ≡ cut_of object number section at
   pub atom : r.atom ≡ key_at file number offset
   pub low : offset < 2 ^ 31
   pub target : IsTargetOf object file r.target
@@ -213,16 +220,36 @@ low_field relocs at field e =
     let found = from_when (nat_lt reloc.0.address (2 ^ 31)) given field reloc.2 in
     subst (λ (f : FieldRange). f.offset < 2 ^ 31) found.1 (ltb-true reloc.0.address (2 ^ 31) found.0)
 
-read_at : (object : Object) (file : FileId) (number : ℕ) (section : Section) (at : ℕ) (r : Ref) → reference_at object file number section at ≡ Some r → target_fault object number section at ≡ None → IsRead object file r
+-- a section with fields has bytes
+solid_there : (object : Object) (number : ℕ) (section : Section) (at : ℕ) (kind : RefKind) (field : FieldRange) → place_fault object number section at ≡ None → kind_at section.relocs at ≡ Some kind → field_at section.relocs at ≡ Some field → is_zerofill section.kind ≡ false
+unfolding place_fault
+solid_there object number section at kind field good is_kind is_field =
+    let placed : is_misplaced object number section at kind ≡ false = not_when (is_misplaced object number section at kind) (row_start section.relocs at) (rw is_kind at good) in
+    let fine : is_bad_field object number section at kind field ≡ false = rw is_field at placed in
+    let fields = (neither (not (is_in_one_atom object number section field) || (is_instruction kind && not (field.offset % 4 == 0)) || overlaps_another section.relocs at field) (not (has_fields section)) fine).1 in
+    empty (is_zerofill section.kind) (is_strings section.kind) (is_none (literal_size section.kind)) fields
+  where
+    empty : (a b c : Bool) → not (not a && not b && c) ≡ false → a ≡ false
+    empty true b c e = absurd (false≢true (sym e))
+    empty false b c e = refl
+
+-- a section by its place from 0 and by its number from 1
+numbered_so : (sections : List Section) (k : ℕ) (section : Section) → slice_get sections k ≡ Some section → section_numbered sections (1 + k) ≡ Some section
+numbered_so sections k section is =
+    let above : (1 + k == 0) ≡ false = ne_eqb (1 + k) 0 (λ e. omega (arith, e)) in
+    let same : 1 + k - 1 ≡ k = omega arith in
+    rw above (ap (slice_get sections) same ∙ is)
+
+read_at : (object : Object) (file : FileId) (number : ℕ) (section : Section) (at : ℕ) (r : Ref) → section_numbered object.sections number ≡ Some section → is_dropped section ≡ false → reference_at object file number section at ≡ Some r → place_fault object number section at ≡ None → target_fault object number section at ≡ None → IsRead object file r
 unfolding reference_at target_fault kind_at
-read_at object file number section at r e good =
+read_at object file number section at r numbered linked e placed good =
     let last = from_then _ (last_at section.relocs at) r e in
     let kind = from_then _ (kind_at section.relocs at) r last.2 in
     let field = from_then _ (field_at section.relocs at) r kind.2 in
     let target = from_mapped _ (target_of object file section.bytes field.0 last.0) r field.2 in
     let low = low_field section.relocs at field.0 field.1 in
     let within = (greatest_cut object number section field.0.offset).within in
-    by last.0 kind.0 field.0 target.0 last.1 kind.1 field.1 target.1 target.2 (omega (arith, low, within))
+    by last.0 kind.0 field.0 target.0 last.1 kind.1 field.1 target.1 target.2 (omega (arith, low, within)) (solid_there object number section at kind.0 field.0 placed kind.1 field.1)
   where
     -- neither target is a bad one
     fine : (a b : Bool) (at : ℕ) → (if a then Some (at - 1) else when b at) ≡ None → (a ≡ false) × (b ≡ false)
@@ -239,13 +266,19 @@ read_at object file number section at r e good =
           minus = minus_of (first_before section.relocs at);
           addend = Rattle.mo_types.specs.Refs.addend_of section.bytes field (first_before section.relocs at) reloc;
         }) r
-        → cut_of object number section field.offset < 2 ^ 31 → IsRead object file r
-    by reloc kind field target is_last is_kind is_field is_target is low =
+        → cut_of object number section field.offset < 2 ^ 31 → is_zerofill section.kind ≡ false → IsRead object file r
+    by reloc kind field target is_last is_kind is_field is_target is low solid =
         let tests = fine (option_map_or (λ first. is_subtractor first && is_bad_target object section.bytes field first) (first_before section.relocs at) false) (is_bad_target object section.bytes field reloc) at (rw (is_field, is_last) at good) in
         let kinds : kind_of (first_before section.relocs at) reloc ≡ Some kind = rw is_last at is_kind in
         subst (IsRead object file) is (record {
           number = number;
+          section = section;
+          numbered = numbered;
+          linked = linked;
+          solid = solid;
+          at = field.offset;
           offset = cut_of object number section field.offset;
+          cut = refl;
           atom = refl;
           low = low;
           target = good_target object file section.bytes field reloc target tests.1 is_target;
@@ -257,13 +290,15 @@ unfolding section_refs first_fault
 is_read object file refs r e h =
     let read = are_read object file refs e in
     let of = from_sections object file 1 object.sections r (subst (λ (xs : List Ref). In r xs) (sym read.all) h) in
-    by of.k of.section of.there of.among (none_from target_fault object 1 object.sections of.k of.section (no_least (faults_from target_fault object 1 object.sections) read.targets) of.there)
+    by of.k of.section of.there of.among (none_from place_fault object 1 object.sections of.k of.section (no_least (faults_from place_fault object 1 object.sections) read.places) of.there)
+    (none_from target_fault object 1 object.sections of.k of.section (no_least (faults_from target_fault object 1 object.sections) read.targets) of.there)
   where
-    by : (k : ℕ) (section : Section) → slice_get object.sections k ≡ Some section → In r (section_refs object file (1 + k) section) → faults_in target_fault object (1 + k) section ≡ [] → IsRead object file r
-    by k section there among none = with_linked (is_dropped section) refl
+    by : (k : ℕ) (section : Section) → slice_get object.sections k ≡ Some section → In r (section_refs object file (1 + k) section) → faults_in place_fault object (1 + k) section ≡ [] → faults_in target_fault object (1 + k) section ≡ [] → IsRead object file r
+    by k section there among placed none = with_linked (is_dropped section) refl
       where
         with_linked : (b : Bool) → is_dropped section ≡ b → IsRead object file r
         with_linked true f = absurd (rw f at among)
         with_linked false f =
             let chosen = from_filter_map (reference_at object file (1 + k) section) (range_with_len 0 (length section.relocs)) r (rw f at among) in
-            read_at object file (1 + k) section chosen.0 r chosen.2 (none_in target_fault object (1 + k) section chosen.0 none f chosen.1)
+            read_at object file (1 + k) section chosen.0 r (numbered_so object.sections k section there) f chosen.2 (none_in place_fault object (1 + k) section chosen.0 placed f chosen.1)
+            (none_in target_fault object (1 + k) section chosen.0 none f chosen.1)

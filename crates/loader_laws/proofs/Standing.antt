@@ -52,7 +52,7 @@ use Rattle.image_make.specs.declared.kept.KeptAtom.{KeptAtom}
 use Rattle.image_make.specs.Made.{ImageInputs, kept_of, rows_of}
 use Rattle.loader_laws.specs.Means.{AreRising, HasGoals, IsGoalAt, IsImage, IsWritten, IsZerofill, addresses_of}
 use Rattle.loader_laws.specs.References.{Stands}
-use Rattle.loader_laws.proofs.Complete.{none_left_out}
+use Rattle.loader_laws.proofs.Complete.{IsSeated, none_left_out, seated}
 use Rattle.loader_laws.proofs.Loading.{from_all}
 use Rattle.loader_laws.proofs.Stated.{header_is_goal, rows_have_goals, zerofill_has_goals}
 use Rattle.link_files.specs.Causes.{AreInside}
@@ -100,7 +100,7 @@ one_file files a b ordered p q same = by (at_in files a p) (at_in files b q)
       ]
     ]
 
-equal_is : (o : Ordering) → is_eq o ≡ true → o ≡ Equal
+pub equal_is : (o : Ordering) → is_eq o ≡ true → o ≡ Equal
 equal_is Less e = absurd (false≢true e)
 equal_is Equal e = refl
 equal_is Greater e = absurd (false≢true e)
@@ -108,7 +108,7 @@ equal_is Greater e = absurd (false≢true e)
 same_file : (a b : FileId) → is_eq (compare_files a b) ≡ true → a ≡ b
 same_file a b e = ap (λ (k : AtomKey). k.file) (same_key (start a) (start b) (starts a b ∙ equal_is (compare_files a b) e))
 
-file_found : (files : List LoadedFile) (file : LoadedFile) (id : FileId) → AreOrdered files → In file files → file.id ≡ id → find (λ file. is_eq (compare_files file.id id)) files ≡ Some file
+pub file_found : (files : List LoadedFile) (file : LoadedFile) (id : FileId) → AreOrdered files → In file files → file.id ≡ id → find (λ file. is_eq (compare_files file.id id)) files ≡ Some file
 file_found files file id ordered h same = by (find test files) refl
   where
     test : LoadedFile → Bool
@@ -142,36 +142,53 @@ pub record AreLinked (command : Command) (libs : LibraryGraph) (files : List Loa
   pub rising : AreRising (making command libs files flags keys)
   pub is_image : IsImage (making command libs files flags keys) layout image
 
-kept_there : (command : Command) (libs : LibraryGraph) (files : List LoadedFile) (flags : ℕ) (keys : List AtomKey) (at : ℕ) (file : LoadedFile) (atom : Atom) → slice_get files at ≡ Some file → In atom file.atoms → has keys atom.key ≡ true → In (kept_as (representatives_of files) at atom) (kept_of (making command libs files flags keys))
+pub kept_there : (command : Command) (libs : LibraryGraph) (files : List LoadedFile) (flags : ℕ) (keys : List AtomKey) (at : ℕ) (file : LoadedFile) (atom : Atom) → slice_get files at ≡ Some file → In atom file.atoms → has keys atom.key ≡ true → In (kept_as (representatives_of files) at atom) (kept_of (making command libs files flags keys))
 unfolding making kept_atoms kept_in
 kept_there command libs files flags keys at file atom is h kept =
     in_flat (kept_in (representatives_of files) keys) (enumerate_from 0 files) (at, file) (kept_as (representatives_of files) at atom) (in_all files at file is)
     (in_map (kept_as (representatives_of files) at) (filter (λ a. has keys a.key) file.atoms) atom (in_filter (λ a. has keys a.key) file.atoms atom h kept))
 
-kept_key : (files : List LoadedFile) (at : ℕ) (atom : Atom) → (kept_as (representatives_of files) at atom).atom.key ≡ atom.key
+pub kept_key : (files : List LoadedFile) (at : ℕ) (atom : Atom) → (kept_as (representatives_of files) at atom).atom.key ≡ atom.key
 unfolding raised
 kept_key files at atom = refl
 
-files_made : (command : Command) (libs : LibraryGraph) (files : List LoadedFile) (flags : ℕ) (keys : List AtomKey) → (making command libs files flags keys).files ≡ files
+pub files_made : (command : Command) (libs : LibraryGraph) (files : List LoadedFile) (flags : ℕ) (keys : List AtomKey) → (making command libs files flags keys).files ≡ files
 unfolding making
 files_made command libs files flags keys = refl
+
+-- an atom of a file as it is kept
+abbrev pub one_of : List LoadedFile → ℕ → Atom → KeptAtom
+one_of files at atom = kept_as (representatives_of files) at atom
+
+-- a kept atom of a file, with its address
+pub record IsSeat (m : ImageInputs) (layout : Layout) (files : List LoadedFile) (file : LoadedFile) (atom : Atom) : Type 0 where
+  pub at : ℕ
+  pub there : slice_get files at ≡ Some file
+  pub seated : IsSeated m layout (one_of files at atom).atom.key
+  pub address : ℕ
+  pub stands : IsWritten m layout (one_of files at atom) address ⊎ IsZerofill m layout (one_of files at atom) address
+
+pub seat_of : (command : Command) (libs : LibraryGraph) (files : List LoadedFile) (flags : ℕ) (keys : List AtomKey) (layout : Layout) (image : List ℕ) (file : LoadedFile) (atom : Atom) → AreLinked command libs files flags keys layout image → In file files → In atom file.atoms → has keys atom.key ≡ true → IsSeat (making command libs files flags keys) layout files file atom
+seat_of command libs files flags keys layout image file atom linked among of_file kept =
+    let m : ImageInputs = making command libs files flags keys in
+    let place = at_in files file among in
+    let one : KeptAtom = one_of files place.0 atom in
+    let named : one.atom.key ≡ atom.key = kept_key files place.0 atom in
+    let cut : In atom (Rattle.mo_types.specs.Atoms.atoms_of file.object file.id) = subst (λ (xs : List Atom). In atom xs) (linked.solid.cut file among) of_file in
+    let piece = is_piece file.object file.id atom (from_all IsWholeFile files file linked.whole among).object cut in
+    let home = has_home files file atom.key piece.section linked.ordered among (sym (atoms_of_file file.object file.id atom cut)) piece.numbered in
+    let at_home : Some home.0 ≡ home_of m.files one.atom.key.file one.atom.key.section =
+    home.1 ∙ ap (λ (k : AtomKey). home_of files k.file k.section) (sym named) ∙ ap (λ (fs : List LoadedFile). home_of fs one.atom.key.file one.atom.key.section) (sym (files_made command libs files flags keys)) in
+    let keeps = Contains_from_in (kept_of m) one (kept_there command libs files flags keys place.0 file atom place.1 of_file kept) in
+    let stood = none_left_out m layout one home.0 linked.rising linked.is_image.laid keeps at_home in
+    record { at = place.0; there = place.1; seated = seated m layout one home.0 linked.rising linked.is_image.laid keeps at_home; address = stood.0; stands = stood.1 }
 
 pub stands_at : (command : Command) (libs : LibraryGraph) (files : List LoadedFile) (flags : ℕ) (keys : List AtomKey) (layout : Layout) (image : List ℕ) (key : AtomKey) → AreLinked command libs files flags keys layout image → IsAtomIn files key → has keys key ≡ true → (address : ℕ) × HasGoals image layout key address
 stands_at command libs files flags keys layout image key linked is kept =
     let m : ImageInputs = making command libs files flags keys in
-    let file : LoadedFile = is.file in
-    let atom : Atom = is.atom in
-    let place = at_in files file is.among in
-    let one : KeptAtom = kept_as (representatives_of files) place.0 atom in
-    let named : one.atom.key ≡ atom.key = kept_key files place.0 atom in
-    let cut : In atom (Rattle.mo_types.specs.Atoms.atoms_of file.object file.id) = subst (λ (xs : List Atom). In atom xs) (linked.solid.cut file is.among) is.of_file in
-    let piece = is_piece file.object file.id atom (from_all IsWholeFile files file linked.whole is.among).object cut in
-    let home = has_home files file atom.key piece.section linked.ordered is.among (sym (atoms_of_file file.object file.id atom cut)) piece.numbered in
-    let at_home : Some home.0 ≡ home_of m.files one.atom.key.file one.atom.key.section =
-    home.1 ∙ ap (λ (k : AtomKey). home_of files k.file k.section) (sym named) ∙ ap (λ (fs : List LoadedFile). home_of fs one.atom.key.file one.atom.key.section) (sym (files_made command libs files flags keys)) in
-    let has_one : has keys atom.key ≡ true = ap (has keys) is.named ∙ kept in
-    let stood = none_left_out m layout one home.0 linked.rising linked.is_image.laid (Contains_from_in (kept_of m) one (kept_there command libs files flags keys place.0 file atom place.1 is.of_file has_one)) at_home in
-    with_place m one stood.0 (named ∙ is.named) linked.rising linked.is_image stood.1
+    let seat = seat_of command libs files flags keys layout image is.file is.atom linked is.among is.of_file (ap (has keys) is.named ∙ kept) in
+    let one : KeptAtom = one_of files seat.at is.atom in
+    with_place m one seat.address (kept_key files seat.at is.atom ∙ is.named) linked.rising linked.is_image seat.stands
   where
     with_place : (m : ImageInputs) (one : KeptAtom) (address : ℕ) → one.atom.key ≡ key → AreRising m → IsImage m layout image → IsWritten m layout one address ⊎ IsZerofill m layout one address → (address : ℕ) × HasGoals image layout key address
     with_place m one address same rising image_is (inl written) =
@@ -320,7 +337,7 @@ not_nobody goal symbol e = by (is_nobody goal) e
     by true f = not_none symbol.name f
     by false f = refl
 
-goals_are : (files : List LoadedFile) (libs : LibraryGraph) (command : Command) (at : ℕ) (file : LoadedFile) → slice_get files at ≡ Some file → goals_at (goal_table files libs command) at ≡ goals_of_symbols files libs command file
+pub goals_are : (files : List LoadedFile) (libs : LibraryGraph) (command : Command) (at : ℕ) (file : LoadedFile) → slice_get files at ≡ Some file → goals_at (goal_table files libs command) at ≡ goals_of_symbols files libs command file
 goals_are files libs command at file is = rw (table_at files libs command at file is) refl
 
 pub target_inside : (command : Command) (libs : LibraryGraph) (files : List LoadedFile) (flags : ℕ) (keys : List AtomKey) (layout : Layout) (image : List ℕ) (at : ℕ) (file : LoadedFile) (r : Ref) (target : Target) → AreLinked command libs files flags keys layout image → slice_get files at ≡ Some file → In r file.refs → has keys r.atom ≡ true → In target (targets_of r.target r.minus) → IsTargetOf file.object file.id target

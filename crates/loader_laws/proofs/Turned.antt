@@ -7,7 +7,7 @@ use Rattle.list_lemmas.proofs.Members.{In, all_weaker}
 use Rattle.mo_types.specs.Whole.{is_zerofill}
 use Rattle.mo_types.specs.declared.atom.Atom.{Atom}
 use Rattle.mo_types.specs.declared.key.AtomKey.{AtomKey}
-use Rattle.sect_place.specs.Places.{file_bytes, group_end, groups_end, groups_file, groups_sections, groups_segments, is_filled, page_up, part_end, part_from, parts_end, parts_filled, parts_sections, placed_section, segment_of}
+use Rattle.sect_place.specs.Places.{file_bytes, group_end, groups_end, groups_file, groups_sections, groups_segments, is_filled, page_up, part_end, part_from, parts_end, parts_filled, parts_sections, placed_section, protection_of, segment_of}
 use Rattle.sect_place.specs.declared.layout.PlacedSection.{PlacedSection}
 use Rattle.sect_place.specs.declared.layout.Segment.{Segment}
 use Rattle.sect_place.specs.declared.part.Group.{Group}
@@ -85,6 +85,8 @@ pub record IsHeldIn (segment : Segment) (placed : PlacedSection) : Type 0 where
   pub high : placed.address + placed.size ≤ segment.address + segment.vmsize
   pub file : is_zerofill placed.section.kind ≡ false → placed.file_offset ≡ segment.file_offset + (placed.address - segment.address)
   pub filled : is_zerofill placed.section.kind ≡ false → 0 < placed.size → placed.address + placed.size ≤ segment.address + segment.file_size
+  pub named : segment.name ≡ placed.section.segment
+  pub protected : segment.protection ≡ protection_of segment.name
 
 -- a section in one of some segments, from an address on, and in the file from an offset on
 pub record IsHeldBy (segments : List Segment) (from begin : ℕ) (placed : PlacedSection) : Type 0 where
@@ -147,31 +149,47 @@ positive : (b : Bool) (m n : ℕ) → 0 < m → 0 < n → 0 < (if b then m else 
 positive true m n p q = p
 positive false m n p q = q
 
-pub sections_held : (atoms : List AtomKey → List Atom) (at file lead from begin : ℕ) (groups : List Group) (last : Segment) → from ≤ at + lead → begin ≤ file + lead → AllByRecursion (IsHeldBy (groups_segments atoms at file lead groups ++ last ∷ []) from begin) (groups_sections atoms at file lead groups)
+-- the sections of a segment have its name
+abbrev pub IsNamed : Group → Type 0
+IsNamed group = AllByRecursion (λ (part : Part). group.name ≡ part.section.segment) group.parts
+
+parts_named : (atoms : List AtomKey → List Atom) (start file at : ℕ) (name : List ℕ) (parts : List Part) → AllByRecursion (λ (part : Part). name ≡ part.section.segment) parts → AllByRecursion (λ (placed : PlacedSection). name ≡ placed.section.segment) (parts_sections atoms start file at parts)
+unfolding parts_sections placed_section
+parts_named atoms start file at name [] named = tt
+parts_named atoms start file at name (part ∷ parts) named = (named.0, parts_named atoms start file (part_end atoms at part) name parts named.1)
+
+all_both : {X : Type 0} (P Q : X → Type 0) (xs : List X) → AllByRecursion P xs → AllByRecursion Q xs → AllByRecursion (λ x. P x × Q x) xs
+all_both P Q [] p q = tt
+all_both P Q (x ∷ xs) p q = ((p.0, q.0), all_both P Q xs p.1 q.1)
+
+pub sections_held : (atoms : List AtomKey → List Atom) (at file lead from begin : ℕ) (groups : List Group) (last : Segment) → AllByRecursion IsNamed groups → from ≤ at + lead → begin ≤ file + lead → AllByRecursion (IsHeldBy (groups_segments atoms at file lead groups ++ last ∷ []) from begin) (groups_sections atoms at file lead groups)
 unfolding groups_segments groups_sections segment_of file_bytes
-sections_held atoms at file lead from begin [] last low early = tt
-sections_held atoms at file lead from begin (group ∷ groups) last low early =
+sections_held atoms at file lead from begin [] last named low early = tt
+sections_held atoms at file lead from begin (group ∷ groups) last named low early =
     let bounds = group_bounds atoms at lead group.parts in
     let next = page_up (group_end atoms at lead group) in
     let past = file + file_bytes atoms at lead group in
     let here = segment_of atoms at file lead group in
     let segments = groups_segments atoms next past 0 groups ++ last ∷ [] in
     let laid = parts_laid atoms at file (at + lead) (at + lead) (at + lead) next (page_up (parts_filled atoms (at + lead) (at + lead) group.parts)) group.parts (omega arith) (omega arith) bounds.3 bounds.4 in
+    let both = all_both (IsLaid at file (at + lead) next (page_up (parts_filled atoms (at + lead) (at + lead) group.parts))) (λ (placed : PlacedSection). group.name ≡ placed.section.segment) (parts_sections atoms at file (at + lead) group.parts) laid (parts_named atoms at file (at + lead) group.name group.parts named.0) in
     appended (IsHeldBy (here ∷ segments) from begin) (parts_sections atoms at file (at + lead) group.parts) (groups_sections atoms next past 0 groups)
-    (all_weaker (IsLaid at file (at + lead) next (page_up (parts_filled atoms (at + lead) (at + lead) group.parts))) (IsHeldBy (here ∷ segments) from begin) (λ placed one. record {
+    (all_weaker (λ (placed : PlacedSection). IsLaid at file (at + lead) next (page_up (parts_filled atoms (at + lead) (at + lead) group.parts)) placed × (group.name ≡ placed.section.segment)) (IsHeldBy (here ∷ segments) from begin) (λ placed one. record {
       segment = here;
       among = inl refl;
       held = record {
         open_to = positive (bytes_eq group.name (codes "__TEXT")) 5 3 (omega arith) (omega arith);
-        low = (let l = one.low in omega arith);
-        high = (let h = one.high in omega (arith, bounds.0, bounds.3));
-        file = one.file;
-        filled = λ solid some. (let f = one.filled solid some in omega (arith, bounds.1, bounds.4));
+        low = (let l = one.0.low in omega arith);
+        high = (let h = one.0.high in omega (arith, bounds.0, bounds.3));
+        file = one.0.file;
+        filled = λ solid some. (let f = one.0.filled solid some in omega (arith, bounds.1, bounds.4));
+        named = one.1;
+        protected = refl;
       };
-      behind = (let l = one.low in omega arith);
-      far = λ address above. (let l = one.low in omega arith);
-    }) (parts_sections atoms at file (at + lead) group.parts) laid)
-    (held_by_more here segments from begin (groups_sections atoms next past 0 groups) (sections_held atoms next past 0 from begin groups last (omega (arith, bounds.0, bounds.3)) (omega (arith, bounds.1, bounds.4))))
+      behind = (let l = one.0.low in omega arith);
+      far = λ address above. (let l = one.0.low in omega arith);
+    }) (parts_sections atoms at file (at + lead) group.parts) both)
+    (held_by_more here segments from begin (groups_sections atoms next past 0 groups) (sections_held atoms next past 0 from begin groups last named.1 (omega (arith, bounds.0, bounds.3)) (omega (arith, bounds.1, bounds.4))))
 
 -- each ends in the file where the last one does, or before
 pub ends_before : (at file : ℕ) (segments : List Segment) (last segment : Segment) → InTurn at file (segments ++ last ∷ []) → In segment (segments ++ last ∷ []) → segment.file_offset + segment.file_size ≤ last.file_offset + last.file_size

@@ -1,5 +1,6 @@
 pub mod Entry
 pub mod Images
+pub mod LinkOf
 pub mod Means
 pub mod Plans
 pub mod References
