@@ -4,6 +4,7 @@ ghost use Rattle.std.specs.Prelude.{◌≡◌, IsTrue, length, true};
 use crate::needs::name_of;
 use anyhow::{Result, bail};
 use command_line::Command;
+use file_cache::FileCache;
 use lib_bind::{Libraries, NamedStub, StubFileList, are_named, closure, provider_of};
 use mo_cmd::read_all_words;
 use mo_outside::{FileList, MemFiles};
@@ -100,7 +101,8 @@ fn bound(alloc: Global, command: &Command, named: StubFileList) -> Option<Librar
         return None;
     }
     let mut files = MemFiles::new(FileList::new(alloc), Items::new(alloc));
-    closure(alloc, command, &mut files, named).ok()
+    let mut cache = FileCache::new(alloc);
+    closure(alloc, command, &mut files, &mut cache, named).ok()
 }
 
 // What libraries are bound to, and when that began.
