@@ -10,10 +10,11 @@ use std::rt::Env;
 // The bytes that are taken for a word at first.
 const FIRST_ROOM: usize = 256;
 
-// The word of that number, or `None` past the last one.
+// The word of that number, or `None` past the last one. A word longer than the room for it is asked for again with twice
+// the room.
 fn word<R: Env>(rt: &R, alloc: Global, number: usize) -> Result<Option<Vec<u8>>, OutOfMemory> {
     let mut room = FIRST_ROOM;
-    for _ in 0..usize::BITS {
+    loop {
         let mut bytes = vec![in alloc; 0; room]?;
         match rt.arg(number, bytes.as_mut_slice()) {
             Ok(len) => {
@@ -21,10 +22,9 @@ fn word<R: Env>(rt: &R, alloc: Global, number: usize) -> Result<Option<Vec<u8>>,
                 return Ok(Some(bytes));
             }
             Err(FillError::NotPresent) => return Ok(None),
-            Err(FillError::TooLong) => room = room.saturating_mul(2),
+            Err(FillError::TooLong) => room *= 2,
         }
     }
-    Err(OutOfMemory)
 }
 
 // A word of a command line. One that isn't UTF-8 becomes a lone NUL, which no word that is given has, and which

@@ -49,16 +49,13 @@ fn add_other(rows: &mut Vec<Row>, others: &mut Vec<Ref>, reference: Ref) -> Resu
     ensures err_rows { OnErr result (rows.new.items ≡ rows.old.items) }
     ensures err_others { OnErr result (others.new.items ≡ others.old.items) }
 {
-    let Ok(index) = u32::try_from(others.len()) else {
-        return Err(OutOfMemory);
-    };
-    others.reserve(1)?;
-    rows.push(Row::Other(index))?;
-    if others.push(reference).is_err() {
-        rows.truncate(rows.len().saturating_sub(1));
-        return Err(OutOfMemory);
+    let row = Row::Other(others.len());
+    others.push(reference)?;
+    let pushed = rows.push(row);
+    if pushed.is_err() {
+        others.truncate(others.len() - 1);
     }
-    Ok(())
+    Ok(pushed?)
 }
 
 // Puts a reference behind those of a file's rows.
@@ -104,8 +101,7 @@ impl RefList {
         Ok(())
     }
 
-    /// Puts a reference at the end; where memory runs out, the list stays as it was. 2^32 references that are kept
-    /// whole run out of it.
+    /// Puts a reference at the end; where memory runs out, the list stays as it was.
     #[tactic(auto, using(crate::proofs::RefRowLemmas::flags))]
     pub fn push(&mut self, reference: Ref) -> Result<(), OutOfMemory>
         ensures ok { OnOk result (self.new ≡ self.old ++ reference ∷ []) }

@@ -30,7 +30,7 @@ pub enum Row {
     /// To the symbol of an index, less that of another one.
     Difference(Spot, u32, u32),
     /// Any other one, by its index among those that are kept whole.
-    Other(u32),
+    Other(usize),
 }
 
 // The spot of a reference, where its numbers have 32 bits.
@@ -106,6 +106,6 @@ pub fn ref_of(file: FileId, others: &[Ref], row: Row) -> Ref
         Row::Difference(spot, symbol, minus) => {
             ref_at(file, spot, Target::Name(symbol), Some(Target::Name(minus)))
         }
-        Row::Other(index) => others[index as usize],
+        Row::Other(index) => others[index],
     }
 }
