@@ -1,10 +1,9 @@
 -- What the program has written where it answers success.
 use Rattle.std.specs.Prelude.{ℕ, List}
 use Rattle.file_cache.specs.Kept.{FilesSeen}
-use Rattle.file_cache.specs.Runs.{file_told}
+use Rattle.file_cache.specs.Runs.{FilesTold, file_told}
 use Rattle.loader_laws.specs.Plans.{IsPlanOfLink}
 use Rattle.mo_outside.specs.Answers.{Answer, Exchange}
-use Rattle.link_engine.specs.Answered.{FilesTold}
 use Rattle.link_engine.specs.Settles.{Carries, OutputSeen}
 use Rattle.link_engine.specs.declared.plan.Plan.{Plan}
 

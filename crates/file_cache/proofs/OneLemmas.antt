@@ -15,10 +15,10 @@ use Rattle.mo_outside.specs.declared.traits.FetchFault.{FetchFault}
 use Rattle.mo_types.specs.Gives.{Gives}
 use Rattle.file_cache.specs.Kept.{FilesSeen, answer_kept, exchange_kept, kept_at}
 use Rattle.file_cache.specs.Program.{File, Unread, Program, file_at, read_as}
-use Rattle.file_cache.specs.Runs.{Asks, Gave, IsOfBytes, IsTold, IsUnread, Runs, Says, fresh, paths_in, unread}
+use Rattle.file_cache.specs.Runs.{Asks, Gave, IsOfBytes, IsTold, IsUnread, FilesTold, Runs, Says, fresh, paths_in, unread}
 use Rattle.file_cache.specs.declared.asking.AskFault.{AskFault}
 use Rattle.file_cache.specs.declared.asking.AskFault.TheVariants as fault
-use Rattle.file_cache.proofs.RunLemmas.{gave-second, none_told, short_start}
+use Rattle.file_cache.proofs.RunLemmas.{gave-second, none_asked, short_start}
 
 -- ---- what is kept
 
@@ -81,19 +81,11 @@ pub kept_run : {S : Type 0} (fetches : S → List ℕ → Answer → S → Type 
     → seen.kept ≡ map exchange_kept pairs → kept_at path pairs ≡ Some file → Runs fetches IsUnread (file_at unread path) (Ok file) seen seen
 kept_run fetches path file pairs seen kept there = record {
   asked = [];
-  chain = refl;
-  agree = tt;
-  bytes = tt;
-  logged = none_told seen.told;
-  once = tt;
+  files = none_asked fetches seen;
   gives = λ look gave. told_end (look path) file (told_there look path file pairs (subst (Gave look) kept (gave_before look seen.kept gave)) there);
   whole = λ is look gave. none;
   some = λ look gave. (1, none);
   kept = sym (append-nil seen.kept);
-  holds = refl;
-  rises = omega arith;
-  still = λ read. refl;
-  failed = λ unread. absurd (unread tt);
 }
   where
     none : [] ≡ fresh (paths_in seen.kept) (path ∷ [])
@@ -162,19 +154,11 @@ pub asked_run : {S : Type 0} (fetches : S → List ℕ → Answer → S → Type
     → Says result (answer_of fetched bytes) → OnOk result (new.kept ≡ old.kept ++ (path, answer_of fetched bytes) ∷ []) → Runs fetches IsUnread (file_at unread path) result old new
 asked_run fetches pairs result path sent bytes fetched old new same kept none shows tells logs holds rises still refused failed low says more = record {
   asked = (path, answer_of fetched bytes) ∷ [];
-  chain = (new.self, subst (λ (p : List ℕ). fetches old.self p (answer_of fetched bytes) new.self) same shows, refl);
-  agree = (subst (λ (p : List ℕ). Agrees old.holds p (answer_of fetched bytes)) same (agrees old.holds sent bytes fetched tells), tt);
-  bytes = (are_bytes bytes fetched low, tt);
-  logged = subst (λ (p : List ℕ). Tells (Asks (p ∷ [])) old.told new.told) same (one_told sent old.told new.told logs);
-  once = (fresh_one, tt);
+  files = told;
   gives = λ look gave. said_end result (answer_of fetched bytes) (look path) says (gave-second look old.kept ((path, answer_of fetched bytes) ∷ []) gave).0;
   whole = λ is look gave. one;
   some = λ look gave. (1, one);
   kept = more;
-  holds = holds;
-  rises = rises;
-  still = λ read. read_still fetched bytes old.faults new.faults still refused read.0;
-  failed = λ unread. unread_rises fetched bytes old.faults new.faults failed (λ there. unread (there, tt));
 }
   where
     fresh_one : list_any (bytes_eq path) (paths_in old.kept) ≡ false
@@ -182,6 +166,19 @@ asked_run fetches pairs result path sent bytes fetched old new same kept none sh
 
     one : path ∷ [] ≡ fresh (paths_in old.kept) (path ∷ [])
     one = sym (ap (λ test. if test then [] else path ∷ []) fresh_one)
+
+    told : FilesTold fetches ((path, answer_of fetched bytes) ∷ []) old new
+    told = record {
+      chain = (new.self, subst (λ (p : List ℕ). fetches old.self p (answer_of fetched bytes) new.self) same shows, refl);
+      agree = (subst (λ (p : List ℕ). Agrees old.holds p (answer_of fetched bytes)) same (agrees old.holds sent bytes fetched tells), tt);
+      bytes = (are_bytes bytes fetched low, tt);
+      logged = subst (λ (p : List ℕ). Tells (Asks (p ∷ [])) old.told new.told) same (one_told sent old.told new.told logs);
+      once = (fresh_one, tt);
+      holds = holds;
+      rises = rises;
+      still = λ read. read_still fetched bytes old.faults new.faults still refused read.0;
+      failed = λ unread. unread_rises fetched bytes old.faults new.faults failed (λ there. unread (there, tt));
+    }
 
 -- the same, where a fault is handed on
 pub asked_stopped : {S : Type 0} (fetches : S → List ℕ → Answer → S → Type 0) (pairs : List (List ℕ × Option (List ℕ))) (result : Result (Option (List ℕ)) AskFault) (why : AskFault) (path sent bytes : List ℕ)

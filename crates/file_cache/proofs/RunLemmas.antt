@@ -13,7 +13,7 @@ use Rattle.mo_outside.specs.Tells.{Tells}
 use Rattle.mo_types.specs.Gives.{Gives}
 use Rattle.file_cache.specs.Kept.{FilesSeen}
 use Rattle.file_cache.specs.Program.{File, There, Absent, Unread, Program, ◌>>=◌, and_then, ends, file_at, read_as}
-use Rattle.file_cache.specs.Runs.{AllAgree, AllRead, AreNew, AreOfBytes, Asks, Gave, IsTold, IsUnread, Passes, Runs, file_in, file_told, fresh, paths_in, standing, told_as, unread}
+use Rattle.file_cache.specs.Runs.{AllAgree, AllRead, AreNew, AreOfBytes, Asks, Gave, IsTold, IsUnread, FilesTold, Passes, Runs, file_in, file_told, fresh, paths_in, standing, told_as, unread}
 use Rattle.file_cache.specs.declared.asking.AskFault.{AskFault}
 use Rattle.file_cache.specs.declared.asking.AskFault.TheVariants as fault
 
@@ -57,45 +57,42 @@ pub none_told : (told : Option (List (List ℕ))) → Tells (Asks []) told told
 none_told None = tt
 none_told (Some paths) = record { asked = sym (append-nil paths) }
 
-pub kept_still : {A E : Type 0} (result : Result A E) (kept : List Exchange) → OnOk result (kept ≡ kept ++ [])
-kept_still (Ok x) kept = sym (append-nil kept)
-kept_still (Err why) kept = tt
-
-pub none_run : {S A E : Type 0} (fetches : S → List ℕ → Answer → S → Type 0) (real : E → Type 0) (result end : Result A E) (seen : FilesSeen S) → Gives real result end → Runs fetches real (ends end) result seen seen
-none_run fetches real result end seen gives = record {
-  asked = [];
+pub none_asked : {S : Type 0} (fetches : S → List ℕ → Answer → S → Type 0) (seen : FilesSeen S) → FilesTold fetches [] seen seen
+none_asked fetches seen = record {
   chain = refl;
   agree = tt;
   bytes = tt;
   logged = none_told seen.told;
   once = tt;
-  gives = λ look gave. gives;
-  whole = λ is look gave. refl;
-  some = λ look gave. (0, refl);
-  kept = kept_still result seen.kept;
   holds = refl;
   rises = omega arith;
   still = λ read. refl;
   failed = λ unread. absurd (unread tt);
 }
 
+kept_still : {A E : Type 0} (result : Result A E) (kept : List Exchange) → OnOk result (kept ≡ kept ++ [])
+kept_still (Ok x) kept = sym (append-nil kept)
+kept_still (Err why) kept = tt
+
+pub none_run : {S A E : Type 0} (fetches : S → List ℕ → Answer → S → Type 0) (real : E → Type 0) (result end : Result A E) (seen : FilesSeen S) → Gives real result end → Runs fetches real (ends end) result seen seen
+none_run fetches real result end seen gives = record {
+  asked = [];
+  files = none_asked fetches seen;
+  gives = λ look gave. gives;
+  whole = λ is look gave. refl;
+  some = λ look gave. (0, refl);
+  kept = kept_still result seen.kept;
+}
+
 -- memory ran out before anything was asked for
 pub short_start : {S A E : Type 0} (fetches : S → List ℕ → Answer → S → Type 0) (real : E → Type 0) (program : Program A E) (why : E) (seen : FilesSeen S) → ¬ real why → Runs fetches real program (Err why) seen seen
 short_start fetches real program why seen short = record {
   asked = [];
-  chain = refl;
-  agree = tt;
-  bytes = tt;
-  logged = none_told seen.told;
-  once = tt;
+  files = none_asked fetches seen;
   gives = λ look gave is. absurd (short is);
   whole = λ is look gave. absurd (short is);
   some = λ look gave. (0, refl);
   kept = tt;
-  holds = refl;
-  rises = omega arith;
-  still = λ read. refl;
-  failed = λ unread. absurd (unread tt);
 }
 
 -- ---- a program, and then another one
@@ -166,6 +163,34 @@ take_more (x ∷ xs) ys n (suc m) is = ap (λ more. x ∷ more) (take_more xs ys
 pub take_first : {A : Type 0} (xs ys : List A) (n : ℕ) → take (min n (length xs)) (xs ++ ys) ≡ take n xs
 take_first xs ys n = take-append-le (min n (length xs)) xs ys (omega arith) ∙ take_min n xs
 
+-- files told something, and then more, where the first was kept
+pub told_both : {S : Type 0} (fetches : S → List ℕ → Answer → S → Type 0) (first second : List Exchange) (old mid new : FilesSeen S) → mid.kept ≡ old.kept ++ first
+    → FilesTold fetches first old mid → FilesTold fetches second mid new → FilesTold fetches (first ++ second) old new
+told_both fetches first second old mid new kept one two = record {
+  chain = chain-append fetches first second old.self mid.self new.self one.chain two.chain;
+  agree = agree-append old.holds first second one.agree (subst (λ (held : Option FileMap). AllAgree held second) one.holds two.agree);
+  bytes = bytes-append first second one.bytes two.bytes;
+  logged = subst (λ (ps : List (List ℕ)). Tells (Asks ps) old.told new.told) (sym (paths-append first second)) (tells-append (paths_in first) (paths_in second) old.told mid.told new.told one.logged two.logged);
+  once = subst (AreNew (paths_in old.kept)) (sym (paths-append first second))
+      (new-append (paths_in old.kept) (paths_in first) (paths_in second) one.once
+      (subst (λ (ks : List (List ℕ)). AreNew ks (paths_in second)) (ap paths_in kept ∙ paths-append old.kept first) two.once));
+  holds = two.holds ∙ one.holds;
+  rises = let a : old.faults ≤ mid.faults = one.rises in let b : mid.faults ≤ new.faults = two.rises in omega arith;
+  still = λ read. let both = read-both first second read in two.still both.1 ∙ one.still both.0;
+  failed = λ unread. elim (read_or_not first) [
+    | inl here ↦ subst (λ (n : ℕ). Rises n new.faults) (one.still here) (two.failed (λ there. unread (read-append first second here there)))
+    | inr here ↦ rises_on old.faults mid.faults new.faults (one.failed here) two.rises
+  ];
+}
+
+pub paths_both : (kept middle first second : List Exchange) (tried more : List (List ℕ)) → middle ≡ kept ++ first → paths_in first ≡ fresh (paths_in kept) tried → paths_in second ≡ fresh (paths_in middle) more
+    → paths_in (first ++ second) ≡ fresh (paths_in kept) (tried ++ more)
+paths_both kept middle first second tried more is one two =
+    paths-append first second
+    ∙ ap (λ (ps : List (List ℕ)). paths_in first ++ ps) (two ∙ ap (λ (ks : List (List ℕ)). fresh ks more) (ap paths_in is ∙ paths-append kept first))
+    ∙ ap (λ (ps : List (List ℕ)). ps ++ fresh (paths_in kept ++ ps) more) one
+    ∙ sym (fresh_append (paths_in kept) tried more)
+
 module _ {S A B E : Type 0} (fetches : S → List ℕ → Answer → S → Type 0) (real : E → Type 0) (program : Program A E) (next : A → Program B E) where
   -- after the value of the first, by a look-up by which it has that
   gone_on : (x : A) (look : List ℕ → File) → (program look).end ≡ Ok x
@@ -184,23 +209,12 @@ module _ {S A B E : Type 0} (fetches : S → List ℕ → Answer → S → Type 
       λ look gave. gave-first look (old.kept ++ a) b (subst (Gave look) (sym (append_assoc old.kept a b)) gave) in
       let after : (look : List ℕ → File) → Gave look (old.kept ++ (a ++ b)) → Gave look (mid.kept ++ b) = λ look gave. subst (Gave look) (sym kept) gave in
       let value : (look : List ℕ → File) → Gave look (old.kept ++ (a ++ b)) → (program look).end ≡ Ok x = λ look gave. first.gives look (before look gave) in
-      let known : paths_in mid.kept ≡ paths_in old.kept ++ paths_in a = ap paths_in first.kept ∙ paths-append old.kept a in
       let joined : (look : List ℕ → File) → Gave look (old.kept ++ (a ++ b)) → (more : List (List ℕ)) → paths_in b ≡ fresh (paths_in mid.kept) more
       → paths_in (a ++ b) ≡ fresh (paths_in old.kept) ((program look).tried ++ more) =
-      λ look gave more is.
-      let one : paths_in a ≡ fresh (paths_in old.kept) (program look).tried = first.whole tt look (before look gave) in
-      paths-append a b
-      ∙ ap (λ (ps : List (List ℕ)). paths_in a ++ ps) (is ∙ ap (λ (ks : List (List ℕ)). fresh ks more) known)
-      ∙ ap (λ (ps : List (List ℕ)). ps ++ fresh (paths_in old.kept ++ ps) more) one
-      ∙ sym (fresh_append (paths_in old.kept) (program look).tried more) in
+      λ look gave more is. paths_both old.kept mid.kept a b (program look).tried more first.kept (first.whole tt look (before look gave)) is in
       record {
         asked = a ++ b;
-        chain = chain-append fetches a b old.self mid.self new.self first.chain second.chain;
-        agree = agree-append old.holds a b first.agree (subst (λ (held : Option FileMap). AllAgree held b) first.holds second.agree);
-        bytes = bytes-append a b first.bytes second.bytes;
-        logged = subst (λ (ps : List (List ℕ)). Tells (Asks ps) old.told new.told) (sym (paths-append a b)) (tells-append (paths_in a) (paths_in b) old.told mid.told new.told first.logged second.logged);
-        once = subst (AreNew (paths_in old.kept)) (sym (paths-append a b))
-            (new-append (paths_in old.kept) (paths_in a) (paths_in b) first.once (subst (λ (ks : List (List ℕ)). AreNew ks (paths_in b)) known second.once));
+        files = told_both fetches a b old mid new first.kept first.files second.files;
         gives = λ look gave. subst (λ o. Gives real result o.end) (sym (gone_on x look (value look gave))) (second.gives look (after look gave));
         whole = λ is look gave. joined look gave (next x look).tried (second.whole is look (after look gave)) ∙ ap (λ o. fresh (paths_in old.kept) o.tried) (sym (gone_on x look (value look gave)));
         some = λ look gave.
@@ -211,13 +225,6 @@ module _ {S A B E : Type 0} (fetches : S → List ℕ → Answer → S → Type 
                   ∙ ap (λ o. fresh (paths_in old.kept) (take (length (program look).tried + part.0) o.tried)) (sym (gone_on x look (value look gave))),
             );
         kept = kept_on result kept second.kept;
-        holds = second.holds ∙ first.holds;
-        rises = let one : old.faults ≤ mid.faults = first.rises in let two : mid.faults ≤ new.faults = second.rises in omega arith;
-        still = λ read. let both = read-both a b read in second.still both.1 ∙ first.still both.0;
-        failed = λ unread. elim (read_or_not a) [
-          | inl here ↦ subst (λ (n : ℕ). Rises n new.faults) (first.still here) (second.failed (λ there. unread (read-append a b here there)))
-          | inr here ↦ rises_on old.faults mid.faults new.faults (first.failed here) second.rises
-        ];
       }
     where
       kept_on : (r : Result B E) → mid.kept ++ second.asked ≡ old.kept ++ (first.asked ++ second.asked) → OnOk r (new.kept ≡ mid.kept ++ second.asked) → OnOk r (new.kept ≡ old.kept ++ (first.asked ++ second.asked))
@@ -230,19 +237,11 @@ module _ {S A B E : Type 0} (fetches : S → List ℕ → Answer → S → Type 
       let passed = err_from_is_err_and result is in
       subst (λ (r : Result B E). Runs fetches real (program >>= next) r old new) (sym (passed.1 ∙ ap Err passed.2)) (record {
         asked = first.asked;
-        chain = first.chain;
-        agree = first.agree;
-        bytes = first.bytes;
-        logged = first.logged;
-        once = first.once;
+        files = first.files;
         gives = λ look gave kind. ap (λ o. o.end) (stopped why look (first.gives look gave kind));
         whole = λ kind look gave. first.whole kind look gave ∙ ap (λ o. fresh (paths_in old.kept) o.tried) (sym (stopped why look (first.gives look gave kind)));
         some = λ look gave. let part = first.some look gave in (min part.0 (length (program look).tried), part.1 ∙ ap (fresh (paths_in old.kept)) (sym (tried_first look part.0 (program look).end refl)));
         kept = tt;
-        holds = first.holds;
-        rises = first.rises;
-        still = first.still;
-        failed = first.failed;
       })
     where
       tried_first : (look : List ℕ → File) (count : ℕ) (end : Result A E) → (program look).end ≡ end → take (min count (length (program look).tried)) ((program >>= next) look).tried ≡ take count (program look).tried
@@ -255,19 +254,11 @@ pub same_run : {S A E : Type 0} (fetches : S → List ℕ → Answer → S → T
     → ((look : List ℕ → File) → other look ≡ program look) → Runs fetches real program result old new → Runs fetches real other result old new
 same_run fetches real program other result old new same runs = record {
   asked = runs.asked;
-  chain = runs.chain;
-  agree = runs.agree;
-  bytes = runs.bytes;
-  logged = runs.logged;
-  once = runs.once;
+  files = runs.files;
   gives = λ look gave. subst (λ o. Gives real result o.end) (sym (same look)) (runs.gives look gave);
   whole = λ is look gave. runs.whole is look gave ∙ ap (λ o. fresh (paths_in old.kept) o.tried) (sym (same look));
   some = λ look gave. let part = runs.some look gave in (part.0, part.1 ∙ ap (λ o. fresh (paths_in old.kept) (take part.0 o.tried)) (sym (same look)));
   kept = runs.kept;
-  holds = runs.holds;
-  rises = runs.rises;
-  still = runs.still;
-  failed = runs.failed;
 }
 
 -- ---- what was told
@@ -309,11 +300,7 @@ pub short_run : {S A B E : Type 0} (fetches : S → List ℕ → Answer → S �
     → Runs fetches real program (Ok x) old new → Runs fetches real other (Err why) old new
 short_run fetches real program other x why old new same short runs = record {
   asked = runs.asked;
-  chain = runs.chain;
-  agree = runs.agree;
-  bytes = runs.bytes;
-  logged = runs.logged;
-  once = runs.once;
+  files = runs.files;
   gives = λ look gave is. absurd (short is);
   whole = λ is look gave. absurd (short is);
   some = λ look gave. (
@@ -323,10 +310,6 @@ short_run fetches real program other x why old new same short runs = record {
         ∙ ap (λ (tried : List (List ℕ)). fresh (paths_in old.kept) (take (length (program look).tried) tried)) (sym (same look (runs.gives look gave))),
   );
   kept = tt;
-  holds = runs.holds;
-  rises = runs.rises;
-  still = runs.still;
-  failed = runs.failed;
 }
 
 -- ---- the fault of a file that couldn't be read
@@ -339,19 +322,11 @@ passed_run : {S E : Type 0} (fetches : S → List ℕ → Answer → S → Type 
     → Runs fetches real (file_at why path) (Err passed) old new
 passed_run fetches real why path given passed old new runs ends tries = record {
   asked = runs.asked;
-  chain = runs.chain;
-  agree = runs.agree;
-  bytes = runs.bytes;
-  logged = runs.logged;
-  once = runs.once;
+  files = runs.files;
   gives = λ look gave is. ends is look gave;
   whole = tries;
   some = runs.some;
   kept = tt;
-  holds = runs.holds;
-  rises = runs.rises;
-  still = runs.still;
-  failed = runs.failed;
 }
 
 pub told_run : {S E : Type 0} (fetches : S → List ℕ → Answer → S → Type 0) (real : E → Type 0) (why : E) (path : List ℕ)
@@ -359,19 +334,11 @@ pub told_run : {S E : Type 0} (fetches : S → List ℕ → Answer → S → Typ
     → Passes real why given result → Runs fetches IsUnread (file_at unread path) given old new → Runs fetches real (file_at why path) result old new
 told_run {E = E} fetches real why path (Ok file) (Ok passed) old new same runs = record {
   asked = runs.asked;
-  chain = runs.chain;
-  agree = runs.agree;
-  bytes = runs.bytes;
-  logged = runs.logged;
-  once = runs.once;
+  files = runs.files;
   gives = λ look gave. read_ok why (look path) file (runs.gives look gave) ∙ ap Ok (sym same);
   whole = λ is look gave. runs.whole tt look gave;
   some = runs.some;
   kept = runs.kept;
-  holds = runs.holds;
-  rises = runs.rises;
-  still = runs.still;
-  failed = runs.failed;
 }
   where
     read_ok : (why : E) (stands : File) (file : Option (List ℕ)) → read_as unread stands ≡ Ok file → read_as why stands ≡ Ok file

@@ -68,25 +68,31 @@ abbrev pub AreNew : List (List ℕ) → List (List ℕ) → Type 0
 AreNew before [] = Unit {0}
 AreNew before (path ∷ paths) = (list_any (bytes_eq path) before ≡ false) × AreNew (before ++ path ∷ []) paths
 
--- A program was run. The files were asked for paths that weren't kept, each once, and gave answers, one after the other, which
--- are kept. By any look-up that gives these and what was kept before, the result is the program's end, and the paths are those
--- that it tries and that weren't kept; where memory ran out, they are those among the first that it tries.
+-- What files told is a finite map from paths to answers. They were asked for its paths, each once, of none of which anything
+-- was kept, in this order, and gave these answers, of which the ones on a file are bytes. They hold what they held, and their
+-- count of faults rose just where a file couldn't be read.
+pub record FilesTold {S : Type 0} (fetches : S → List ℕ → Answer → S → Type 0) (told : List Exchange) (old new : FilesSeen S) : Type 0 where
+  pub chain : Chain fetches old.self told new.self
+  pub agree : AllAgree old.holds told
+  pub bytes : AreOfBytes told
+  pub logged : Tells (Asks (paths_in told)) old.told new.told
+  pub once : AreNew (paths_in old.kept) (paths_in told)
+  pub holds : new.holds ≡ old.holds
+  pub rises : old.faults ≤ new.faults
+  pub still : AllRead told → new.faults ≡ old.faults
+  pub failed : ¬ AllRead told → Rises old.faults new.faults
+
+-- A program was run: files told something, which is kept. By any look-up that gives this and what was kept before, the result
+-- is the program's end, and the paths are those that it tries and that weren't kept; where memory ran out, they are those among
+-- the first that it tries.
 pub record Runs {S A E : Type 0} (fetches : S → List ℕ → Answer → S → Type 0) (real : E → Type 0) (program : Program A E)
     (result : Result A E) (old new : FilesSeen S) : Type 0 where
   pub asked : List Exchange
-  pub chain : Chain fetches old.self asked new.self
-  pub agree : AllAgree old.holds asked
-  pub bytes : AreOfBytes asked
-  pub logged : Tells (Asks (paths_in asked)) old.told new.told
-  pub once : AreNew (paths_in old.kept) (paths_in asked)
+  pub files : FilesTold fetches asked old new
   pub gives : (look : List ℕ → File) → Gave look (old.kept ++ asked) → Gives real result (program look).end
   pub whole : IsReal real result → (look : List ℕ → File) → Gave look (old.kept ++ asked) → paths_in asked ≡ fresh (paths_in old.kept) (program look).tried
   pub some : (look : List ℕ → File) → Gave look (old.kept ++ asked) → (count : ℕ) × (paths_in asked ≡ fresh (paths_in old.kept) (take count (program look).tried))
   pub kept : OnOk result (new.kept ≡ old.kept ++ asked)
-  pub holds : new.holds ≡ old.holds
-  pub rises : old.faults ≤ new.faults
-  pub still : AllRead asked → new.faults ≡ old.faults
-  pub failed : ¬ AllRead asked → Rises old.faults new.faults
 
 -- ---- one path
 

@@ -3,7 +3,7 @@ use Rattle.std.proofs.Common.{◌≡◌, ℕ, ◌⊎◌, inl, inr, List, [], ◌
 use Rattle.file_cache.proofs.RunLemmas.{files_gave, told_gave}
 use Rattle.file_cache.specs.Kept.{FilesSeen}
 use Rattle.file_cache.specs.Program.{File}
-use Rattle.file_cache.specs.Runs.{AllAgree, AllRead, AreNew, Gave, file_in, file_told, fresh, paths_in}
+use Rattle.file_cache.specs.Runs.{FilesTold, AllAgree, AllRead, AreNew, Gave, file_in, file_told, fresh, paths_in}
 use Rattle.lib_bind.specs.declared.bind_fault.BindFault.{BindFault}
 use Rattle.lib_bind.specs.declared.bind_fault.BindFault.TheVariants as bind
 use Rattle.link_steps.proofs.AskLemmas.{asks_case, gives_case, unless_case}
@@ -21,7 +21,7 @@ use Rattle.mo_types.specs.declared.cause.UsageRule.{UsageRule}
 use Rattle.link_engine.specs.declared.plan.Plan.{Plan}
 use Rattle.link_engine.specs.declared.stop.Stop.{Stop}
 use Rattle.link_engine.specs.declared.stop.Stop.TheVariants as stop
-use Rattle.link_engine.specs.Answered.{Answered, FilesTold, Ran}
+use Rattle.link_engine.specs.Answered.{Answered, Ran}
 use Rattle.link_engine.specs.Causes.{StopCause}
 use Rattle.link_engine.specs.Command.{command_of, commanded, crowd_stop}
 use Rattle.link_engine.specs.Fetched.{FetchedBy}

@@ -4,10 +4,10 @@ use Rattle.std.proofs.Common.{◌≡◌, ◌≢◌, ◌≤◌, ◌+◌, ◌-◌,
 use Rattle.std.proofs.lemmas.List.{append-nil, append_cancel_left, take_all}
 use Rattle.std.proofs.lemmas.Bool.{cases_lt}
 use Rattle.std.proofs.lemmas.Result.{err_from_is_err_and}
-use Rattle.file_cache.proofs.RunLemmas.{agree-append, bytes-append, chain-append, fresh_append, gave-first, new-append, none_told, paths-append, read-append, read-both, read_or_not, rises_on, take_first, take_more, tells-append}
+use Rattle.file_cache.proofs.RunLemmas.{gave-first, none_asked, paths_both, take_first, take_more, told_both}
 use Rattle.file_cache.specs.Kept.{FilesSeen}
 use Rattle.file_cache.specs.Program.{File, Outcome}
-use Rattle.file_cache.specs.Runs.{AllAgree, AreNew, Asks, Gave, IsReal, Runs, fresh, paths_in}
+use Rattle.file_cache.specs.Runs.{Gave, IsReal, Runs, fresh, paths_in}
 use Rattle.input_fetch.specs.Contents.{IsFetchStop, contents_of, places_of}
 use Rattle.input_fetch.specs.declared.content.Content.{Content}
 use Rattle.input_fetch.specs.declared.stop.FetchStop.{FetchStop}
@@ -27,11 +27,8 @@ use Rattle.link_steps.specs.declared.fault.StepFault.{StepFault}
 use Rattle.link_steps.specs.declared.fault.StepFault.TheVariants as fault
 use Rattle.command_line.specs.declared.command.Command.{Command}
 use Rattle.mo_outside.specs.Answers.{Answer, Exchange}
-use Rattle.mo_outside.specs.Faults.{Rises}
-use Rattle.mo_outside.specs.Files.{FileMap}
-use Rattle.mo_outside.specs.Tells.{Tells}
 use Rattle.mo_types.specs.Gives.{Gives}
-use Rattle.link_engine.specs.Answered.{FilesTold, Ran}
+use Rattle.link_engine.specs.Answered.{Ran}
 use Rattle.link_engine.specs.Asks.{BindsLibraries, FetchesInputs, IsTold}
 use Rattle.link_engine.specs.Bound.{BoundBy}
 use Rattle.link_engine.specs.Fetched.{FetchedBy}
@@ -74,40 +71,13 @@ handed_on {A = A} Q end result passes is =
 abbrev pub Extends : {A : Type 0} → Reply Paths Stop A → Type 0
 Extends {A = A} may = (start : Paths) (given : Result A Stop) (end : Paths) → may start given end → (tried : Paths) × (end ≡ start ++ tried)
 
--- ---- files that told nothing
+-- ---- a line that asks for nothing
 
-nothing : {S : Type 0} (fetches : S → List ℕ → Answer → S → Type 0) (seen : FilesSeen S) → FilesTold fetches [] seen seen
-nothing fetches seen = record {
-  chain = refl;
-  agree = tt;
-  bytes = tt;
-  logged = none_told seen.told;
-  once = tt;
-  holds = refl;
-  rises = omega arith;
-  still = λ read. refl;
-  failed = λ unread. absurd (unread tt);
-}
-
-told_by : {S A E : Type 0} {fetches : S → List ℕ → Answer → S → Type 0} {real : E → Type 0} {program : (List ℕ → File) → Outcome A E} {end : Result A E} {old new : FilesSeen S} (runs : Runs fetches real program end old new) → FilesTold fetches runs.asked old new
-told_by runs = record {
-  chain = runs.chain;
-  agree = runs.agree;
-  bytes = runs.bytes;
-  logged = runs.logged;
-  once = runs.once;
-  holds = runs.holds;
-  rises = runs.rises;
-  still = runs.still;
-  failed = runs.failed;
-}
-
--- a line that asks for nothing
 pub quiet_ran : {S A : Type 0} (fetches : S → List ℕ → Answer → S → Type 0) (line : Line A) (result : Result A (StepFault Stop)) (seen : FilesSeen S)
     → ((look : List ℕ → File) (start : Paths) → Acts (line look) start result start) → Ran fetches line result seen seen
 quiet_ran {A = A} fetches line result seen acts = record {
   told = [];
-  files = nothing fetches seen;
+  files = none_asked fetches seen;
   gives = λ look gave start. by look start result (acts look start);
   some = λ look gave start tried given is. (0, refl);
 }
@@ -142,35 +112,6 @@ unless_ran fetches r line result old new e ran = record {
       (λ why stop same more. absurd (let h : ◌≡◌ {A = Option Stop} (Some why) None = sym stop ∙ e in cc))
       (λ also follows. ran.some look gave start tried given follows);
 }
-
--- ---- files that told something, and then more
-
-joined : {S : Type 0} (fetches : S → List ℕ → Answer → S → Type 0) (first second : List Exchange) (old mid new : FilesSeen S) → mid.kept ≡ old.kept ++ first
-    → FilesTold fetches first old mid → FilesTold fetches second mid new → FilesTold fetches (first ++ second) old new
-joined fetches first second old mid new kept one two = record {
-  chain = chain-append fetches first second old.self mid.self new.self one.chain two.chain;
-  agree = agree-append old.holds first second one.agree (subst (λ (held : Option FileMap). AllAgree held second) one.holds two.agree);
-  bytes = bytes-append first second one.bytes two.bytes;
-  logged = subst (λ (ps : Paths). Tells (Asks ps) old.told new.told) (sym (paths-append first second)) (tells-append (paths_in first) (paths_in second) old.told mid.told new.told one.logged two.logged);
-  once = subst (AreNew (paths_in old.kept)) (sym (paths-append first second))
-      (new-append (paths_in old.kept) (paths_in first) (paths_in second) one.once
-      (subst (λ (ks : Paths). AreNew ks (paths_in second)) (ap paths_in kept ∙ paths-append old.kept first) two.once));
-  holds = two.holds ∙ one.holds;
-  rises = let a : old.faults ≤ mid.faults = one.rises in let b : mid.faults ≤ new.faults = two.rises in omega arith;
-  still = λ read. let both = read-both first second read in two.still both.1 ∙ one.still both.0;
-  failed = λ unread. elim (read_or_not first) [
-    | inl here ↦ subst (λ (n : ℕ). Rises n new.faults) (one.still here) (two.failed (λ there. unread (read-append first second here there)))
-    | inr here ↦ rises_on old.faults mid.faults new.faults (one.failed here) two.rises
-  ];
-}
-
-joined_paths : (kept middle first second : List Exchange) (tried more : Paths) → middle ≡ kept ++ first → paths_in first ≡ fresh (paths_in kept) tried → paths_in second ≡ fresh (paths_in middle) more
-    → paths_in (first ++ second) ≡ fresh (paths_in kept) (tried ++ more)
-joined_paths kept middle first second tried more is one two =
-    paths-append first second
-    ∙ ap (λ (ps : Paths). paths_in first ++ ps) (two ∙ ap (λ (ks : Paths). fresh ks more) (ap paths_in is ∙ paths-append kept first))
-    ∙ ap (λ (ps : Paths). ps ++ fresh (paths_in kept ++ ps) more) one
-    ∙ sym (fresh_append (paths_in kept) tried more)
 
 -- ---- the inputs
 
@@ -211,7 +152,7 @@ module _ {S B : Type 0} (fetches : S → List ℕ → Answer → S → Type 0) (
       λ look gave. subst (Gave look) (sym (ap (λ (k : List Exchange). k ++ b) runs.kept ∙ append_assoc old.kept a b)) gave in
       record {
         told = a ++ b;
-        files = joined fetches a b old mid new runs.kept (told_by runs) ran.files;
+        files = told_both fetches a b old mid new runs.kept runs.files ran.files;
         gives = λ look gave start. met_too (Reached (rest found) b mid look (start ++ input_paths look)) (Reached Fetching (a ++ b) old look start) result
             (λ given p.
             let tried : Paths = input_paths look in (
@@ -219,7 +160,7 @@ module _ {S B : Type 0} (fetches : S → List ℕ → Answer → S → Type 0) (
               asks_on (FetchedBy look command) (λ x. rest x look) found start (start ++ tried) given (start ++ (tried ++ p.0))
                   (record { told = sym (ap (stopped fetch_fault_for) (runs.gives look (before look gave))); tries = refl })
                   (subst (rest found look (start ++ tried) given) (append_assoc start tried p.0) p.1),
-              joined_paths old.kept mid.kept a b tried p.0 runs.kept (runs.whole tt look (before look gave)) p.2,
+              paths_both old.kept mid.kept a b tried p.0 runs.kept (runs.whole tt look (before look gave)) p.2,
             ))
             (ran.gives look (after look gave) (start ++ input_paths look));
         some = λ look gave start tried given is.
@@ -234,7 +175,7 @@ module _ {S B : Type 0} (fetches : S → List ℕ → Answer → S → Type 0) (
             (subst (rest x look then given) (ap (λ (ps : Paths). start ++ ps) more.1 ∙ sym (append_assoc start (input_paths look) more.0)) follows)) in
             let part = ran.some look (after look gave) (start ++ input_paths look) more.0 given here in (
               length (input_paths look) + part.0,
-              joined_paths old.kept mid.kept a b (input_paths look) (take part.0 more.0) runs.kept (runs.whole tt look (before look gave)) part.1
+              paths_both old.kept mid.kept a b (input_paths look) (take part.0 more.0) runs.kept (runs.whole tt look (before look gave)) part.1
                   ∙ ap (fresh (paths_in old.kept))
                   (sym (take_more (input_paths look) more.0 part.0 (length (input_paths look) + part.0) refl)
                   ∙ ap (take (length (input_paths look) + part.0)) (sym more.1)),
@@ -249,7 +190,7 @@ module _ {S B : Type 0} (fetches : S → List ℕ → Answer → S → Type 0) (
       subst (λ (r : Result (List Content) FetchStop). Runs fetches IsFetchStop (contents_of (places_of command)) r old new) is.1 first.runs in
       record {
         told = runs.asked;
-        files = told_by runs;
+        files = runs.files;
         gives = λ look gave start. handed_on (Reached Fetching runs.asked old look start) end result passes (by is.0 runs is.2 look gave start);
         some = λ look gave start tried given line.
             let part = runs.some look gave in
@@ -354,7 +295,7 @@ module _ {S B : Type 0} (fetches : S → List ℕ → Answer → S → Type 0) (
       let whole : IsWhole libs = subst (λ (r : Result LibraryGraph BindFault). IfOk r IsWhole) end_is binds.whole in
       record {
         told = runs.asked;
-        files = told_by runs;
+        files = runs.files;
         gives = λ look gave start.
             let tried : Paths = (bound_after command stubs count look).tried in
             let is : (bound_after command stubs count look).end ≡ binds.closes.bound = ended binds.closes.bound shows look (runs.gives look gave) in
@@ -395,7 +336,7 @@ module _ {S B : Type 0} (fetches : S → List ℕ → Answer → S → Type 0) (
       let shows : Shows count (Err is.0) binds.closes.bound = subst (λ (r : Result LibraryGraph BindFault). Shows count r binds.closes.bound) is.1 binds.closes.shows in
       record {
         told = runs.asked;
-        files = told_by runs;
+        files = runs.files;
         gives = λ look gave start. handed_on (Reached Binding runs.asked old look start) end result passes
             (subst (λ (e : StepFault Stop). OnStop e (λ stop. (tried : Paths) × Binding look start (Err stop) (start ++ tried) × (paths_in runs.asked ≡ fresh (paths_in old.kept) tried))) is.2
             (at is.0 binds.closes.bound shows look start (runs.gives look gave) (λ real. runs.whole real look gave)));

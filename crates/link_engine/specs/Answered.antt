@@ -1,31 +1,15 @@
 -- For which paths a link asks files, and what they tell.
-use Rattle.std.specs.Prelude.{ℕ, ◌≡◌, ◌≤◌, ◌++◌, List, [], take, Result}
+use Rattle.std.specs.Prelude.{ℕ, ◌≡◌, ◌++◌, List, [], take, Result}
 use Rattle.file_cache.specs.Kept.{FilesSeen}
 use Rattle.file_cache.specs.Program.{File}
-use Rattle.file_cache.specs.Runs.{AllAgree, AllRead, AreNew, AreOfBytes, Asks, Gave, fresh, paths_in}
+use Rattle.file_cache.specs.Runs.{FilesTold, Gave, fresh, paths_in}
 use Rattle.link_steps.specs.Asking.{Reply}
 use Rattle.link_steps.specs.Steps.{Meets}
 use Rattle.link_steps.specs.declared.fault.StepFault.{StepFault}
-use Rattle.mo_outside.specs.Answers.{Answer, Chain, Exchange}
-use Rattle.mo_outside.specs.Faults.{Rises}
-use Rattle.mo_outside.specs.Tells.{Tells}
+use Rattle.mo_outside.specs.Answers.{Answer, Exchange}
 use Rattle.link_engine.specs.declared.plan.Plan.{Plan}
 use Rattle.link_engine.specs.declared.stop.Stop.{Stop}
 use Rattle.link_engine.specs.Verdict.{IsVerdict, IsVerdictAfter}
-
--- What files told is a finite map from paths to answers. They were asked for its paths, each once and in this order, and gave
--- these answers, of which the ones on a file are bytes. They hold what they held, and their count of faults rose just where
--- a file couldn't be read.
-pub record FilesTold {S : Type 0} (fetches : S → List ℕ → Answer → S → Type 0) (told : List Exchange) (old new : FilesSeen S) : Type 0 where
-  pub chain : Chain fetches old.self told new.self
-  pub agree : AllAgree old.holds told
-  pub bytes : AreOfBytes told
-  pub logged : Tells (Asks (paths_in told)) old.told new.told
-  pub once : AreNew (paths_in old.kept) (paths_in told)
-  pub holds : new.holds ≡ old.holds
-  pub rises : old.faults ≤ new.faults
-  pub still : AllRead told → new.faults ≡ old.faults
-  pub failed : ¬ AllRead told → Rises old.faults new.faults
 
 -- A line of steps was gone: files told something. By any look-up that gives this and what was kept before, the line has what
 -- was returned, and tries just the paths for which files were asked or of which something was kept; where memory ran out,
