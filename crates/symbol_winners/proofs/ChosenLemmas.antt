@@ -1,5 +1,5 @@
 -- The winning candidates of a table, one by one.
-use Rattle.std.proofs.Common.{◌≡◌, ℕ, ◌+◌, ◌<◌, ◌≤◌, List, [], ◌∷◌, ◌++◌, length, take, get_or, refl, sym, ap, ◌∙◌, Some, None, ◌≢◌}
+use Rattle.std.proofs.Common.{◌≡◌, ℕ, ◌+◌, ◌<◌, ◌≤◌, List, [], ◌∷◌, ◌++◌, length, take, get_or, refl, sym, ap, ◌∙◌, Some, None, ◌≢◌, arith}
 use Rattle.std.specs.Prelude.{Option}
 use Rattle.std.specs.List.{filter_map}
 use Rattle.std.proofs.lemmas.List.{take_all, take_more}
@@ -22,6 +22,15 @@ filter_map_pass {Y = Y} f (z ∷ zs) x is = by (filter_map_pass f zs x is) (f z)
     by : filter_map f (zs ++ x ∷ []) ≡ filter_map f zs → (o : Option Y) → f z ≡ o → filter_map f ((z ∷ zs) ++ x ∷ []) ≡ filter_map f (z ∷ zs)
     by rest None e = rw e rest
     by rest (Some w) e = rw e (ap (λ (ys : List Y). w ∷ ys) rest)
+
+-- no more are chosen than there are
+pub filter_map_few : {X Y : Type 0} (f : X → Option Y) (xs : List X) → length (filter_map f xs) ≤ length xs
+filter_map_few f [] = omega arith
+filter_map_few {Y = Y} f (x ∷ xs) = by (filter_map_few f xs) (f x) refl
+  where
+    by : length (filter_map f xs) ≤ length xs → (o : Option Y) → f x ≡ o → length (filter_map f (x ∷ xs)) ≤ length (x ∷ xs)
+    by rest None e = rw e (omega (arith, rest))
+    by rest (Some y) e = rw e (omega (arith, rest))
 
 pub chosen_start : (list : List Chosen) (table : List Best) → list ≡ [] → list ≡ filter_map chosen_of (take 0 table)
 chosen_start list table none = none

@@ -1,5 +1,5 @@
 -- The winning candidates of a table are those of the definition.
-use Rattle.std.proofs.Common.{◌≡◌, ℕ, zero, suc, ◌+◌, ◌-◌, ◌<◌, ◌==◌, Bool, true, false, List, [], ◌∷◌, length, map, filter, fold, max, get_or, slice_get, position, Contains, IsPermutation, refl, sym, ap, subst, ◌∙◌, inl, inr, arith, Some, None}
+use Rattle.std.proofs.Common.{◌≡◌, ℕ, zero, suc, ◌+◌, ◌-◌, ◌<◌, ◌≤◌, ◌==◌, Bool, true, false, List, [], ◌∷◌, length, map, filter, fold, max, get_or, slice_get, position, Contains, IsPermutation, refl, sym, ap, subst, ◌∙◌, inl, inr, arith, Some, None}
 use Rattle.std.specs.Prelude.{Option, IsSome}
 use Rattle.std.specs.List.{AllByRecursion, AllPairs, IsDistinct, cons_option, find, filter_map}
 use Rattle.std.specs.List.Sorted.{IsSortedBy}
@@ -12,7 +12,7 @@ use Rattle.std.specs.Str.{bytes_eq}
 use Rattle.std.proofs.lemmas.Cmp.{nat_list_cmp_total}
 use Rattle.std.proofs.lemmas.List.{length-map}
 use Rattle.std.proofs.lemmas.List.Elements.{All-contains}
-use Rattle.std.proofs.lemmas.List.Sorted.{Contains-permutation, IsPermutation-map, IsPermutation-sym}
+use Rattle.std.proofs.lemmas.List.Sorted.{Contains-permutation, IsPermutation-map, IsPermutation-sym, length_permutation}
 use Rattle.std.proofs.lemmas.List.Quantifiers.{position-Some}
 use Rattle.std.proofs.lemmas.Map.Text.{is_eq-slice_cmp}
 use Rattle.std.proofs.lemmas.Map.Keys.{IsDistinct-IsPermutation, apart_from_distinct}
@@ -38,6 +38,7 @@ use Rattle.symbol_winners.specs.inner.Best.{AreCandidates, AreChosen, IsCandidat
 use Rattle.symbol_winners.specs.inner.Index.{IsIndexOf, known}
 use Rattle.symbol_winners.specs.inner.Numbers.{AreNumbered, IsListed, IsNumbered}
 use Rattle.symbol_winners.specs.inner.Tables.{found_of, held, named, table_of}
+use Rattle.symbol_winners.proofs.ChosenLemmas.{filter_map_few}
 use Rattle.symbol_winners.proofs.DuplicateLemmas.{same_all}
 use Rattle.symbol_winners.proofs.SetLemmas.{turned}
 use Rattle.symbol_winners.proofs.TableLemmas.{no_position}
@@ -141,6 +142,13 @@ pub record AreThose (files : List LoadedFile) (names : List (List ℕ)) (fs : Li
   pub order : IsPermutation (filter_map (chosen_for files fs) names) chosen
   pub named : AreNamed names files
   pub held : held fs ≡ found files
+
+-- no more are chosen than there are names
+pub chosen_few : (files : List LoadedFile) (names : List (List ℕ)) (fs : List FoundIn) (chosen : List Chosen) → AreThose files names fs chosen → length chosen ≤ length names
+chosen_few files names fs chosen those =
+    let same : length chosen ≡ length (filter_map (chosen_for files fs) names) = length_permutation (filter_map (chosen_for files fs) names) chosen those.order in
+    let few : length (filter_map (chosen_for files fs) names) ≤ length names = filter_map_few (chosen_for files fs) names in
+    omega (arith, same, few)
 
 -- a candidate's name is among the names
 name_there : (files : List LoadedFile) (names : List (List ℕ)) (fs : List FoundIn) (f : FoundIn) → AreNamed names files → held fs ≡ found files → In f fs → In (held_name f) names

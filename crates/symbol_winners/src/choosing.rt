@@ -179,12 +179,13 @@ pub(crate) fn index_of<'a>(
 ) -> Result<NameIndex<'a>, OutOfMemory>
     requires numbering { IsNumbering names.now }
     requires listed { AllByRecursion (λ one. IsListed names.now one.found) chosen.now }
+    requires few { length chosen.now ≤ length names.now }
     ensures index { IfOk result (IsIndexOf chosen.now (length chosen.now)) }
     ensures names { IfOk result (λ index. index.names.now ≡ names.entry.now) }
 {
     let mut index = NameIndex::new(alloc, names)?;
     for (i, one) in chosen.iter().enumerate() {
-        index.put(one.found.number, i)?;
+        index.put(one.found.number, i);
     }
     Ok(index)
 }

@@ -1,5 +1,5 @@
 //! Places by the numbers of names.
-ghost use Rattle.std.specs.Prelude.{◌≡◌, ◌<◌, ℕ, List, None, Some, true, IfOk, OnOk, get_or, length, slice_get, if◌then◌else◌};
+ghost use Rattle.std.specs.Prelude.{◌≡◌, ◌<◌, ◌^◌, ℕ, List, None, Some, true, IfOk, get_or, length, slice_get, if◌then◌else◌};
 ghost use Rattle.std.specs.Str.{bytes_eq};
 ghost use Rattle.mo_types.specs.declared.object.Symbol.{Symbol as Declared};
 ghost use Rattle.name_ids.specs.Names.{IsNumbering, number_of};
@@ -71,19 +71,16 @@ impl<'a> NameIndex<'a> {
         }
     }
 
-    /// Gives the name of a number a place, instead of the one that it had. 2^32 places run out of memory.
-    pub(crate) fn put(&mut self, id: u32, place: usize) -> Result<(), OutOfMemory>
+    /// Gives the name of a number a place, instead of the one that it had. Takes no memory.
+    pub(crate) fn put(&mut self, id: u32, place: usize)
         requires numbering { IsNumbering self.old.names.now }
         requires id { id < length self.old.places.items }
-        ensures places { OnOk result ((name other : List ℕ) → slice_get self.old.names.now id ≡ Some name
-            → known self.new other ≡ (if bytes_eq name other then Some place else known self.old other)) }
+        requires place { place < 2 ^ 32 }
+        ensures places { (name other : List ℕ) → slice_get self.old.names.now id ≡ Some name
+            → known self.new other ≡ (if bytes_eq name other then Some place else known self.old other) }
         ensures names { self.new.names.now ≡ self.old.names.now }
         ensures len { length self.new.places.items ≡ length self.old.places.items }
     {
-        if place > u32::MAX as usize {
-            return Err(OutOfMemory);
-        }
         self.places[id as usize] = Some(place as u32);
-        Ok(())
     }
 }

@@ -10,8 +10,8 @@ loop-i-preserved c = record {
   index =
       index_step c.args.chosen.now c.loop-i.index c.put.new.self c.loop-i.i c.index-chosen-i.result c.loop-i.invariant.index c.loop-i-test.true
       (λ d. c.index-chosen-i.is ∙ get_or_default c.args.chosen.now c.loop-i.i c.index-chosen-i.result d c.loop-i-test.true)
-      (λ other. c.in_ok-put.ensures.places (chosen_name c.index-chosen-i.result) other
+      (λ other. c.put.ensures.places (chosen_name c.index-chosen-i.result) other
       (rw c.loop-i.invariant.names (listed_at c.args.names.now c.args.chosen.now c.loop-i.i c.index-chosen-i.result c.index-chosen-i.result c.requires.listed c.loop-i-test.true c.index-chosen-i.is)));
-  names = c.in_ok-put.ensures.names ∙ c.loop-i.invariant.names;
-  len = c.in_ok-put.ensures.len ∙ c.loop-i.invariant.len;
+  names = c.put.ensures.names ∙ c.loop-i.invariant.names;
+  len = c.put.ensures.len ∙ c.loop-i.invariant.len;
 }

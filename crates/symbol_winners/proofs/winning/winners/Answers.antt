@@ -6,7 +6,7 @@ use Rattle.symbol_winners.specs.inner.Best.{winner_chosen}
 use Rattle.symbol_winners.proofs.CandidateLemmas.{candidates_are}
 use Rattle.symbol_winners.proofs.WinnersLemmas.{all_those, winners_are}
 use Rattle.literal_merge.proofs.RepresentativeLemmas.{in_order}
-use Rattle.symbol_winners.proofs.WinnerLemmas.{chosen_listed, chosen_stand, indexed}
+use Rattle.symbol_winners.proofs.WinnerLemmas.{chosen_few, chosen_listed, chosen_stand, indexed}
 use Rattle.symbol_winners.proofs.winning.winners.Goals as goal
 
 pub winners_of-requires : goal.winners_of-requires
@@ -24,6 +24,13 @@ index_of-requires-clause-listed c =
     (chosen_listed c.args.loaded.now.files c.args.names.now has.fs c.in_ok-chosen.chosen.items
     (all_those c.args.loaded.now.files c.as_slice-files.result.now c.args.names.now c.in_ok-table.table.items c.in_ok-chosen.chosen.items has c.requires.named c.as_slice-files.ensures c.in_ok-chosen.ensures.permutation)
     has.numbered)
+
+pub index_of-requires-clause-few : goal.index_of-requires-clause-few
+index_of-requires-clause-few c =
+    let has = c.in_ok-table.ensures.bests c.args.loaded.now.files c.requires.words in
+    rw c.as_slice-2.ensures.value
+    (chosen_few c.args.loaded.now.files c.args.names.now has.fs c.in_ok-chosen.chosen.items
+    (all_those c.args.loaded.now.files c.as_slice-files.result.now c.args.names.now c.in_ok-table.table.items c.in_ok-chosen.chosen.items has c.requires.named c.as_slice-files.ensures c.in_ok-chosen.ensures.permutation))
 
 pub of_lists-requires : goal.of_lists-requires
 of_lists-requires c =
