@@ -21,6 +21,7 @@ pub mod SetLemmas
 pub mod StrongLemmas
 pub mod TableLemmas
 pub mod TableSteps
+pub mod TwoLeast
 pub mod UntilLemmas
 pub mod WeakLemmas
 pub mod WinnerLemmas

@@ -40,9 +40,12 @@ pub by_strength : (a b : Candidate) → HasRoom a → HasRoom b → strength a.s
 unfolding word_of
 by_strength a b x y less = stronger (strength a.symbol) (strength b.symbol) a.file.position b.file.position a.file.member b.file.member a.index b.index x.position y.position x.member y.member x.index y.index less
 
-pub by_file : (a b : Candidate) → HasRoom a → HasRoom b → strength a.symbol ≡ strength b.symbol → compare_files a.file b.file ≡ Less → candidate_word a < candidate_word b
+pub before_file : (a b : Candidate) → a.file.member < 2 ^ 20 → b.file.member < 2 ^ 20 → a.index < 2 ^ 24 → b.index < 2 ^ 24 → strength a.symbol ≡ strength b.symbol → compare_files a.file b.file ≡ Less → candidate_word a < candidate_word b
 unfolding word_of
-by_file a b x y same less = earlier (strength a.symbol) (strength b.symbol) a.file.position b.file.position a.file.member b.file.member a.index b.index x.member y.member x.index y.index same (files_less a.file b.file less)
+before_file a b hm hn hi hj same less = earlier (strength a.symbol) (strength b.symbol) a.file.position b.file.position a.file.member b.file.member a.index b.index hm hn hi hj same (files_less a.file b.file less)
+
+pub by_file : (a b : Candidate) → HasRoom a → HasRoom b → strength a.symbol ≡ strength b.symbol → compare_files a.file b.file ≡ Less → candidate_word a < candidate_word b
+by_file a b x y same less = before_file a b x.member y.member x.index y.index same less
 
 pub by_symbol : (a b : Candidate) → strength a.symbol ≡ strength b.symbol → a.file ≡ b.file → a.index < b.index → candidate_word a < candidate_word b
 unfolding word_of

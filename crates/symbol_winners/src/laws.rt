@@ -1,17 +1,17 @@
 //! What the words of candidates, winners and duplicates mean, each on a call that does nothing.
-ghost use Rattle.std.specs.Prelude.{◌≡◌, ◌<◌, ℕ, List, Option, Contains, Ok};
+ghost use Rattle.std.specs.Prelude.{◌≡◌, ◌<◌, ◌^◌, ℕ, List, Option, Some, All, Contains, Ok};
 ghost use Rattle.std.specs.declared.cmp.Ordering.TheVariants.{Less};
 ghost use Rattle.command_line.specs.declared.command.Command.{Command};
-ghost use Rattle.mo_types.specs.Candidates.{Candidate, candidate_word, strength};
+ghost use Rattle.mo_types.specs.Candidates.{Candidate, candidate_word, least, strength};
 ghost use Rattle.mo_types.specs.Keys.{compare_files};
 ghost use Rattle.mo_types.specs.Loaded.{IsWholeLoaded};
 ghost use Rattle.mo_types.specs.declared.key.FileId.{FileId};
 ghost use Rattle.mo_types.specs.declared.loaded.Loaded.{Loaded};
 ghost use Rattle.mo_types.specs.declared.loaded.LoadedFile.{LoadedFile};
 ghost use Rattle.name_ids.specs.Names.{IsNumbering, gathered};
-ghost use Rattle.symbol_winners.specs.Duplicates.{IsDuplicate};
+ghost use Rattle.symbol_winners.specs.Duplicates.{IsDuplicate, duplicate_of, strong_for};
 ghost use Rattle.symbol_winners.specs.Found.{AreNamed};
-ghost use Rattle.symbol_winners.specs.Laws.{AreSameFiles, HasRoom};
+ghost use Rattle.symbol_winners.specs.Laws.{AreSameFiles, AreTwoLeast, HasRoom};
 ghost use Rattle.symbol_winners.specs.SymbolTable.{IsSymbolTable, SymbolTable};
 ghost use Rattle.symbol_winners.specs.Winners.{AreWinners};
 ghost use Rattle.symbol_winners.specs.declared.winner.Winner.{Winner};
@@ -46,6 +46,15 @@ pub fn a_symbol_table_exists()
 pub fn a_least_duplicate_exists()
     ensures { (files : List LoadedFile) (names : List (List ℕ)) → AreNamed names files
         → (found : Option (ℕ × FileId × FileId)) × IsDuplicate files names found }
+{}
+
+/// The files with which a duplicate is told are those of the two strong definitions of the name that have the least words,
+/// and the first of them has the word in which a race of the name ends.
+pub fn duplicates_have_the_least_words()
+    ensures files { (loaded : Loaded) (name : List ℕ) (pair : FileId × FileId) → IsWholeLoaded loaded → duplicate_of loaded.files name ≡ Some pair
+        → (first second : Candidate) × AreTwoLeast (strong_for loaded.files name) first second × (pair ≡ (first.file, second.file)) }
+    ensures race { (loaded : Loaded) (name : List ℕ) (first second : Candidate) → IsWholeLoaded loaded → All (λ file. file.id.position < 2 ^ 16) loaded.files
+        → AreTwoLeast (strong_for loaded.files name) first second → candidate_word first ≡ least loaded.files name }
 {}
 
 /// No two winners have one name.

@@ -14,9 +14,10 @@
 //! `exports` tells what other images see. Files are to be whole; the one error is want of memory.
 //!
 //! The laws say that all files have a symbol table and a least duplicate or none (`a_symbol_table_exists`,
-//! `a_least_duplicate_exists`), and just one of each, that the stronger and then the earlier candidate wins, and that
-//! the order of reading is nothing. A body that lets any candidate win, one that compares a word without its highest
-//! bits, and one that passes over two definitions in one file don't meet the contracts.
+//! `a_least_duplicate_exists`), and just one of each, that the stronger and then the earlier candidate wins, that a
+//! duplicate is told by its two least words (`duplicates_have_the_least_words`), and that the order of reading is nothing.
+//! A body that lets any candidate win, one that compares a word without its highest bits, one that tells a duplicate by its
+//! greatest words, and one that passes over two definitions in one file don't meet the contracts.
 #![tactic(auto)]
 
 mod best;
@@ -41,8 +42,8 @@ mod words;
 pub use duplicates::duplicate;
 pub use laws::{
     a_least_duplicate_exists, a_name_has_one_winner, a_symbol_table_exists,
-    candidates_have_numbers, duplicates_are_one, the_earlier_wins, the_order_of_reading_is_nothing,
-    the_stronger_wins, winners_are_one_list,
+    candidates_have_numbers, duplicates_are_one, duplicates_have_the_least_words, the_earlier_wins,
+    the_order_of_reading_is_nothing, the_stronger_wins, winners_are_one_list,
 };
 pub use places::{Place, place_of};
 pub use symbol_table::SymbolTable;
