@@ -16,7 +16,7 @@ use Rattle.patch.specs.declared.range.PatchFault.{PatchFault}
 use Rattle.patch.specs.declared.range.PatchFault.TheVariants.{Range, OutOfMemory}
 use Rattle.patch.specs.declared.range.PlacedWork.{PlacedWork}
 use Rattle.patch.specs.Patched.{ArePatched}
-use Rattle.patch.specs.Range.{AllFit, AreStanding, HasFields, IsBeside, IsLeastFault, IsPlaced, IsSameBeside, IsStanding, IsUpTo, bytes_of, part_of}
+use Rattle.patch.specs.Range.{AllFit, AreWork, HasFields, IsBeside, IsLeastFault, IsPlaced, IsSameBeside, IsStanding, IsUpTo, bytes_of, part_of}
 use Rattle.patch.proofs.KeyLemmas.{through, turned_round}
 use Rattle.image_join.specs.inner.Halves.{IsFilled, least_of}
 use Rattle.patch.proofs.LeastLemmas.{element_at}
@@ -38,24 +38,24 @@ pairs_behind R n xs room all i j d low high =
 -- the work is cut before the atom at a place, which begins at an offset of the file
 pub record IsCut (files : List LoadedFile) (mets : PlacedWork → List Met) (from size : ℕ) (work : List PlacedWork) (at seam : ℕ) : Type 0 where
   pub some : PlacedWork
-  pub work_is : AreStanding files from size work
+  pub work_is : AreWork files mets from size work
   pub within : at < length work
   pub begins : (d : PlacedWork) → (get_or work at d).at ≡ seam
 
 seam_inside : (files : List LoadedFile) (mets : PlacedWork → List Met) (from size : ℕ) (work : List PlacedWork) (at seam : ℕ) (d : PlacedWork) → IsCut files mets from size work at seam → (from ≤ seam) × (seam ≤ from + size)
 seam_inside files mets from size work at seam d cut =
-    let it : IsStanding files from size (get_or work at d) = cut.work_is.items at d cut.within in
+    let it : IsStanding files from size (get_or work at d) = cut.work_is.stand.items at d cut.within in
     let here : (get_or work at d).at ≡ seam = cut.begins d in
     (omega (arith, it.begins), omega (arith, it.ends))
 
 ends_before : (files : List LoadedFile) (mets : PlacedWork → List Met) (from size : ℕ) (work : List PlacedWork) (at seam : ℕ) (k : ℕ) (d : PlacedWork) → IsCut files mets from size work at seam → k < at → (get_or work k d).at + length (bytes_of files (get_or work k d)) ≤ seam
 ends_before files mets from size work at seam k d cut low =
-    subst (λ (n : ℕ). (get_or work k d).at + length (bytes_of files (get_or work k d)) ≤ n) (cut.begins d) (cut.work_is.in_order k at d low cut.within)
+    subst (λ (n : ℕ). (get_or work k d).at + length (bytes_of files (get_or work k d)) ≤ n) (cut.begins d) (cut.work_is.stand.in_order k at d low cut.within)
 
 begins_behind : (files : List LoadedFile) (mets : PlacedWork → List Met) (from size : ℕ) (work : List PlacedWork) (at seam : ℕ) (k : ℕ) (d : PlacedWork) → IsCut files mets from size work at seam → at + k < length work → seam ≤ (get_or work (at + k) d).at
 begins_behind files mets from size work at seam k d cut high = elim (cases_lt 0 k) [
   | inl later ↦
-      let ordered : (get_or work at d).at + length (bytes_of files (get_or work at d)) ≤ (get_or work (at + k) d).at = cut.work_is.in_order at (at + k) d (omega arith) high in
+      let ordered : (get_or work at d).at + length (bytes_of files (get_or work at d)) ≤ (get_or work (at + k) d).at = cut.work_is.stand.in_order at (at + k) d (omega arith) high in
       let here : (get_or work at d).at ≡ seam = cut.begins d in
       omega arith
   | inr none ↦
@@ -64,17 +64,20 @@ begins_behind files mets from size work at seam k d cut high = elim (cases_lt 0 
       omega arith
 ]
 
-pub low_work : (files : List LoadedFile) (mets : PlacedWork → List Met) (from size : ℕ) (work : List PlacedWork) (at seam n : ℕ) → IsCut files mets from size work at seam → n ≡ seam - from → AreStanding files from n (take at work)
+pub low_work : (files : List LoadedFile) (mets : PlacedWork → List Met) (from size : ℕ) (work : List PlacedWork) (at seam n : ℕ) → IsCut files mets from size work at seam → n ≡ seam - from → AreWork files mets from n (take at work)
 low_work files mets from size work at seam n cut e = record {
-  items = items;
-  in_order = pairs_before (λ a b. a.at + length (bytes_of files a) ≤ b.at) at work (let w = cut.within in omega arith) cut.work_is.in_order;
+  stand = record {
+    items = items;
+    in_order = pairs_before (λ a b. a.at + length (bytes_of files a) ≤ b.at) at work (let w = cut.within in omega arith) cut.work_is.stand.in_order;
+  };
+  fields = All-take (HasFields files mets) at work cut.work_is.fields;
 }
   where
     items : (k : ℕ) (d : PlacedWork) → k < length (take at work) → IsStanding files from n (get_or (take at work) k d)
     items k d low =
         let room : length (take at work) ≡ at = length-take-le at work (let w = cut.within in omega arith) in
         let below : k < at = omega arith in
-        let it : IsStanding files from size (get_or work k d) = cut.work_is.items k d (let w = cut.within in omega arith) in
+        let it : IsStanding files from size (get_or work k d) = cut.work_is.stand.items k d (let w = cut.within in omega arith) in
         let last : (get_or work k d).at + length (bytes_of files (get_or work k d)) ≤ seam = ends_before files mets from size work at seam k d cut below in
         let start : from ≤ seam = (seam_inside files mets from size work at seam d cut).0 in
         subst (IsStanding files from n) (sym (get_or-take at work k d below)) (record {
@@ -83,17 +86,20 @@ low_work files mets from size work at seam n cut e = record {
           ends = omega arith;
         })
 
-pub high_work : (files : List LoadedFile) (mets : PlacedWork → List Met) (from size : ℕ) (work : List PlacedWork) (at seam n : ℕ) → IsCut files mets from size work at seam → n + (seam - from) ≡ size → AreStanding files seam n (drop at work)
+pub high_work : (files : List LoadedFile) (mets : PlacedWork → List Met) (from size : ℕ) (work : List PlacedWork) (at seam n : ℕ) → IsCut files mets from size work at seam → n + (seam - from) ≡ size → AreWork files mets seam n (drop at work)
 high_work files mets from size work at seam n cut e = record {
-  items = items;
-  in_order = pairs_behind (λ a b. a.at + length (bytes_of files a) ≤ b.at) at work (let w = cut.within in omega arith) cut.work_is.in_order;
+  stand = record {
+    items = items;
+    in_order = pairs_behind (λ a b. a.at + length (bytes_of files a) ≤ b.at) at work (let w = cut.within in omega arith) cut.work_is.stand.in_order;
+  };
+  fields = All-drop (HasFields files mets) at work cut.work_is.fields;
 }
   where
     items : (k : ℕ) (d : PlacedWork) → k < length (drop at work) → IsStanding files seam n (get_or (drop at work) k d)
     items k d low =
         let room : length (drop at work) ≡ length work - at = length-drop at work in
         let high : at + k < length work = omega arith in
-        let it : IsStanding files from size (get_or work (at + k) d) = cut.work_is.items (at + k) d high in
+        let it : IsStanding files from size (get_or work (at + k) d) = cut.work_is.stand.items (at + k) d high in
         let start : seam ≤ (get_or work (at + k) d).at = begins_behind files mets from size work at seam k d cut high in
         let low : from ≤ seam = (seam_inside files mets from size work at seam d cut).0 in
         let last : (get_or work (at + k) d).at + length (bytes_of files (get_or work (at + k) d)) ≤ from + size = it.ends in
@@ -155,7 +161,7 @@ low_placed : (files : List LoadedFile) (mets : PlacedWork → List Met) (from si
 low_placed files mets from size work at seam old front back new_front new_back cut halves all k d within =
     let room : length (take at work) ≡ at = length-take-le at work (let w = cut.within in omega arith) in
     let same : get_or (take at work) k d ≡ get_or work k d = get_or-take at work k d (omega arith) in
-    let it : IsStanding files from size (get_or work k d) = cut.work_is.items k d (let w = cut.within in omega arith) in
+    let it : IsStanding files from size (get_or work k d) = cut.work_is.stand.items k d (let w = cut.within in omega arith) in
     let last : (get_or work k d).at + length (bytes_of files (get_or work k d)) ≤ seam = ends_before files mets from size work at seam k d cut (omega arith) in
     let start : from ≤ (get_or work k d).at = it.begins in
     let fits : ((get_or work k d).at - from) + length (bytes_of files (get_or work k d)) ≤ length new_front = (let m = halves.long in let s = halves.front_size in omega arith) in
@@ -238,43 +244,37 @@ filled_both files mets from size work at seam old front back new_front new_back 
     room : at ≤ length work
     room = let w = cut.within in omega arith
 
-    fields : All (HasFields files mets) (take at work) → All (HasFields files mets) (drop at work) → All (HasFields files mets) work
-    fields one other = both_halves (HasFields files mets) at work one other
-
     chosen : (a b : AtomKey) (f g : RangeFault) (after : Bool) → is_gt (compare_keys a b) ≡ after → IsFilled files mets from (take at work) front new_front (Err (Range a f)) → IsFilled files mets seam (drop at work) back new_back (Err (Range b g)) → IsFilled files mets from work old (new_front ++ new_back) (least_of (Err (Range a f)) (Err (Range b g)))
     chosen a b f g true e one other = rw e (record {
       beside = beside (Err (Range a f)) (Err (Range b g)) one other;
-      patched = (fields one.patched.0 other.patched.0, high_fault files mets at work b g room other.patched.1 (lower files mets b a (take at work) (turned_round a b e) one.patched.1.1.least));
+      patched = high_fault files mets at work b g room other.patched (lower files mets b a (take at work) (turned_round a b e) one.patched.1.least);
     })
     chosen a b f g false e one other = rw e (record {
       beside = beside (Err (Range a f)) (Err (Range b g)) one other;
-      patched = (fields one.patched.0 other.patched.0, low_fault files mets at work a f room one.patched.1 (lower files mets a b (drop at work) e other.patched.1.1.least));
+      patched = low_fault files mets at work a f room one.patched (lower files mets a b (drop at work) e other.patched.1.least);
     })
 
     by_answers : (a b : Result (Unit {0}) PatchFault) → IsFilled files mets from (take at work) front new_front a → IsFilled files mets seam (drop at work) back new_back b → IsFilled files mets from work old (new_front ++ new_back) (least_of a b)
     by_answers (Ok x) (Ok y) one other = record {
       beside = beside (Ok x) (Ok y) one other;
-      patched = (
-        fields one.patched.0 other.patched.0,
-        both_halves (IsPlaced files mets from (new_front ++ new_back)) at work
-            (low_placed files mets from size work at seam old front back new_front new_back cut halves one.patched.1)
-            (high_placed files mets from size work at seam old front back new_front new_back cut halves other.patched.1),
-      );
+      patched = both_halves (IsPlaced files mets from (new_front ++ new_back)) at work
+          (low_placed files mets from size work at seam old front back new_front new_back cut halves one.patched)
+          (high_placed files mets from size work at seam old front back new_front new_back cut halves other.patched);
     }
     by_answers (Ok x) (Err (Range b g)) one other = record {
       beside = beside (Ok x) (Err (Range b g)) one other;
-      patched = (fields one.patched.0 other.patched.0, high_fault files mets at work b g room other.patched.1 (fitting files mets b (take at work) (fit_where_placed files mets from new_front (take at work) one.patched.1)));
+      patched = high_fault files mets at work b g room other.patched (fitting files mets b (take at work) (fit_where_placed files mets from new_front (take at work) one.patched));
     }
     by_answers (Ok x) (Err OutOfMemory) one other = record { beside = beside (Ok x) (Err OutOfMemory) one other; patched = tt }
     by_answers (Err OutOfMemory) high one other = record { beside = beside (Err OutOfMemory) high one other; patched = tt }
     by_answers (Err (Range a f)) (Ok y) one other = record {
       beside = beside (Err (Range a f)) (Ok y) one other;
-      patched = (fields one.patched.0 other.patched.0, low_fault files mets at work a f room one.patched.1 (fitting files mets a (drop at work) (fit_where_placed files mets seam new_back (drop at work) other.patched.1)));
+      patched = low_fault files mets at work a f room one.patched (fitting files mets a (drop at work) (fit_where_placed files mets seam new_back (drop at work) other.patched));
     }
     by_answers (Err (Range a f)) (Err OutOfMemory) one other = record { beside = beside (Err (Range a f)) (Err OutOfMemory) one other; patched = tt }
     by_answers (Err (Range a f)) (Err (Range b g)) one other = chosen a b f g (is_gt (compare_keys a b)) refl one other
 
-pub is_cut : (files : List LoadedFile) (mets : PlacedWork → List Met) (from size : ℕ) (work behind : List PlacedWork) (at : ℕ) (d : PlacedWork) → AreStanding files from size work → at < length work → behind ≡ drop at work → IsCut files mets from size work at (get_or behind 0 d).at
+pub is_cut : (files : List LoadedFile) (mets : PlacedWork → List Met) (from size : ℕ) (work behind : List PlacedWork) (at : ℕ) (d : PlacedWork) → AreWork files mets from size work → at < length work → behind ≡ drop at work → IsCut files mets from size work at (get_or behind 0 d).at
 is_cut files mets from size work behind at d are within is =
     let first : get_or behind 0 d ≡ get_or work at d = ap (λ (z : List PlacedWork). get_or z 0 d) is ∙ get_or-drop at work 0 d ∙ ap (λ (n : ℕ). get_or work n d) (add-zero at) in
     record {

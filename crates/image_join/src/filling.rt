@@ -4,7 +4,7 @@ ghost use Rattle.std.specs.Prelude.{◌≡◌, ◌+◌, ◌<◌, ◌≤◌, ◌^
 ghost use Rattle.std.specs.Ordering.{is_gt};
 ghost use denote.Param.Send.{IsSync};
 ghost use Rattle.mo_types.specs.Keys.{compare_keys};
-ghost use Rattle.patch.specs.Range.{AreStanding, IsPatched, IsSameBeside};
+ghost use Rattle.patch.specs.Range.{AreWork, IsPatched, IsSameBeside};
 ghost use Rattle.image_join.specs.inner.Halves.{IsFilled, least_of};
 
 use crate::worker_range::WorkerRange;
@@ -69,7 +69,7 @@ fn fill_piece<R: Threads + Sync, G: Gate + Sync, M: Meeting + Sync>(
     piece: &mut [u8],
 ) -> Result<(), PatchFault>
     requires ready { M.ready atoms.now.meeting.now }
-    requires work { AreStanding atoms.now.loaded.now.files from (length piece.old) atoms.now.work.now }
+    requires work { AreWork atoms.now.loaded.now.files (M.mets_of atoms.now.meeting.now) from (length piece.old) atoms.now.work.now }
     ensures { IsFilled atoms.now.loaded.now.files (M.mets_of atoms.now.meeting.now) from atoms.now.work.now piece.old piece.new result }
 {
     let (work, loaded, meeting) = (atoms.work, atoms.loaded, atoms.meeting);
@@ -86,7 +86,7 @@ fn fill_piece<R: Threads + Sync, G: Gate + Sync, M: Meeting + Sync>(
     let (front, back) = piece.split_at_mut((seam - from) as usize);
     let mut place_low = || -> Result<(), PatchFault>
         requires { IsSync R.row × IsSync G.row × IsSync M.row × M.ready meeting.now × (first + low < 2 ^ 32)
-            × AreStanding loaded.now.files from (length front.now) before.now }
+            × AreWork loaded.now.files (M.mets_of meeting.now) from (length front.now) before.now }
         ensures { IsFilled loaded.entry.now.files (M.mets_of meeting.entry.now) from before.entry.now front.entry.now front.exit.now result }
     {
         let workers = WorkerRange { first, count: low };
@@ -99,7 +99,7 @@ fn fill_piece<R: Threads + Sync, G: Gate + Sync, M: Meeting + Sync>(
     };
     let mut place_high = || -> Result<(), PatchFault>
         requires { IsSync R.row × IsSync G.row × IsSync M.row × M.ready meeting.now × (next + high < 2 ^ 32)
-            × AreStanding loaded.now.files seam (length back.now) behind.now }
+            × AreWork loaded.now.files (M.mets_of meeting.now) seam (length back.now) behind.now }
         ensures { IsFilled loaded.entry.now.files (M.mets_of meeting.entry.now) seam behind.entry.now back.entry.now back.exit.now result }
     {
         let workers = WorkerRange {
@@ -134,7 +134,7 @@ pub fn fill<R: Threads + Sync, G: Gate + Sync, M: Meeting + Sync>(
     atoms: &PlacedAtoms<M>,
 ) -> Result<(), PatchFault>
     requires ready { M.ready atoms.now.meeting.now }
-    requires work { AreStanding atoms.now.loaded.now.files 0 (length image.old) atoms.now.work.now }
+    requires work { AreWork atoms.now.loaded.now.files (M.mets_of atoms.now.meeting.now) 0 (length image.old) atoms.now.work.now }
     ensures beside { IsSameBeside atoms.now.loaded.now.files 0 atoms.now.work.now image.old image.new }
     ensures patched { IsPatched atoms.now.loaded.now.files (M.mets_of atoms.now.meeting.now) 0 atoms.now.work.now image.new result }
 {

@@ -1,10 +1,8 @@
-pub mod ApartLemmas
 pub mod FieldLemmas
 pub mod KeyLemmas
 pub mod LeastLemmas
 pub mod NumberLemmas
 pub mod OneLemmas
-pub mod OrderLemmas
 pub mod RangeLemmas
 pub mod ReadingLemmas
 pub mod WriteLemmas

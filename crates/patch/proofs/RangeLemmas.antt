@@ -17,7 +17,7 @@ use Rattle.patch.specs.declared.range.Trouble.{Trouble}
 use Rattle.patch.specs.declared.range.Trouble.TheVariants as trouble
 use Rattle.patch.specs.declared.range.PlacedWork.{PlacedWork}
 use Rattle.patch.specs.Patched.{AreFields, ArePatched, IsFirstFault}
-use Rattle.patch.specs.Range.{AllFit, AreStanding, HasFields, IsBeside, IsLeastFault, IsPlaced, IsSameBeside, IsStanding, IsUpTo, bytes_of, part_of}
+use Rattle.patch.specs.Range.{AllFit, AreStanding, AreWork, HasFields, IsBeside, IsLeastFault, IsPlaced, IsSameBeside, IsStanding, IsUpTo, bytes_of, part_of}
 use Rattle.patch.specs.inner.Found.{IsBesideOne, IsLeastSo, IsOnePatched, lesser}
 use Rattle.patch.proofs.KeyLemmas.{itself, through, turned_round}
 
@@ -53,23 +53,18 @@ if_err (Err y) x P h e = let same : y ≡ x = cc in subst P same h
 
 -- ---- one atom, whose references were met
 
-met_placed : (files : List LoadedFile) (mets : PlacedWork → List Met) (from : ℕ) (item : PlacedWork) (new : List ℕ) (met : List Met) → met ≡ mets item → AreFields item.address (length (bytes_of files item)) met → IsPlaced files (λ _. met) from new item → HasFields files mets item × IsPlaced files mets from new item
-met_placed files mets from item new met is fields here = (
-  subst (λ (z : List Met). AreFields item.address (length (bytes_of files item)) z) is fields,
-  subst (λ (z : List Met). ArePatched item.address z (bytes_of files item) (part_of files from item new)) is here,
-)
+pub fields_met : (files : List LoadedFile) (mets : PlacedWork → List Met) (item : PlacedWork) (met : List Met) → met ≡ mets item → HasFields files mets item → AreFields item.address (length (bytes_of files item)) met
+fields_met files mets item met is fields = subst (λ (z : List Met). AreFields item.address (length (bytes_of files item)) z) (sym is) fields
 
-met_fails : (files : List LoadedFile) (mets : PlacedWork → List Met) (item : PlacedWork) (met : List Met) (fault : RangeFault) → met ≡ mets item → AreFields item.address (length (bytes_of files item)) met → IsFirstFault item.address (bytes_of files item) met fault → HasFields files mets item × IsFirstFault item.address (bytes_of files item) (mets item) fault
-met_fails files mets item met fault is fields fails = (
-  subst (λ (z : List Met). AreFields item.address (length (bytes_of files item)) z) is fields,
-  subst (λ (z : List Met). IsFirstFault item.address (bytes_of files item) z fault) is fails,
-)
+pub one_patched : (files : List LoadedFile) (mets : PlacedWork → List Met) (from : ℕ) (item : PlacedWork) (new : List ℕ) (met : List Met) (r : Result (Unit {0}) RangeFault) → met ≡ mets item → OnOk r (IsPlaced files (λ _. met) from new item) → r ≡ Ok tt → IsOnePatched files mets from new item (Ok tt)
+one_patched files mets from item new met r is ok e =
+    subst (λ (z : List Met). ArePatched item.address z (bytes_of files item) (part_of files from item new)) is
+    (on_ok r tt (IsPlaced files (λ _. met) from new item) ok e)
 
-pub one_patched : (files : List LoadedFile) (mets : PlacedWork → List Met) (from : ℕ) (item : PlacedWork) (new : List ℕ) (met : List Met) (r : Result (Unit {0}) RangeFault) → met ≡ mets item → AreFields item.address (length (bytes_of files item)) met → OnOk r (IsPlaced files (λ _. met) from new item) → r ≡ Ok tt → IsOnePatched files mets from new item (Ok tt)
-one_patched files mets from item new met r is fields ok e = met_placed files mets from item new met is fields (on_ok r tt (IsPlaced files (λ _. met) from new item) ok e)
-
-pub one_at_fault : (files : List LoadedFile) (mets : PlacedWork → List Met) (from : ℕ) (item : PlacedWork) (new : List ℕ) (met : List Met) (r : Result (Unit {0}) RangeFault) (fault : RangeFault) → met ≡ mets item → AreFields item.address (length (bytes_of files item)) met → IfErr r (IsFirstFault item.address (bytes_of files item) met) → r ≡ Err fault → IsOnePatched files mets from new item (Err (trouble.Range fault))
-one_at_fault files mets from item new met r fault is fields err e = met_fails files mets item met fault is fields (if_err r fault (IsFirstFault item.address (bytes_of files item) met) err e)
+pub one_at_fault : (files : List LoadedFile) (mets : PlacedWork → List Met) (from : ℕ) (item : PlacedWork) (new : List ℕ) (met : List Met) (r : Result (Unit {0}) RangeFault) (fault : RangeFault) → met ≡ mets item → IfErr r (IsFirstFault item.address (bytes_of files item) met) → r ≡ Err fault → IsOnePatched files mets from new item (Err (trouble.Range fault))
+one_at_fault files mets from item new met r fault is err e =
+    subst (λ (z : List Met). IsFirstFault item.address (bytes_of files item) z fault) is
+    (if_err r fault (IsFirstFault item.address (bytes_of files item) met) err e)
 
 -- ---- the fault of the least key
 
@@ -154,7 +149,6 @@ pub record IsPlacing (files : List LoadedFile) (mets : PlacedWork → List Met) 
   pub others : (k : ℕ) → ((j : ℕ) (d : PlacedWork) → j < at → IsBeside files from k (get_or work j d)) → slice_index now k ≡ slice_index old k
   pub placed : least ≡ None → (j : ℕ) (d : PlacedWork) → j < at → IsPlaced files mets from now (get_or work j d)
   pub faults : IsLeastSo files mets (take at work) least
-  pub fields : (j : ℕ) (d : PlacedWork) → j < at → HasFields files mets (get_or work j d)
 
 pub placing_starts : (files : List LoadedFile) (mets : PlacedWork → List Met) (from : ℕ) (old : List ℕ) (work : List PlacedWork) → IsPlacing files mets from old work 0 old None
 placing_starts files mets from old work = record {
@@ -163,12 +157,14 @@ placing_starts files mets from old work = record {
   others = λ k beside. refl;
   placed = λ e j d low. absurd (omega arith);
   faults = All-nil (AllFit files mets);
-  fields = λ j d low. absurd (omega arith);
 }
 
-pub work_there : (files : List LoadedFile) (mets : PlacedWork → List Met) (from size n : ℕ) (work : List PlacedWork) (at : ℕ) (item : PlacedWork) → AreStanding files from size work → at < length work → item ≡ get_or work at item → n ≡ size → IsStanding files from n item
+pub work_there : (files : List LoadedFile) (mets : PlacedWork → List Met) (from size n : ℕ) (work : List PlacedWork) (at : ℕ) (item : PlacedWork) → AreWork files mets from size work → at < length work → item ≡ get_or work at item → n ≡ size → IsStanding files from n item
 work_there files mets from size n work at item are within is e =
-    subst (λ (m : ℕ). IsStanding files from m item) (sym e) (subst (λ (it : PlacedWork). IsStanding files from size it) (sym is) (are.items at item within))
+    subst (λ (m : ℕ). IsStanding files from m item) (sym e) (subst (λ (it : PlacedWork). IsStanding files from size it) (sym is) (are.stand.items at item within))
+
+pub fields_there : (files : List LoadedFile) (mets : PlacedWork → List Met) (from size : ℕ) (work : List PlacedWork) (at : ℕ) (item : PlacedWork) → AreWork files mets from size work → at < length work → item ≡ get_or work at item → HasFields files mets item
+fields_there files mets from size work at item are within is = subst (HasFields files mets) (sym is) (are.fields at item within)
 
 -- the part of an atom that stands before another one stays
 part_stays : (files : List LoadedFile) (mets : PlacedWork → List Met) (from size : ℕ) (a item : PlacedWork) (now new : List ℕ) → IsStanding files from size a → a.at + length (bytes_of files a) ≤ item.at → IsBesideOne files from item now new → part_of files from a new ≡ part_of files from a now
@@ -205,25 +201,24 @@ fits_where_placed files mets from new item placed = λ k d low. (_, placed.field
 below_at : (P : PlacedWork → Type 0) (work : List PlacedWork) (at : ℕ) (item : PlacedWork) → at < length work → item ≡ get_or work at item → ((j : ℕ) (d : PlacedWork) → j < at → P (get_or work j d)) → P item → (j : ℕ) (d : PlacedWork) → j < at + 1 → P (get_or work j d)
 below_at P work at item within is below here j d low = below_more (λ k. (e : PlacedWork) → P (get_or work k e)) at (λ k less e. below k e less) (λ e. at_read work P at item within is here e) j low d
 
-pub placing_goes_on : (files : List LoadedFile) (mets : PlacedWork → List Met) (from : ℕ) (old : List ℕ) (work : List PlacedWork) (at : ℕ) (now new : List ℕ) (least : Option Fault) (item : PlacedWork) (r : Result (Unit {0}) Trouble) → IsPlacing files mets from old work at now least → AreStanding files from (length old) work → at < length work → item ≡ get_or work at item → IsBesideOne files from item now new → IsOnePatched files mets from new item r → r ≡ Ok tt → IsPlacing files mets from old work (at + 1) new least
+pub placing_goes_on : (files : List LoadedFile) (mets : PlacedWork → List Met) (from : ℕ) (old : List ℕ) (work : List PlacedWork) (at : ℕ) (now new : List ℕ) (least : Option Fault) (item : PlacedWork) (r : Result (Unit {0}) Trouble) → IsPlacing files mets from old work at now least → AreWork files mets from (length old) work → at < length work → item ≡ get_or work at item → IsBesideOne files from item now new → IsOnePatched files mets from new item r → r ≡ Ok tt → IsPlacing files mets from old work (at + 1) new least
 placing_goes_on files mets from old work at now new least item r placing are within is beside patched e = go (subst (IsOnePatched files mets from new item) e patched)
   where
     go : IsOnePatched files mets from new item (Ok tt) → IsPlacing files mets from old work (at + 1) new least
-    go (has, here) = record {
+    go here = record {
       size = beside.size ∙ placing.size;
       within = omega arith;
       others = others_stay files mets from old work at now new least item placing is beside;
       placed = λ none. below_at (IsPlaced files mets from new) work at item within is
-          (λ j d low. still_placed files mets from old work at now new item are within is beside j d low (placing.placed none j d low)) here;
+          (λ j d low. still_placed files mets from old work at now new item are.stand within is beside j d low (placing.placed none j d low)) here;
       faults = keeps files mets work at item within is (fits_where_placed files mets from new item here) least placing.faults;
-      fields = below_at (HasFields files mets) work at item within is placing.fields has;
     }
 
 pub placing_fails : (files : List LoadedFile) (mets : PlacedWork → List Met) (from : ℕ) (old : List ℕ) (work : List PlacedWork) (at : ℕ) (now new : List ℕ) (least : Option Fault) (item : PlacedWork) (r : Result (Unit {0}) Trouble) (why : Trouble) (fault : RangeFault) (made : Fault) (chosen : Option Fault) → IsPlacing files mets from old work at now least → at < length work → item ≡ get_or work at item → IsBesideOne files from item now new → IsOnePatched files mets from new item r → r ≡ Err why → why ≡ trouble.Range fault → made ≡ record { key = item.atom.key; fault = fault } → chosen ≡ lesser least made → IsPlacing files mets from old work (at + 1) new chosen
 placing_fails files mets from old work at now new least item r why fault made chosen placing within is beside patched e is_why is_made is_chosen = go (subst (IsOnePatched files mets from new item) (e ∙ ap Err is_why) patched)
   where
     go : IsOnePatched files mets from new item (Err (trouble.Range fault)) → IsPlacing files mets from old work (at + 1) new chosen
-    go (has, fails) = record {
+    go fails = record {
       size = beside.size ∙ placing.size;
       within = omega arith;
       others = others_stay files mets from old work at now new least item placing is beside;
@@ -232,7 +227,6 @@ placing_fails files mets from old work at now new least item r why fault made ch
           (takes files mets work at item made within is (ap (λ (f : Fault). f.key) is_made)
           (subst (λ (f : RangeFault). IsFirstFault item.address (bytes_of files item) (mets item) f) (ap (λ (f : Fault). f.fault) (sym is_made)) fails)
           least placing.faults);
-      fields = below_at (HasFields files mets) work at item within is placing.fields has;
     }
 
 -- the piece is as it was beside all atoms, where placing stops at one
@@ -254,14 +248,11 @@ all_placed files mets from old work at now least placing past none = λ j d low.
 pub one_fails : (files : List LoadedFile) (mets : PlacedWork → List Met) (from : ℕ) (old : List ℕ) (work : List PlacedWork) (at : ℕ) (now : List ℕ) (least : Option Fault) → IsPlacing files mets from old work at now least → length work ≤ at → IsLeastSo files mets work least
 one_fails files mets from old work at now least placing past = subst (λ (z : List PlacedWork). IsLeastSo files mets z least) (take_all at work past) placing.faults
 
-pub all_have_fields : (files : List LoadedFile) (mets : PlacedWork → List Met) (from : ℕ) (old : List ℕ) (work : List PlacedWork) (at : ℕ) (now : List ℕ) (least : Option Fault) → IsPlacing files mets from old work at now least → length work ≤ at → All (HasFields files mets) work
-all_have_fields files mets from old work at now least placing past = λ j d low. placing.fields j d (omega arith)
-
-pub ruleset ranges = (placing_starts, work_there, placing_is_beside, all_placed, all_have_fields)
+pub ruleset ranges = (placing_starts, work_there, fields_there, placing_is_beside, all_placed)
 
 pub least_fault : (files : List LoadedFile) (mets : PlacedWork → List Met) (work : List PlacedWork) (least : Option Fault) (fault : Fault) → IsLeastSo files mets work least → least ≡ Some fault → IsLeastFault files mets work fault.key fault.fault
 least_fault files mets work least fault so some = subst (IsLeastSo files mets work) some so
 
 pub ruleset answers = (least_fault)
 
-pub ruleset ones = (one_patched, one_at_fault)
+pub ruleset ones = (fields_met, one_patched, one_at_fault)

@@ -1,23 +1,8 @@
--- References and atoms that are listed in the order of their places.
-use Rattle.std.specs.Prelude.{ℕ, ◌+◌, ◌≤◌, ◌⊎◌, List, length}
-use Rattle.std.specs.List.{AllPairs}
+-- Atoms that are listed in the order of their places.
+use Rattle.std.specs.Prelude.{◌+◌, ◌≤◌, List, length}
 use Rattle.mo_types.specs.declared.loaded.LoadedFile.{LoadedFile}
-use Rattle.patch.specs.declared.met.Met.{Met}
 use Rattle.patch.specs.declared.range.PlacedWork.{PlacedWork}
-use Rattle.patch.specs.Patched.{AreFields, size_of}
 use Rattle.patch.specs.Range.{bytes_of}
-
--- a field ends where another one begins, or before
-abbrev pub IsBefore : Met → Met → Type 0
-IsBefore a b = a.place + size_of a ≤ b.place
-
-abbrev pub IsAfter : Met → Met → Type 0
-IsAfter a b = IsBefore b a
-
--- fields that lie apart and are listed by rising or by falling place
-pub record AreFieldsInOrder (address size : ℕ) (mets : List Met) : Type 0 where
-  pub fields : AreFields address size mets
-  pub order : AllPairs IsBefore mets ⊎ AllPairs IsAfter mets
 
 -- the bytes of an atom end where those of another one begin, or before
 abbrev pub StandsBefore : List LoadedFile → PlacedWork → PlacedWork → Type 0

@@ -75,9 +75,9 @@ pub record IsLeastAtFault (files : List LoadedFile) (mets : PlacedWork → List 
 abbrev pub IsLeastFault : List LoadedFile → (PlacedWork → List Met) → List PlacedWork → AtomKey → RangeFault → Type 0
 IsLeastFault files mets work key fault = (item : PlacedWork) × IsLeastAtFault files mets work key fault item
 
--- What placing atoms answers: each has its fields, and stands with them or the first value that doesn't fit is told of the
--- atom with the least key. Want of memory is left to the code.
+-- What placing atoms answers: each stands with its fields, or the first value that doesn't fit is told of the atom with the
+-- least key. Want of memory is left to the code.
 abbrev pub IsPatched : List LoadedFile → (PlacedWork → List Met) → ℕ → List PlacedWork → List ℕ → Result (Unit {0}) PatchFault → Type 0
-IsPatched files mets from work new (Ok done) = All (HasFields files mets) work × All (IsPlaced files mets from new) work
-IsPatched files mets from work new (Err (Range key fault)) = All (HasFields files mets) work × IsLeastFault files mets work key fault
+IsPatched files mets from work new (Ok done) = All (IsPlaced files mets from new) work
+IsPatched files mets from work new (Err (Range key fault)) = IsLeastFault files mets work key fault
 IsPatched files mets from work new (Err OutOfMemory) = Unit {0}

@@ -8,13 +8,12 @@
 //! answers the one at the least place, and writes nothing. It takes no memory. `patch_range` writes the atoms of a
 //! piece of an image, each with its bytes and fields at its place, and leaves all other bytes (`specs/Range.antt`); a
 //! `Meeting` tells it the references of each. Where values don't fit it answers the first one of the atom with the
-//! least key. It takes memory for the references of one atom at a time, and answers fields that don't lie apart as
-//! want of memory.
+//! least key. It takes memory for the references of one atom at a time. That fields lie apart in their atom's bytes and
+//! atoms stand one behind the other is a condition of these calls (`AreFields`, `AreWork`), and nothing tests it.
 //!
-//! Where `fields_are_in_order` says yes, fields are as `patch_atom` wants them, and `work_stands` says whether atoms
-//! are as `patch_range` does. The laws say that what was written reads back as the target (`fields_read_back`), that
-//! instructions keep their other bits, that no byte is in two fields or two atoms, and that the bytes are one thing and
-//! exist, where all values fit (`atoms_are_placed_or_a_fault_exists`).
+//! The laws say that what was written reads back as the target (`fields_read_back`), that instructions keep their other
+//! bits, that no byte is in two fields or two atoms, and that the bytes are one thing and exist, where all values fit
+//! (`atoms_are_placed_or_a_fault_exists`).
 //!
 //! Refused are a body that adds an addend twice, one that cuts a branch out of reach to its lowest bits, and one that
 //! has written bytes before it answers a fault.
@@ -26,7 +25,6 @@ mod field;
 mod laws;
 mod meeting;
 mod met;
-mod order;
 mod range;
 
 pub use atom::patch_atom;
@@ -37,5 +35,4 @@ pub use laws::{
 };
 pub use meeting::Meeting;
 pub use met::{Met, RangeFault};
-pub use order::{fields_are_in_order, work_stands};
 pub use range::{PatchFault, PlacedWork, patch_range};

@@ -1,16 +1,15 @@
 //! The atoms of a piece of an image, with their fields.
 
-ghost use Rattle.std.specs.Prelude.{◌≡◌, ◌+◌, ◌≤◌, All, IfErr, IfOk, IsTrue, OnOk, None, length};
+ghost use Rattle.std.specs.Prelude.{◌≡◌, ◌+◌, ◌≤◌, All, IfErr, IfOk, OnOk, None, length};
 ghost use Rattle.std.specs.Ordering.{is_gt};
 ghost use Rattle.mo_types.specs.Keys.{compare_keys};
 ghost use Rattle.patch.specs.Patched.{AreFields, IsFirstFault};
-ghost use Rattle.patch.specs.Range.{AreStanding, HasFields, IsLeastFault, IsPatched, IsPlaced, IsSameBeside, IsStanding, bytes_of};
+ghost use Rattle.patch.specs.Range.{AreWork, HasFields, IsLeastFault, IsPatched, IsPlaced, IsSameBeside, IsStanding, bytes_of};
 ghost use Rattle.patch.specs.inner.Found.{IsBesideOne, IsLeastSo, IsOnePatched, lesser};
 
 use crate::atom::{patch_atom, write_fields};
 use crate::meeting::Meeting;
 use crate::met::{Met, RangeFault};
-use crate::order::fields_are_apart;
 use mo_types::{Atom, AtomKey, Loaded, LoadedFile, OutOfMemory};
 use std::alloc::Global;
 
@@ -31,7 +30,7 @@ pub struct PlacedWork {
 pub enum PatchFault {
     /// A value doesn't fit its field: the first one of the atom with the least key.
     Range { atom: AtomKey, fault: RangeFault },
-    /// Memory was asked for and refused, or the fields of an atom don't lie apart in its bytes.
+    /// Memory was asked for and refused.
     OutOfMemory,
 }
 
@@ -96,7 +95,7 @@ fn lesser(least: Option<Fault>, fault: Fault) -> Option<Fault>
 
 // The bytes of an atom, as its object has them.
 #[tactic(auto, unfolding(crate::specs::Range::bytes_of))]
-pub(crate) fn contents_of<'a>(files: &'a [LoadedFile], item: &PlacedWork) -> &'a [u8]
+fn contents_of<'a>(files: &'a [LoadedFile], item: &PlacedWork) -> &'a [u8]
     ensures { result.now ≡ bytes_of files.now item.now }
 {
     match files.get(item.file) {
@@ -144,22 +143,9 @@ fn place(
     patch_atom(bytes, item.address, mets)
 }
 
-// Whether the fields of an atom's references lie apart in its bytes.
-fn has_fields(
-    alloc: Global,
-    item: &PlacedWork,
-    files: &[LoadedFile],
-    mets: &[Met],
-) -> Result<bool, OutOfMemory>
-    ensures { IfOk result (λ apart. IsTrue apart → AreFields item.now.address (length (bytes_of files.now item.now)) mets.now) }
-{
-    fields_are_apart(alloc, item.address, contents_of(files, item).len(), mets)
-}
-
 // Writes the bytes of an atom whose references are met first, in place of those of the one before it.
 #[tactic(auto, using(crate::proofs::RangeLemmas::ones))]
 fn place_next<M: Meeting>(
-    alloc: Global,
     piece: &mut [u8],
     from: u64,
     item: &PlacedWork,
@@ -169,15 +155,12 @@ fn place_next<M: Meeting>(
 ) -> Result<(), Trouble>
     requires ready { M.ready meeting.now }
     requires standing { IsStanding files.now from (length piece.old) item.now }
+    requires fields { HasFields files.now (M.mets_of meeting.now) item.now }
     ensures beside { IsBesideOne files.now from item.now piece.old piece.new }
     ensures patched { IsOnePatched files.now (M.mets_of meeting.now) from piece.new item.now result }
 {
     met_for(meeting, item, last)?;
-    let mets = last.mets.as_slice();
-    if !has_fields(alloc, item, files, mets)? {
-        return Err(Trouble::OutOfMemory);
-    }
-    match place(piece, from, item, files, mets) {
+    match place(piece, from, item, files, last.mets.as_slice()) {
         Ok(()) => Ok(()),
         Err(fault) => Err(Trouble::Range(fault)),
     }
@@ -194,9 +177,8 @@ fn place_all<M: Meeting>(
     meeting: &M,
 ) -> Result<Option<Fault>, OutOfMemory>
     requires ready { M.ready meeting.now }
-    requires work { AreStanding files.now from (length piece.old) work.now }
+    requires work { AreWork files.now (M.mets_of meeting.now) from (length piece.old) work.now }
     ensures beside { IsSameBeside files.now from work.now piece.old piece.new }
-    ensures fields { IfOk result (λ least. All (HasFields files.now (M.mets_of meeting.now)) work.now) }
     ensures placed { IfOk result (λ least. least ≡ None → All (IsPlaced files.now (M.mets_of meeting.now) from piece.new) work.now) }
     ensures fault { IfOk result (λ least. IsLeastSo files.now (M.mets_of meeting.now) work.now least) }
 {
@@ -206,7 +188,7 @@ fn place_all<M: Meeting>(
         next: 0,
     };
     for item in work {
-        match place_next(alloc, piece, from, item, files, meeting, &mut last) {
+        match place_next(piece, from, item, files, meeting, &mut last) {
             Ok(()) => {}
             Err(Trouble::Range(fault)) => {
                 let key = item.atom.key;
@@ -222,8 +204,7 @@ fn place_all<M: Meeting>(
 /// a piece of an image that begins at the offset `from` of its file, and leaves all other bytes.
 ///
 /// Where values don't fit their fields, it answers the first one of the atom with the least key; the bytes of the
-/// atoms' places are unstated then. It takes memory for the references of one atom at a time. Fields that don't lie
-/// apart in their atom's bytes are answered as want of memory.
+/// atoms' places are unstated then. It takes memory for the references of one atom at a time.
 #[tactic(auto, using(crate::proofs::RangeLemmas::answers))]
 pub fn patch_range<M: Meeting>(
     alloc: Global,
@@ -234,7 +215,7 @@ pub fn patch_range<M: Meeting>(
     meeting: &M,
 ) -> Result<(), PatchFault>
     requires ready { M.ready meeting.now }
-    requires work { AreStanding loaded.now.files from (length piece.old) work.now }
+    requires work { AreWork loaded.now.files (M.mets_of meeting.now) from (length piece.old) work.now }
     ensures beside { IsSameBeside loaded.now.files from work.now piece.old piece.new }
     ensures patched { IsPatched loaded.now.files (M.mets_of meeting.now) from work.now piece.new result }
 {

@@ -9,7 +9,7 @@ use Rattle.patch.specs.declared.range.Trouble.{Trouble}
 use Rattle.patch.specs.declared.range.Trouble.TheVariants.{Range, OutOfMemory}
 use Rattle.patch.specs.declared.range.PlacedWork.{PlacedWork}
 use Rattle.patch.specs.Patched.{IsFirstFault}
-use Rattle.patch.specs.Range.{AllFit, HasFields, IsBeside, IsLeastFault, IsPlaced, bytes_of}
+use Rattle.patch.specs.Range.{AllFit, IsBeside, IsLeastFault, IsPlaced, bytes_of}
 
 -- the fault of the lesser key, or the earlier one
 abbrev pub lesser : Option Fault → Fault → Option Fault
@@ -28,6 +28,6 @@ IsLeastSo files mets work (Some fault) = IsLeastFault files mets work fault.key 
 
 -- what placing one atom answers
 abbrev pub IsOnePatched : List LoadedFile → (PlacedWork → List Met) → ℕ → List ℕ → PlacedWork → Result (Unit {0}) Trouble → Type 0
-IsOnePatched files mets from new item (Ok done) = HasFields files mets item × IsPlaced files mets from new item
-IsOnePatched files mets from new item (Err (Range fault)) = HasFields files mets item × IsFirstFault item.address (bytes_of files item) (mets item) fault
+IsOnePatched files mets from new item (Ok done) = IsPlaced files mets from new item
+IsOnePatched files mets from new item (Err (Range fault)) = IsFirstFault item.address (bytes_of files item) (mets item) fault
 IsOnePatched files mets from new item (Err OutOfMemory) = Unit {0}

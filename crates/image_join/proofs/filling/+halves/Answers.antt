@@ -1,6 +1,6 @@
 use Rattle.std.proofs.Common.{rules, length, subst, sym}
 use denote.Param.Send.{sendable}
-use Rattle.patch.specs.Range.{AreStanding}
+use Rattle.patch.specs.Range.{AreWork}
 use Rattle.image_join.specs.inner.Halves.{IsFilled}
 use Rattle.image_join.proofs.HalfLemmas.{halves_filled, high_work, is_cut, low_work}
 use Rattle.image_join.proofs.filling.+halves.Goals as goal
@@ -18,10 +18,10 @@ join_mut-low-requires-after_bounds g t c κs within =
     let front = c.split_at_mut-front.result.0.now in
     let back = c.split_at_mut-front.result.1.now in
     let cut = is_cut files mets from size work behind at _ c.requires.work c.cut_of.ensures.1 c.split_at.ensures.back in
-    let low : AreStanding files from (length front) before =
-    subst (AreStanding files from (length front)) (sym c.split_at.ensures.front) (low_work files mets from size work at _ (length front) cut c.split_at_mut-front.ensures.front_len) in
-    let high : AreStanding files _ (length back) behind =
-    subst (AreStanding files _ (length back)) (sym c.split_at.ensures.back) (high_work files mets from size work at _ (length back) cut c.split_at_mut-front.ensures.back_len) in
+    let low : AreWork files mets from (length front) before =
+    subst (AreWork files mets from (length front)) (sym c.split_at.ensures.front) (low_work files mets from size work at _ (length front) cut c.split_at_mut-front.ensures.front_len) in
+    let high : AreWork files mets _ (length back) behind =
+    subst (AreWork files mets _ (length back)) (sym c.split_at.ensures.back) (high_work files mets from size work at _ (length back) cut c.split_at_mut-front.ensures.back_len) in
     search (rules, sendable) depth 20
 
 pub returns : goal.returns

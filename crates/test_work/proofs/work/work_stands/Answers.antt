@@ -1,5 +1,5 @@
-use Rattle.patch.proofs.OrderLemmas.{work_of}
-use Rattle.patch.proofs.order.work_stands.Goals as goal
+use Rattle.test_work.proofs.OrderLemmas.{work_of}
+use Rattle.test_work.proofs.work.work_stands.Goals as goal
 
 pub returns : goal.returns
 returns c = (

@@ -1,6 +1,6 @@
 use Rattle.std.proofs.Common.{arith}
-use Rattle.patch.proofs.OrderLemmas.{rising_fields}
-use Rattle.patch.proofs.order.fields_are_in_order.Goals as goal
+use Rattle.test_work.proofs.OrderLemmas.{rising_fields}
+use Rattle.test_work.proofs.fields.fields_are_in_order.Goals as goal
 
 pub returns-then-rise : goal.returns-then-rise
 returns-then-rise c = (

@@ -1,14 +1,17 @@
 -- Lists in an order, of which neighbours are asked.
 use Rattle.std.proofs.Common.{◌≡◌, ℕ, zero, suc, ◌+◌, ◌-◌, ◌<◌, ◌≤◌, ◌^◌, List, length, get_or, inl, inr, sym, subst, arith}
+use borrow.Author.Count.{below_more}
 use Rattle.std.specs.Prelude.{All}
 use Rattle.std.specs.List.{AllPairs}
 use Rattle.std.proofs.lemmas.Bool.{cases_eq}
+use Rattle.std.proofs.lemmas.List.Elements.{at_read}
 use Rattle.mo_types.specs.declared.loaded.LoadedFile.{LoadedFile}
 use Rattle.patch.specs.declared.met.Met.{Met}
 use Rattle.patch.specs.declared.range.PlacedWork.{PlacedWork}
-use Rattle.patch.specs.Order.{AreFieldsInOrder, IsAfter, IsBefore, StandsBefore}
+use Rattle.patch.specs.Order.{StandsBefore}
 use Rattle.patch.specs.Range.{AreStanding, IsStanding}
 use Rattle.patch.specs.Patched.{size_of}
+use Rattle.test_work.specs.Order.{AreFieldsInOrder, IsAfter, IsBefore}
 
 -- neighbours before a place keep an order
 pub record AreSteps {X : Type 0} (R : X → X → Type 0) (xs : List X) (at : ℕ) : Type 0 where
@@ -66,3 +69,19 @@ falling_fields address size mets addresses within falling = record {
 
 pub work_of : (files : List LoadedFile) (from size : ℕ) (work : List PlacedWork) → All (IsStanding files from size) work → AllPairs (StandsBefore files) work → AreStanding files from size work
 work_of files from size work items in_order = record { items = items; in_order = in_order }
+
+-- ---- what holds of the elements before a place
+
+pub record AllBefore {X : Type 0} (P : X → Type 0) (xs : List X) (at : ℕ) : Type 0 where
+  pub each : (k : ℕ) (d : X) → k < at → P (get_or xs k d)
+
+pub none_before : {X : Type 0} (P : X → Type 0) (xs : List X) → AllBefore P xs 0
+none_before P xs = record { each = λ k d low. absurd (omega arith) }
+
+pub one_more_before : {X : Type 0} (P : X → Type 0) (xs : List X) (at : ℕ) (x : X) → AllBefore P xs at → at < length xs → x ≡ get_or xs at x → P x → AllBefore P xs (at + 1)
+one_more_before {X = X} P xs at x before within is holds = record {
+  each = λ k d low. below_more (λ j. (e : X) → P (get_or xs j e)) at (λ j less e. before.each j e less) (λ e. at_read xs P at x within is holds e) k low d;
+}
+
+pub all_before : {X : Type 0} (P : X → Type 0) (xs : List X) (at : ℕ) → AllBefore P xs at → length xs ≤ at → All P xs
+all_before P xs at before past = λ k d low. before.each k d (omega arith)
