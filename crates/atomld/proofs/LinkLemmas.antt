@@ -3,7 +3,7 @@ use Rattle.std.proofs.Common.{◌≡◌, ◌≢◌, ℕ, List, [], Ok, sym, subs
 use Rattle.file_cache.proofs.RunLemmas.{told_gave}
 use Rattle.file_cache.specs.Kept.{FilesSeen}
 use Rattle.file_cache.specs.Runs.{AreNew, file_told, paths_in}
-use Rattle.loader_laws.proofs.Fetched.{map_bytes}
+use Rattle.link_engine.proofs.FetchedLemmas.{map_bytes}
 use Rattle.loader_laws.proofs.FileLinks.{plan_links}
 use Rattle.mo_outside.specs.Answers.{Answer, Exchange}
 use Rattle.mo_types.specs.Answer.{code_of}

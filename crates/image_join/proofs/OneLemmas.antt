@@ -18,7 +18,7 @@ use Rattle.patch.specs.declared.met.RangeFault.{RangeFault}
 use Rattle.patch.specs.declared.range.PlacedWork.{PlacedWork}
 use Rattle.patch.specs.Field.{field_of}
 use Rattle.patch.specs.Patched.{AreApart, AreFields, Fits, IsFirstAtFault, IsFirstFault}
-use Rattle.patch.specs.Range.{AllFit, AreStanding, HasFields, IsBeside, IsLeastFault, IsPlaced, IsSameBeside, IsUpTo, bytes_of, part_of}
+use Rattle.patch.specs.Range.{AllFit, AreStanding, HasBytes, HasFields, IsBeside, IsLeastFault, IsPlaced, IsSameBeside, IsUpTo, bytes_of, part_of}
 use Rattle.patch.proofs.OneLemmas.{by_element, one_patch}
 use Rattle.patch.proofs.WriteLemmas.{four_at_least}
 
@@ -33,11 +33,6 @@ in_or_beside files from k item = elim (cases_lt (from + k) item.at) [
   ]
 ]
 
-part_is_bytes : (files : List LoadedFile) (from : ℕ) (item : PlacedWork) (image : List ℕ) → All (λ byte. byte < 256) image → All (λ byte. byte < 256) (part_of files from item image)
-unfolding part_of
-part_is_bytes files from item image all =
-    All-take (λ (byte : ℕ). byte < 256) (length (bytes_of files item)) (drop (item.at - from) image) (All-drop (λ (byte : ℕ). byte < 256) (item.at - from) image all)
-
 byte_of_part : (files : List LoadedFile) (from k : ℕ) (item : PlacedWork) (image : List ℕ) → from ≤ item.at → item.at ≤ from + k → from + k < item.at + length (bytes_of files item) → slice_index (part_of files from item image) (from + k - item.at) ≡ slice_index image k
 unfolding part_of
 byte_of_part files from k item image begins low high =
@@ -46,21 +41,21 @@ byte_of_part files from k item image begins low high =
     ∙ get_or-drop (item.at - from) image (from + k - item.at) 0
     ∙ ap (λ (j : ℕ). slice_index image j) there
 
-byte_of_atom : (files : List LoadedFile) (mets : PlacedWork → List Met) (from k : ℕ) (item : PlacedWork) (a b : List ℕ) → from ≤ item.at → All (λ byte. byte < 256) a → All (λ byte. byte < 256) b → IsPlaced files mets from a item → IsPlaced files mets from b item → item.at ≤ from + k → from + k < item.at + length (bytes_of files item) → slice_index a k ≡ slice_index b k
+byte_of_atom : (files : List LoadedFile) (mets : PlacedWork → List Met) (from k : ℕ) (item : PlacedWork) (a b : List ℕ) → from ≤ item.at → HasBytes files from a item → HasBytes files from b item → IsPlaced files mets from a item → IsPlaced files mets from b item → item.at ≤ from + k → from + k < item.at + length (bytes_of files item) → slice_index a k ≡ slice_index b k
 byte_of_atom files mets from k item a b begins low_a low_b first second low high =
     let same : part_of files from item a ≡ part_of files from item b =
-    one_patch item.address (mets item) (bytes_of files item) (part_of files from item a) (part_of files from item b) (part_is_bytes files from item a low_a) (part_is_bytes files from item b low_b) first second in
+    one_patch item.address (mets item) (bytes_of files item) (part_of files from item a) (part_of files from item b) low_a low_b first second in
     sym (byte_of_part files from k item a begins low high)
     ∙ ap (λ (part : List ℕ). slice_index part (from + k - item.at)) same
     ∙ byte_of_part files from k item b begins low high
 
-pub one_image : (files : List LoadedFile) (mets : PlacedWork → List Met) (from : ℕ) (work : List PlacedWork) (old a b : List ℕ) → AreStanding files from (length old) work → All (λ byte. byte < 256) a → All (λ byte. byte < 256) b → IsSameBeside files from work old a → All (IsPlaced files mets from a) work → IsSameBeside files from work old b → All (IsPlaced files mets from b) work → a ≡ b
+pub one_image : (files : List LoadedFile) (mets : PlacedWork → List Met) (from : ℕ) (work : List PlacedWork) (old a b : List ℕ) → AreStanding files from (length old) work → All (HasBytes files from a) work → All (HasBytes files from b) work → IsSameBeside files from work old a → All (IsPlaced files mets from a) work → IsSameBeside files from work old b → All (IsPlaced files mets from b) work → a ≡ b
 one_image files mets from work old a b are low_a low_b beside_a placed_a beside_b placed_b = ext_get_or 0 a b (beside_a.size ∙ sym beside_b.size) byte
   where
     byte : (k : ℕ) → k < length a → slice_index a k ≡ slice_index b k
     byte k within =
         by_element (λ item. (item.at ≤ from + k) × (from + k < item.at + length (bytes_of files item))) (IsBeside files from k) (slice_index a k ≡ slice_index b k) (in_or_beside files from k) work
-        (λ j d low inside. byte_of_atom files mets from k (get_or work j d) a b (are.items j d low).begins low_a low_b (placed_a j d low) (placed_b j d low) inside.0 inside.1)
+        (λ j d low inside. byte_of_atom files mets from k (get_or work j d) a b (are.items j d low).begins (low_a j d low) (low_b j d low) (placed_a j d low) (placed_b j d low) inside.0 inside.1)
         (λ out. beside_a.others k out ∙ sym (beside_b.others k out))
 
 -- ---- keys of which neither is above the other

@@ -1,13 +1,13 @@
 //! What holds of the definitions. Each function is a law, which its contract states, and does nothing.
 
-ghost use Rattle.std.specs.Prelude.{ℕ, List, ◌<◌, ◌≡◌, ◌≢◌, All, length};
+ghost use Rattle.std.specs.Prelude.{ℕ, List, ◌≡◌, ◌≢◌, All, length};
 ghost use Rattle.std.specs.List.{AllPairs};
 ghost use Rattle.mo_types.specs.declared.key.AtomKey.{AtomKey};
 ghost use Rattle.mo_types.specs.declared.loaded.LoadedFile.{LoadedFile};
 ghost use Rattle.patch.specs.declared.met.Met.{Met};
 ghost use Rattle.patch.specs.declared.met.RangeFault.{RangeFault};
 ghost use Rattle.patch.specs.declared.range.PlacedWork.{PlacedWork};
-ghost use Rattle.patch.specs.Range.{AreStanding, HasFields, IsLeastFault, IsPlaced, IsSameBeside};
+ghost use Rattle.patch.specs.Range.{AreStanding, HasBytes, HasFields, IsLeastFault, IsPlaced, IsSameBeside};
 ghost use Rattle.image_join.specs.Joined.{IsJoined, LieApart, joined};
 ghost use Rattle.image_join.specs.declared.parts.Parts.{Parts};
 
@@ -23,7 +23,7 @@ pub fn parts_are_one_image()
 /// each atom stands with its fields and every other byte is as it was are the same.
 pub fn filled_images_are_one()
     ensures { (files : List LoadedFile) (mets : PlacedWork → List Met) (from : ℕ) (work : List PlacedWork) (old a b : List ℕ)
-        → AreStanding files from (length old) work → All (λ byte. byte < 256) a → All (λ byte. byte < 256) b
+        → AreStanding files from (length old) work → All (HasBytes files from a) work → All (HasBytes files from b) work
         → IsSameBeside files from work old a → All (IsPlaced files mets from a) work
         → IsSameBeside files from work old b → All (IsPlaced files mets from b) work → a ≡ b }
 {}

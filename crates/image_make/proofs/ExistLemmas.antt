@@ -23,18 +23,14 @@ use Rattle.sect_place.specs.Layout.{image_places, image_sections, image_segments
 use Rattle.sect_place.specs.declared.layout.Layout.{Layout}
 use Rattle.sect_place.specs.declared.layout.Placed.{Placed}
 use Rattle.sect_place.specs.declared.size.PlaceFault.TheVariants.{ImageSize}
-use Rattle.image_join.specs.Joined.{byte_at, covers, joined}
-use Rattle.image_join.specs.declared.parts.Part.{Part}
-use Rattle.image_join.specs.declared.parts.Parts.{Parts}
-use Rattle.image_join.proofs.JoinedLemmas.{byte_here, byte_of_joined, byte_past, length-joined}
-use Rattle.patch.specs.Range.{IsLeastFault, IsPlaced, IsSameBeside, bytes_of}
+use Rattle.patch.specs.Range.{HasBytes, IsLeastFault, IsPlaced, IsSameBeside, bytes_of}
 use Rattle.patch.specs.declared.met.RangeFault.{RangeFault}
 use Rattle.patch.specs.declared.range.PlacedWork.{PlacedWork}
 use Rattle.patch.proofs.ChosenLemmas.{in_slice}
 use Rattle.patch.proofs.ExistLemmas.{AreBytes, all_from_bytes, bytes_from_all, bytes_left, bytes_taken, placed_or_fault}
 use Rattle.image_make.specs.Atoms.{AreLow, AreRising}
-use Rattle.image_make.specs.Made.{IsLaid, IsMade, ImageInputs, blank, blank_of, file_end, front_of, kept_of, mets_of, plan_for, rows_of}
-use Rattle.image_make.specs.Whole.{AreBytesIn, HasFront}
+use Rattle.image_make.specs.Made.{IsLaid, IsMade, ImageInputs, blank, kept_of, mets_of, plan_for, rows_of}
+use Rattle.image_make.specs.Whole.{AreBytesIn}
 use Rattle.image_make.specs.declared.fault.MakeFault.{MakeFault}
 use Rattle.image_make.specs.declared.fault.MakeFault.TheVariants.{Place, Range}
 use Rattle.image_make.proofs.WorkLemmas.{are_work}
@@ -49,29 +45,6 @@ a_layout m small =
     )
 
 -- ---- bytes
-
-part_bytes : (part : Part) (place : ℕ) → AreBytes part.bytes → byte_at (part ∷ []) place < 256
-unfolding byte_at
-part_bytes part place low = elim (cases_Bool (covers place part)) [
-  | inl here ↦ let is = byte_here part [] place here in let small = low (place - part.from) in omega (arith, is, small)
-  | inr away ↦ let is = byte_past part [] place away in let none : byte_at [] place ≡ 0 = refl in omega (arith, is, none)
-]
-
-blank_bytes : (front : List ℕ) (layout : Layout) → All (λ byte. byte < 256) front → All (λ byte. byte < 256) (blank_of front layout)
-unfolding blank_of
-blank_bytes front layout low = all_from_bytes (joined parts) each
-  where
-    part : Part
-    part = record { from = 0; bytes = front }
-
-    parts : Parts
-    parts = record { size = file_end layout.segments; parts = part ∷ [] }
-
-    each : AreBytes (joined parts)
-    each k = elim (cases_lt k (file_end layout.segments)) [
-      | inl within ↦ let is = byte_of_joined parts k within in let small = part_bytes part k (bytes_from_all front low) in omega (arith, is, small)
-      | inr past ↦ let none : slice_index (joined parts) k ≡ 0 = get_or_past (joined parts) k 0 (omega (arith, past, length-joined parts)) in omega (arith, none)
-    ]
 
 numbered_in : (sections : List Section) (number : ℕ) (section : Section) → section_numbered sections number ≡ Some section → In section sections
 numbered_in sections number section is = by (number == 0) is
@@ -108,20 +81,19 @@ IsAnswered m =
     ⊎ (((value : ℤ) × IsMade m (Err (Place (ImageSize value))))
     ⊎ ((key : AtomKey) × (fault : RangeFault) × IsMade m (Err (Range key fault))))
 
-pub answered : (m : ImageInputs) → All IsWholeFile m.files → AreBytesIn m.files → AreRising (kept_of m) → AreLow (kept_of m) → HasFront m → IsAnswered m
-answered m whole bytes rising low front = elim (cases_lt (image_size (plan_for m)) (2 ^ 32)) [
+pub answered : (m : ImageInputs) → All IsWholeFile m.files → AreBytesIn m.files → AreRising (kept_of m) → AreLow (kept_of m) → IsAnswered m
+answered m whole bytes rising low = elim (cases_lt (image_size (plan_for m)) (2 ^ 32)) [
   | inl small ↦ laid (a_layout m small)
   | inr many ↦ inr (inl (pos (image_size (plan_for m)), (many, refl)))
 ]
   where
     laid : (layout : Layout) × IsLaid m layout → IsAnswered m
     laid (layout, is) = by (placed_or_fault m.files (mets_of m layout) 0 (rows_of m layout) (blank m layout) work
-        (All-from_recursion (λ (row : PlacedWork). All (λ byte. byte < 256) (bytes_of m.files row)) (rows_of m layout) (all_from_in (λ (row : PlacedWork). All (λ byte. byte < 256) (bytes_of m.files row)) (rows_of m layout) (λ row h. row_bytes m.files row bytes)))
-        (blank_bytes (front_of m layout) layout (front layout is)))
+        (All-from_recursion (λ (row : PlacedWork). All (λ byte. byte < 256) (bytes_of m.files row)) (rows_of m layout) (all_from_in (λ (row : PlacedWork). All (λ byte. byte < 256) (bytes_of m.files row)) (rows_of m layout) (λ row h. row_bytes m.files row bytes))))
       where
         work : Rattle.patch.specs.Range.AreWork m.files (mets_of m layout) 0 (length (blank m layout)) (rows_of m layout)
         work = are_work m layout whole rising low is
 
-        by : ((new : List ℕ) × IsSameBeside m.files 0 (rows_of m layout) (blank m layout) new × All (IsPlaced m.files (mets_of m layout) 0 new) (rows_of m layout) × All (λ byte. byte < 256) new) ⊎ ((key : AtomKey) × (fault : RangeFault) × IsLeastFault m.files (mets_of m layout) (rows_of m layout) key fault) → IsAnswered m
+        by : ((new : List ℕ) × IsSameBeside m.files 0 (rows_of m layout) (blank m layout) new × All (IsPlaced m.files (mets_of m layout) 0 new) (rows_of m layout) × All (HasBytes m.files 0 new) (rows_of m layout)) ⊎ ((key : AtomKey) × (fault : RangeFault) × IsLeastFault m.files (mets_of m layout) (rows_of m layout) key fault) → IsAnswered m
         by (inl (new, beside, placed, low)) = inl (new, (layout, is, record { work = work; beside = beside; placed = placed; bytes = low }))
         by (inr (key, fault, least)) = inr (inr (key, fault, (layout, is, work, least)))

@@ -2,7 +2,7 @@
 ghost use Rattle.std.specs.Prelude.{ℕ, ℤ, ◌⊎◌, All, Err, List, Ok, length};
 ghost use Rattle.image_make.specs.Atoms.{AreLow, AreRising};
 ghost use Rattle.image_make.specs.Made.{IsLaid, IsMade, ImageInputs, blank, kept_of, mets_of, rows_of};
-ghost use Rattle.image_make.specs.Whole.{AreBytesIn, HasFront};
+ghost use Rattle.image_make.specs.Whole.{AreBytesIn};
 ghost use Rattle.image_make.specs.declared.fault.MakeFault.TheVariants.{Place, Range};
 ghost use Rattle.mo_types.specs.Loaded.{IsWholeFile};
 ghost use Rattle.mo_types.specs.declared.key.AtomKey.{AtomKey};
@@ -19,7 +19,7 @@ pub fn what_is_laid_is_work()
 
 /// There is an image, or the reason why there is none: too many bytes, or a value that doesn't fit its field.
 pub fn an_image_or_a_fault_exists()
-    ensures { (m : ImageInputs) → All IsWholeFile m.files → AreBytesIn m.files → AreRising (kept_of m) → AreLow (kept_of m) → HasFront m
+    ensures { (m : ImageInputs) → All IsWholeFile m.files → AreBytesIn m.files → AreRising (kept_of m) → AreLow (kept_of m)
         → ((image : List ℕ) × IsMade m (Ok image))
         ⊎ (((value : ℤ) × IsMade m (Err (Place (ImageSize value))))
         ⊎ ((key : AtomKey) × (fault : RangeFault) × IsMade m (Err (Range key fault)))) }

@@ -147,28 +147,34 @@ named_here : (count least : ℕ) (named : NamedStub) → least ≤ named.positio
 named_here count least named low high are = named_by count least named low high are.some are.few
 
 named_from : (count least : ℕ) (inputs : List Input) (openings : List Opening) → openings_of inputs ≡ Ok openings → IsStrictlySortedBy nat_cmp (places inputs) → AllByRecursion (λ p. least ≤ p) (places inputs) → ((input : Input) → In input inputs → input.position < count)
-    → ((one : Opening) → In one openings → IsSound one) → are_named count least (filter_map stubs_in openings) ≡ true
+    → are_named count least (filter_map stubs_in openings) ≡ true
 unfolding IsStrictlySortedBy
-named_from count least [] [] is order low high sound = refl
-named_from count least [] (one ∷ openings) is order low high sound = absurd (nothing_read one openings is)
-named_from count least (input ∷ inputs) [] is order low high sound = refl
-named_from count least (input ∷ inputs) (one ∷ openings) is order low high sound =
+named_from count least [] [] is order low high = refl
+named_from count least [] (one ∷ openings) is order low high = absurd (nothing_read one openings is)
+named_from count least (input ∷ inputs) [] is order low high = refl
+named_from count least (input ∷ inputs) (one ∷ openings) is order low high =
     let so = first_read input inputs one openings is in
-    by one (place_kept input one so.0) (sound one (inl refl))
-    (λ from later. named_from count from inputs openings so.1 order.1 later (λ i there. high i (inr there)) (λ o there. sound o (inr there)))
+    by one (place_kept input one so.0) (opening_known input one so.0)
+    (λ from later. named_from count from inputs openings so.1 order.1 later (λ i there. high i (inr there)))
   where
-    by : (one : Opening) → place_of one ≡ input.position → IsSound one → ((from : ℕ) → AllByRecursion (λ p. from ≤ p) (places inputs) → are_named count from (filter_map stubs_in openings) ≡ true) → are_named count least (filter_map stubs_in (one ∷ openings)) ≡ true
-    by (opening.Object i file) same so rest = rest least low.1
-    by (opening.Archive i archive) same so rest = rest least low.1
-    by (opening.Stubs named) same so rest =
+    by : (one : Opening) → place_of one ≡ input.position → IsKnown one → ((from : ℕ) → AllByRecursion (λ p. from ≤ p) (places inputs) → are_named count from (filter_map stubs_in openings) ≡ true) → are_named count least (filter_map stubs_in (one ∷ openings)) ≡ true
+    by (opening.Object i file) same known rest = rest least low.1
+    by (opening.Archive i archive) same known rest = rest least low.1
+    by (opening.Stubs named) same known rest =
         let here : input.position < count = high input (inl refl) in
         let from : least ≤ input.position = low.0 in
-        rw (named_here count least named (omega (arith, same, from)) (omega (arith, same, here)) so)
+        rw (named_here count least named (omega (arith, same, from)) (omega (arith, same, here)) known)
         (rest (named.position + 1) (all_weaker (λ q. nat_cmp input.position q ≡ Less) (λ q. named.position + 1 ≤ q) (λ q less. omega (arith, same, below input.position q less)) (places inputs) order.0))
 
 all_low : (ps : List ℕ) → AllByRecursion (λ p. 0 ≤ p) ps
 all_low [] = tt
 all_low (p ∷ ps) = (omega arith, all_low ps)
+
+pub stubs_named : (inputs : List Input) (contents : Contents) (count : ℕ) → AreInOrder inputs → All (λ (input : Input). input.position < count) inputs → contents_of inputs ≡ Ok contents → are_named count 0 contents.stubs ≡ true
+stubs_named inputs contents count order high is =
+    let read = contents_read inputs contents is in
+    subst (λ (c : Contents). are_named count 0 c.stubs ≡ true) read.2
+    (named_from count 0 inputs read.0 read.1 order (all_low (places inputs)) (λ input there. all_has (λ (i : Input). i.position < count) inputs input high there))
 
 -- ---- what was opened
 
@@ -192,9 +198,7 @@ opened_objects inputs openings opened read sound is =
       whole = subst (λ (fs : List LoadedFile). All IsWholeFile fs) (sym files) (all_from IsWholeFile (filter_map object_in openings) (λ file there. all_in IsWholeFile (filter_map object_in openings) file (files_whole openings known) there));
     }
 
-pub opened_named : (inputs : List Input) (openings : List Opening) (opened : Opened) → AreInOrder inputs → openings_of inputs ≡ Ok openings → All IsSound openings → contents_as opened ≡ contents_in openings → (count : ℕ) → All (λ (input : Input). input.position < count) inputs → are_named count 0 opened.stubs ≡ true
-opened_named inputs openings opened order read sound is count high =
-    ap (λ (c : Contents). are_named count 0 c.stubs) is
-    ∙ named_from count 0 inputs openings read order (all_low (places inputs)) (λ input there. all_has (λ (i : Input). i.position < count) inputs input high there) (λ one there. all_has IsSound openings one sound there)
+pub opened_named : (inputs : List Input) (openings : List Opening) (opened : Opened) → AreInOrder inputs → openings_of inputs ≡ Ok openings → contents_as opened ≡ contents_in openings → (count : ℕ) → All (λ (input : Input). input.position < count) inputs → are_named count 0 opened.stubs ≡ true
+opened_named inputs openings opened order read is count high = stubs_named inputs (contents_as opened) count order high (opened_exact inputs openings opened read is)
 
 pub ruleset opens = (opened_exact, opened_fails, opened_order, opened_objects, opened_named)

@@ -1,9 +1,11 @@
 -- What an input is stands at its place and is known of its bytes, and what isn't read has a fault of its own.
-use Rattle.std.proofs.Common.{◌≡◌, ℕ, ◌^◌, nat_le, Bool, true, false, List, length, None, Some, Result, Ok, Err, IfErr, refl, subst}
+use Rattle.std.proofs.Common.{◌≡◌, ℕ, ◌<◌, ◌^◌, nat_le, Bool, true, false, List, length, None, Some, Result, Ok, Err, IfErr, refl, subst, arith, tests}
 use Rattle.std.specs.Prelude.{if◌then◌else◌}
 use Rattle.mo_types.specs.Kind.{kind_of}
+use Rattle.mo_types.specs.declared.answer.Refusal.TheVariants as refusal
 use Rattle.mo_types.specs.declared.cause.Feature.{Feature}
 use Rattle.mo_types.specs.declared.cause.Feature.TheVariants as feature
+use Rattle.mo_types.specs.declared.cause.Which.TheVariants.{FileBytes}
 use Rattle.mo_types.specs.declared.key.FileId.{FileId}
 use Rattle.mo_types.specs.declared.kind.Kind.{Kind}
 use Rattle.mo_types.specs.declared.kind.Kind.TheVariants as kind
@@ -33,13 +35,15 @@ use Rattle.lib_bind.specs.Reexported.{IsFileFault, of_stub, of_text, stub_text, 
 use Rattle.input_files.specs.Files.{archive_in as archive_held, IsLoadFault, id_at, in_form, object_read, read_as, read_by}
 use Rattle.input_files.specs.Form.{is_later}
 use Rattle.input_files.specs.declared.fault.LoadFault.{LoadFault}
+use Rattle.input_files.specs.declared.fault.LoadFault.TheVariants as load
 use Rattle.input_files.specs.declared.input.Input.{Input}
 use Rattle.input_read.specs.Opening.{archive_in, object_in, opened_archive, opened_by, opened_object, opened_slice, opening_of, slice_by, slice_in, stubs_in, universal_in}
+use Rattle.input_read.specs.Sound.{AreDocuments}
 use Rattle.input_read.specs.declared.opening.Opening.{Opening}
 use Rattle.input_read.specs.declared.opening.Opening.TheVariants as opening
 use Rattle.input_read.proofs.ArchiveLemmas.{archive_faulty}
 use Rattle.input_read.proofs.FaultLemmas.{either, then_real}
-use Rattle.input_read.proofs.SoundLemmas.{archive_sound, no_archive}
+use Rattle.input_read.proofs.SoundLemmas.{archive_sound, no_archive, stub_sound}
 use Rattle.input_read.proofs.TextLemmas.{file_faulty, stubs_faulty}
 
 -- the position of what an input is
@@ -52,7 +56,7 @@ place_of (opening.Stubs named) = named.position
 abbrev pub IsKnown : Opening → Type 0
 IsKnown (opening.Object input file) = (archive_held input ≡ None) × (read_as (id_at input 0) input.label input.bytes ≡ Ok file)
 IsKnown (opening.Archive input archive) = archive_held input ≡ Some archive
-IsKnown (opening.Stubs named) = Unit {0}
+IsKnown (opening.Stubs named) = AreDocuments named.file.docs
 
 -- an answer for an input at a position
 abbrev Fine : ℕ → Result Opening LoadFault → Type 0
@@ -184,30 +188,36 @@ stub_faulty : (bytes : List ℕ) → IfErr (stub_text bytes) IsFileFault
 unfolding stub_text
 stub_faulty bytes = then_real IsFileFault (text_of bytes) stubs_of (text_faulty bytes) docs_faulty
 
-stubs_fine : (input : Input) (r : Result StubFile ObjFault) → IfErr r IsFileFault → Fine input.position (stubs_in input r)
-stubs_fine input (Ok file) is = (refl, tt)
-stubs_fine input (Err (fault.Malformed place rule)) is = tt
-stubs_fine input (Err (fault.Unsupported feature)) is = tt
-stubs_fine input (Err (fault.Limit which)) is = tt
-stubs_fine input (Err fault.OutOfMemory) is = absurd is
+stubs_fine : (input : Input) → length input.bytes < 2 ^ 30 → kind_of input.bytes ≡ kind.Stub → Fine input.position (stubs_in input (stub_text input.bytes))
+stubs_fine input few told = by (stub_text input.bytes) refl (stub_faulty input.bytes)
+  where
+    by : (r : Result StubFile ObjFault) → stub_text input.bytes ≡ r → IfErr r IsFileFault → Fine input.position (stubs_in input r)
+    by (Ok file) e is = (refl, stub_sound input.bytes file few told e)
+    by (Err (fault.Malformed place rule)) e is = tt
+    by (Err (fault.Unsupported feature)) e is = tt
+    by (Err (fault.Limit which)) e is = tt
+    by (Err fault.OutOfMemory) e is = absurd is
 
 -- ---- inputs
 
-kind_fine : (input : Input) (k : Kind) → kind_of input.bytes ≡ k → Fine input.position (opened_by k input)
-kind_fine input kind.MachO e = object_fine input e
-kind_fine input kind.Archive e = archive_fine input e
-kind_fine input kind.Universal e = universal_fine input (slice_of input.bytes)
-kind_fine input kind.Stub e = stubs_fine input (stub_text input.bytes) (stub_faulty input.bytes)
-kind_fine input kind.NotAnInput e = tt
-kind_fine input (kind.Refused what) e = tt
+kind_fine : (input : Input) (k : Kind) → length input.bytes < 2 ^ 30 → kind_of input.bytes ≡ k → Fine input.position (opened_by k input)
+kind_fine input kind.MachO few e = object_fine input e
+kind_fine input kind.Archive few e = archive_fine input e
+kind_fine input kind.Universal few e = universal_fine input (slice_of input.bytes)
+kind_fine input kind.Stub few e = stubs_fine input few e
+kind_fine input kind.NotAnInput few e = tt
+kind_fine input (kind.Refused what) few e = tt
 
-fine_either : (position : ℕ) (test : Bool) (a b : Result Opening LoadFault) → Fine position a → Fine position b → Fine position (if test then a else b)
-fine_either position true a b one other = one
-fine_either position false a b one other = other
+few_bytes : (n : ℕ) → nat_le (2 ^ 30) n ≡ false → n < 2 ^ 30
+few_bytes n is = grind (arith, tests)
 
 fine : (input : Input) → Fine input.position (opening_of input)
 unfolding opening_of
-fine input = fine_either input.position (nat_le (2 ^ 30) (length input.bytes)) _ (opened_by (kind_of input.bytes) input) tt (kind_fine input (kind_of input.bytes) refl)
+fine input = by (nat_le (2 ^ 30) (length input.bytes)) refl
+  where
+    by : (b : Bool) → nat_le (2 ^ 30) (length input.bytes) ≡ b → Fine input.position (if b then Err (load.Refused (refusal.Limit FileBytes)) else opened_by (kind_of input.bytes) input)
+    by true e = tt
+    by false e = kind_fine input (kind_of input.bytes) (few_bytes (length input.bytes) e) refl
 
 -- what an input is keeps its position, and is known
 opened_fine : (input : Input) (opening : Opening) → opening_of input ≡ Ok opening → Fine input.position (Ok opening)

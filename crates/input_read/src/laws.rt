@@ -1,6 +1,7 @@
 //! What holds of what inputs are, each on a call that does nothing.
-ghost use Rattle.std.specs.Prelude.{◌≡◌, ◌↔◌, ℕ, ◌<◌, List, length, map, slice_index_or, IfErr, Err, Ok, Some};
+ghost use Rattle.std.specs.Prelude.{◌≡◌, ◌↔◌, ℕ, ◌<◌, List, length, map, slice_index_or, true, All, IfErr, Err, Ok, Some};
 ghost use Rattle.std.specs.Result.{result_err};
+ghost use Rattle.lib_bind.specs.Named.{are_named};
 ghost use Rattle.mo_types.specs.Scan.{first_some};
 ghost use Rattle.input_files.specs.Files.{IsLoadFault};
 ghost use Rattle.input_files.specs.Sources.{AreInOrder, object_reads};
@@ -31,6 +32,12 @@ pub fn inputs_keep_their_order()
 /// The objects are what each of the inputs is read as that is no archive.
 pub fn objects_are_those_of_the_inputs()
     ensures { (inputs : List Input) (contents : Contents) → contents_of inputs ≡ Ok contents → object_reads contents.inputs ≡ map Ok contents.objects }
+{}
+
+/// The stub libraries stand by rising positions, each of an input, and each has documents.
+pub fn stub_libraries_are_named()
+    ensures { (inputs : List Input) (contents : Contents) (count : ℕ) → AreInOrder inputs → All (λ input. input.position < count) inputs
+        → contents_of inputs ≡ Ok contents → are_named count 0 contents.stubs ≡ true }
 {}
 
 /// An input that isn't read has a fault of its own.

@@ -29,7 +29,7 @@ mod sorting;
 pub use in_order::are_in_order;
 pub use laws::{
     a_fault_is_told, each_input_is_opened, inputs_keep_their_order,
-    objects_are_those_of_the_inputs, the_first_fault_is_told,
+    objects_are_those_of_the_inputs, stub_libraries_are_named, the_first_fault_is_told,
 };
 pub use opened::Opened;
 pub use opening::{Opening, open_input};

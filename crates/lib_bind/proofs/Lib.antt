@@ -5,6 +5,7 @@ pub mod ChoosingLemmas
 pub mod ChosenLemmas
 pub mod ClosingLemmas
 pub mod EndLemmas
+pub mod ExistLemmas
 pub mod FewLemmas
 pub mod FillLemmas
 pub mod FiniteLemmas

@@ -39,7 +39,7 @@ use Rattle.lib_bind.proofs.GrowingLemmas.{found_more}
 use Rattle.lib_bind.specs.inner.Held.{AreHeads, IsFound, IsHeld, IsRequestOf, Meets, total}
 use Rattle.lib_bind.proofs.AnsweredLemmas.{all_within, held_there}
 use Rattle.lib_bind.proofs.ChosenLemmas.{ok_holds, whole_chosen}
-use Rattle.lib_bind.proofs.EndLemmas.{closed_of, made_of, start_of}
+use Rattle.lib_bind.proofs.EndLemmas.{IsMade, closed_of, made_of, start_of}
 use Rattle.lib_bind.proofs.HeldLemmas.{begun_held, files_reexports, linked_held, same_links, target_found}
 use Rattle.lib_bind.proofs.StepLemmas.{reach_growing}
 use Rattle.lib_bind.proofs.ProgramLemmas.{end_holds, end_made}
@@ -467,13 +467,18 @@ linked_has root count closing d past is there = record {
       ∙ ap (λ (test : Bool). due_by test (get_or closing.growing.reexports d [])) (is_there closing.reached d (in_from_Contains closing.reached d there))) (is.met d);
 }
 
+-- what was bound was gone for, request by request
+pub bound_going : (look : List ℕ → File) (command : Command) (named : List NamedStub) (count : ℕ) (bound : Bound) → are_named (length command.inputs) 0 named ≡ true → (made : IsMade command named count look bound)
+    → IsGoing (total made.chosen.files) command.syslibroot made.chosen.heads count made.closing
+bound_going look command named count bound are made =
+    let whole = whole_chosen (length command.inputs) command named made.chosen are made.chosen_is in
+    ok_holds (IsGoing (total made.chosen.files) command.syslibroot made.chosen.heads count) (closed_of command count made.chosen look).end made.closing made.closing_is
+    (after_going look (total made.chosen.files) command.syslibroot made.chosen.heads (start_of made.chosen) count
+    (begun_going command.syslibroot made.chosen.heads made.chosen.libraries made.chosen.files whole.0 whole.1))
+
 pub links_are : (look : List ℕ → File) (command : Command) (named : List NamedStub) (count : ℕ) (bound : Bound) (document : ℕ) → are_named (length command.inputs) 0 named ≡ true
     → (bound_after command named count look).end ≡ Ok bound → length bound.closing.work ≤ count → Contains bound.closing.reached document → HasLinks command.syslibroot bound.closing.growing document
 links_are look command named count bound document are is past there =
     let made = made_of command named count look bound is in
-    let whole = whole_chosen (length command.inputs) command named made.chosen are made.chosen_is in
-    let going : IsGoing (total made.chosen.files) command.syslibroot made.chosen.heads count made.closing =
-    ok_holds (IsGoing (total made.chosen.files) command.syslibroot made.chosen.heads count) (closed_of command count made.chosen look).end made.closing made.closing_is
-    (after_going look (total made.chosen.files) command.syslibroot made.chosen.heads (start_of made.chosen) count
-    (begun_going command.syslibroot made.chosen.heads made.chosen.libraries made.chosen.files whole.0 whole.1)) in
-    linked_has command.syslibroot count bound.closing document past (subst (λ (b : Bound). IsLinked command.syslibroot count b.closing) made.is going.linked_are) there
+    linked_has command.syslibroot count bound.closing document past
+    (subst (λ (b : Bound). IsLinked command.syslibroot count b.closing) made.is (bound_going look command named count bound are made).linked_are) there

@@ -118,12 +118,18 @@ pub rises : (documents ordered : List ℕ) → IsDistinct nat_eq documents → I
 rises documents ordered once same sorted =
     sorted_from_strictly_increasing ordered (IsStrictlyIncreasing-from_distinct ordered (IsNonDecreasingBy-from_sort (λ (n : ℕ). n) ordered sorted) (IsDistinct-IsPermutation nat_eq flips documents ordered same once))
 
-pub ends : (links : List (List ℕ)) (from : ℕ) (found list : List ℕ) (at : ℕ) → IsSearching links from found at → length found ≤ at → IsPermutation found list → IsStrictlySortedBy nat_cmp list → AreReached links from list
-ends links from found list at searching past same rising = record {
-  all = λ to reaches. Contains-permutation found list to same (leads_among links found (closed_by_members links from found at searching past) from reaches.path to searching.start reaches.leads);
-  only = λ to there. searching.only to (Contains-permutation list found to (IsPermutation-sym found list same) there);
+-- a list of just what was found
+pub lists : (links : List (List ℕ)) (from : ℕ) (found list : List ℕ) (at : ℕ) → IsSearching links from found at → length found ≤ at → ((to : ℕ) → Contains found to → Contains list to) → ((to : ℕ) → Contains list to → Contains found to)
+    → IsStrictlySortedBy nat_cmp list → AreReached links from list
+lists links from found list at searching past all only rising = record {
+  all = λ to reaches. all to (leads_among links found (closed_by_members links from found at searching past) from reaches.path to searching.start reaches.leads);
+  only = λ to there. searching.only to (only to there);
   rising = rising;
 }
+
+pub ends : (links : List (List ℕ)) (from : ℕ) (found list : List ℕ) (at : ℕ) → IsSearching links from found at → length found ≤ at → IsPermutation found list → IsStrictlySortedBy nat_cmp list → AreReached links from list
+ends links from found list at searching past same rising =
+    lists links from found list at searching past (λ to. Contains-permutation found list to same) (λ to. Contains-permutation list found to (IsPermutation-sym found list same)) rising
 
 -- there are no more documents than links
 pub few : (links : List (List ℕ)) (from : ℕ) (found : List ℕ) (at : ℕ) → IsSearching links from found at → AreLinks (length links) links → from < length links → IsDistinct nat_eq found → length found ≤ length links

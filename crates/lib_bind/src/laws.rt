@@ -68,6 +68,13 @@ pub fn a_finite_map_has_libraries()
         → (count : ℕ) × IsLast count (bound_after command named count (file_told told)).end }
 {}
 
+/// When no request is left, what is bound has libraries: whole ones, with its documents and links.
+pub fn what_is_bound_has_libraries()
+    ensures { (look : List ℕ → File) (command : Command) (named : List NamedStub) (count : ℕ) (bound : Bound)
+        → are_named (length command.inputs) 0 named ≡ true → (bound_after command named count look).end ≡ Ok bound → length bound.closing.work ≤ count
+        → (graph : LibraryGraph) × IsGraphOf count graph bound × IsWhole graph }
+{}
+
 /// Whole libraries with the same documents and links are the same: what they reach is not left open.
 #[tactic(auto, using(crate::proofs::OneLemmas::one))]
 pub fn whole_libraries_are_one()

@@ -1,10 +1,15 @@
+pub mod ExistLemmas
+pub mod FetchedLemmas
 pub mod FilesLemmas
 pub mod InputLemmas
 pub mod LawLemmas
 pub mod LineLemmas
 pub mod LinkLemmas
+pub mod LoadedLemmas
+pub mod PartLemmas
 pub mod RanLemmas
 pub mod ReadLemmas
 pub mod SaysLemmas
+pub mod ValueLemmas
 pub mod WordLemmas
 pub mod WritingLemmas

@@ -1,6 +1,7 @@
 pub mod Answered
 pub mod Asks
 pub mod Bound
+pub mod Bytes
 pub mod Causes
 pub mod Command
 pub mod Fetched

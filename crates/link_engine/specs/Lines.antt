@@ -24,7 +24,7 @@ from_libraries look command contents = asks (BoundBy look command contents.stubs
 
 -- after the inputs were fetched
 abbrev pub after_inputs : (List ℕ → File) → Command → List Content → Reply (List (List ℕ)) Stop Plan
-after_inputs look command found = gives (contents_with command found) (λ contents. asks (BoundBy look command contents.stubs) (after_libraries command contents.inputs))
+after_inputs look command found = gives (contents_with command found) (from_libraries look command)
 
 -- after the inputs were counted
 abbrev pub after_few : (List ℕ → File) → Command → Reply (List (List ℕ)) Stop Plan

@@ -1,6 +1,8 @@
 //! What the verdict means, each on a call that does nothing.
 ghost use Rattle.std.specs.Prelude.{◌≡◌, ◌↔◌, ℕ, List, Result, Err};
 ghost use Rattle.file_cache.specs.Program.{File};
+ghost use Rattle.file_cache.specs.Runs.{AreOfBytes, file_told};
+ghost use Rattle.mo_outside.specs.Answers.{Exchange};
 ghost use Rattle.mo_types.specs.declared.answer.Status.{Status};
 ghost use Rattle.link_engine.specs.Causes.{StopCause};
 ghost use Rattle.link_engine.specs.Command.{commanded};
@@ -14,6 +16,11 @@ ghost use Rattle.link_engine.specs.declared.stop.Stop.TheVariants.{ReadFault};
 /// Words have one verdict at most, by what stands under each path.
 pub fn a_verdict_is_one()
     ensures { (words : List (List ℕ)) (look : List ℕ → File) (a b : Result Plan Stop) → IsVerdict words look a → IsVerdict words look b → a ≡ b }
+{}
+
+/// Words have a verdict, whatever files told: by each finite map from paths to answers of which those on a file are bytes.
+pub fn a_verdict_exists()
+    ensures { (words : List (List ℕ)) (told : List Exchange) → AreOfBytes told → (given : Result Plan Stop) × IsVerdict words (file_told told) given }
 {}
 
 /// The verdict is a stop exactly where that stop's cause stands, after the same paths were tried. So each refusal has its

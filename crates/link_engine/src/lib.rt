@@ -3,18 +3,18 @@
 //! `make_plan` is the link up to writing, in one body from the top down: a line for each step at which a link may be
 //! refused, in the order in which refusals count (the words, how many inputs there are, fetching them, reading them,
 //! the libraries, the rounds in which members are loaded, the link of what was loaded, and what is written). Its
-//! definition `IsVerdict` (`specs/Verdict.antt`) and the causes of its stops (`specs/Causes.antt`) have the same lines
-//! in the same order. They stand over a look-up: what stands under each path. What files tell is a finite map from paths
-//! to answers (`Answered`, in `specs/Answered.antt`): `link` asks for just the paths that the verdict tries, each once,
-//! and its answer, what it writes and what it puts on the messages are the verdict's by every look-up that gives these
-//! answers (`Settles`).
+//! definition `IsVerdict` (`specs/Verdict.antt`) and the causes of its stops (`specs/Causes.antt`) have the same
+//! lines in the same order. They stand over a look-up: what stands under each path. What files tell is a finite map
+//! from paths to answers (`Answered`, in `specs/Answered.antt`): `link` asks for just the paths that the verdict
+//! tries, each once, and its answer, what it writes and what it puts on the messages are the verdict's by every
+//! look-up that gives these answers (`Settles`).
 //!
-//! Laws on the definition: there is one verdict at most (`a_verdict_is_one`), it is a stop exactly where that stop's
-//! cause stands (`every_refusal_has_its_cause`), and a path that couldn't be read is the one that is told and the last
-//! one that is tried (`a_read_fault_names_its_path`). How many workers there are is no part of a command, and so of
-//! nothing that a definition looks at (`workers_change_nothing`). Clauses on the program's own call: each answer comes only
-//! where its cause stands, and where one stands it comes, unless memory ran out; nothing is written before the whole
-//! image is there.
+//! Laws on the definition: there is a verdict (`a_verdict_exists`) and one at most (`a_verdict_is_one`), it is a stop
+//! exactly where that stop's cause stands (`every_refusal_has_its_cause`), and a path that couldn't be read is the
+//! one that is told and the last one that is tried (`a_read_fault_names_its_path`). How many workers there are is no
+//! part of a command, and so of nothing that a definition looks at (`workers_change_nothing`). Clauses on the
+//! program's own call: each answer comes only where its cause stands, and where one stands it comes, unless memory
+//! ran out; nothing is written before the whole image is there.
 //!
 //! A body that refuses every link, that leaves out stub libraries or a step, or that begins a file twice doesn't meet
 //! its contract. That memory is found, and that workers ran, is shown by tests alone.
@@ -44,7 +44,7 @@ mod words;
 mod write;
 
 pub use crate::laws::{
-    a_read_fault_names_its_path, a_verdict_is_one, an_answer_is_complete,
+    a_read_fault_names_its_path, a_verdict_exists, a_verdict_is_one, an_answer_is_complete,
     every_refusal_has_its_cause, workers_change_nothing,
 };
 use crate::plan::make_plan;

@@ -1,7 +1,8 @@
 //! The command line of the words.
-ghost use Rattle.std.specs.Prelude.{◌<◌, ◌^◌, length, IfOk};
-ghost use Rattle.link_engine.specs.Command.{command_of_line, commanded, crowd_stop};
+ghost use Rattle.std.specs.Prelude.{◌≡◌, ◌<◌, ◌^◌, length, IfOk};
+ghost use Rattle.link_engine.specs.Command.{command_of_line, commanded, crowd_stop, linked_rows};
 ghost use Rattle.link_steps.specs.Steps.{Finds, Shows};
+ghost use Rattle.mo_cmd.specs.Command.{workers_by};
 
 use crate::stop::Stop;
 use command_line::Command;
@@ -18,7 +19,8 @@ const INPUTS: usize = 1 << 16;
 
 /// The command of the words of a command line after the program's name, and how many workers they name.
 pub fn line_of(alloc: Global, words: &ArgList) -> Result<CommandLine, StepFault<Stop>>
-    ensures { Shows command_of_line (commanded words.now) result }
+    ensures command { Shows command_of_line (commanded words.now) result }
+    ensures workers { IfOk result (λ line. line.threads ≡ workers_by linked_rows words.now) }
 {
     match read_words(alloc, LINKED, words) {
         Ok(line) => Ok(line),

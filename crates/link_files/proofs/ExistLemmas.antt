@@ -65,10 +65,10 @@ told_exists files names named = by (duplicate_exists files names named)
 are_cut : (files : List LoadedFile) → All IsWholeFile files → All IsCut files
 are_cut files whole = λ k d low. (whole k d low).atoms
 
-image_exists : (command : Command) (libs : LibraryGraph) (files : List LoadedFile) (symbols : SymbolTable) (keys : List AtomKey) → AreLinkable command libs files → IsSome (AsImage command libs files symbols keys)
+image_exists : (command : Command) (libs : LibraryGraph) (files : List LoadedFile) (symbols : SymbolTable) (keys : List AtomKey) → AreLinkable files → IsSome (AsImage command libs files symbols keys)
 unfolding making
 image_exists command libs files symbols keys are =
-    by (answered m are.whole are.bytes rising low (are.front (header_flags command libs symbols keys) keys))
+    by (answered m are.whole are.bytes rising low)
   where
     m : ImageInputs
     m = making command libs files (header_flags command libs symbols keys) keys
@@ -86,7 +86,7 @@ image_exists command libs files symbols keys are =
 
 -- ---- all steps
 
-pub link_exists : (command : Command) (libs : LibraryGraph) (files : List LoadedFile) → AreLinkable command libs files → IsSome (IsLinked command libs files)
+pub link_exists : (command : Command) (libs : LibraryGraph) (files : List LoadedFile) → AreLinkable files → IsSome (IsLinked command libs files)
 link_exists command libs files are =
     gives_some (names_of files (wanted command)) _ (λ names is.
     unless_some (atoms_refusal files) _ (λ few.

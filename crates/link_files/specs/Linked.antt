@@ -2,7 +2,7 @@
 use Rattle.std.specs.Prelude.{ℕ, ◌≡◌, ◌≤◌, List, [], All, Ok, Err}
 use Rattle.std.specs.List.{AllPairs}
 use Rattle.image_make.specs.Made.{IsMade, ImageInputs}
-use Rattle.image_make.specs.Whole.{AreBytesIn, HasFront}
+use Rattle.image_make.specs.Whole.{AreBytesIn}
 use Rattle.image_make.specs.declared.fault.MakeFault.{MakeFault}
 use Rattle.lib_bind.specs.declared.library.LibraryGraph.{LibraryGraph}
 use Rattle.link_steps.specs.Steps.{Answer, ◌>>=◌, ◌>>◌, always, checks, gives, some, unless}
@@ -89,11 +89,9 @@ IsLinked command libs files = do
   names ← gives (names_of files (wanted command))
   AsNamed command libs files names
 
--- Files as a link has them: whole ones in order, none of whose atoms is aligned to more than a page, and of bytes, as are
--- the names that stand in the load commands of any image of theirs.
-pub record AreLinkable (command : Command) (libs : LibraryGraph) (files : List LoadedFile) : Type 0 where
+-- Files as a link has them: whole ones in order, none of whose atoms is aligned to more than a page, and of bytes.
+pub record AreLinkable (files : List LoadedFile) : Type 0 where
   pub ordered : AreOrdered files
   pub whole : All IsWholeFile files
   pub low : AreLow files
   pub bytes : AreBytesIn files
-  pub front : (flags : ℕ) (keys : List AtomKey) → HasFront (making command libs files flags keys)

@@ -9,7 +9,7 @@ ghost use Rattle.link_files.specs.Linked.{AreCut, AreLinkable, AreOrdered, IsLin
 
 /// Files as a link has them link to something.
 pub fn a_link_exists()
-    ensures { (command : Commanded) (libs : LibraryGraph) (files : List LoadedFile) → AreLinkable command libs files → IsSome (IsLinked command libs files) }
+    ensures { (command : Commanded) (libs : LibraryGraph) (files : List LoadedFile) → AreLinkable files → IsSome (IsLinked command libs files) }
 {}
 
 /// Files whose ids rise, each cut into the pieces of its object, link to one thing.

@@ -1,8 +1,9 @@
 -- What holds of a line of steps some of which ask, from a fact for each step.
 use Rattle.std.proofs.Common.{◌≡◌, ◌↔◌, inl, inr, Option, Some, None, Result, Ok, Err, IsErrAnd, refl, sym, ap, ◌∙◌, subst}
 use Rattle.std.proofs.lemmas.Result.{err_from_is_err_and}
-use Rattle.link_steps.specs.Asking.{Acts, Cause, IsLawful, IsOne, Reply, Stops, asked, asks, gives, last, never, refuses, stands, tries, unless}
+use Rattle.link_steps.specs.Asking.{Acts, Cause, IsLawful, IsOne, IsSome, Reply, Stops, asked, asks, gives, last, never, refuses, stands, tries, unless}
 use Rattle.link_steps.specs.Steps.{Agree, Answer, OnStop, Yields}
+use Rattle.link_steps.specs.Steps.{IsSome as IsSomeAnswer}
 use Rattle.link_steps.specs.declared.fault.StepFault.{StepFault}
 use Rattle.link_steps.specs.declared.fault.StepFault.TheVariants as fault
 
@@ -193,6 +194,38 @@ last_law {W = W} {S = S} {B = B} x = record {
     λ c. absurd c,
   );
 }
+
+-- ---- there is an answer
+
+pub gives_some : {W S A B : Type 0} (r : Result A S) (P : A → Reply W S B) → ((x : A) → r ≡ Ok x → IsSome (P x)) → IsSome (gives r P)
+unfolding gives
+gives_some (Ok x) P next old = next x refl old
+gives_some (Err why) P next old = (Err why, old, (refl, refl))
+
+pub unless_some : {W S B : Type 0} (r : Option S) (P : Reply W S B) → (r ≡ None → IsSome P) → IsSome (unless r P)
+unfolding unless
+unless_some (Some why) P next old = (Err why, old, (refl, refl))
+unless_some None P next old = next refl old
+
+pub tries_some : {W S A B : Type 0} (Is : Answer S A) (P : A → Reply W S B) → IsSomeAnswer Is → ((x : A) → Is (Ok x) → IsSome (P x)) → IsSome (tries Is P)
+unfolding gives
+tries_some {W = W} {S = S} {A = A} {B = B} Is P one next old = by one.0 one.1
+  where
+    by : (t : Result A S) → Is t → (given : Result B S) × (new : W) × tries Is P old given new
+    by (Ok x) is = let then = next x is old in (then.0, then.1, record { gave = Ok x; is = is; follows = then.2 })
+    by (Err why) is = (Err why, old, record { gave = Err why; is = is; follows = (refl, refl) })
+
+pub asks_some : {W S A B : Type 0} (Is : Reply W S A) (P : A → Reply W S B) → IsSome Is → ((x : A) (before then : W) → Is before (Ok x) then → IsSome (P x)) → IsSome (asks Is P)
+unfolding gives
+asks_some {W = W} {S = S} {A = A} {B = B} Is P one next old = let is = one old in by is.0 is.1 is.2
+  where
+    by : (t : Result A S) (then : W) → Is old t then → (given : Result B S) × (new : W) × asks Is P old given new
+    by (Ok x) then is = let more = next x old then is then in (more.0, more.1, record { gave = Ok x; then = then; is = is; follows = more.2 })
+    by (Err why) then is = (Err why, then, record { gave = Err why; then = then; is = is; follows = (refl, refl) })
+
+pub last_some : {W S B : Type 0} (r : Result B S) → IsSome {W = W} (last r)
+unfolding last
+last_some r old = (r, old, (refl, refl))
 
 -- ---- what a call that ends here or goes on returns
 

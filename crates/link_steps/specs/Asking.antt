@@ -41,6 +41,10 @@ last answer old given new = (given ≡ answer) × (new ≡ old)
 abbrev pub IsOne : {W S B : Type 0} → Reply W S B → Type 0
 IsOne {W = W} {S = S} {B = B} may = (a b : Result B S) (old new older newer : W) → may old a new → may older b newer → a ≡ b
 
+-- there is an answer, whatever was told before
+abbrev pub IsSome : {W S B : Type 0} → Reply W S B → Type 0
+IsSome {W = W} {S = S} {B = B} may = (old : W) → (given : Result B S) × (new : W) × may old given new
+
 -- ---- why there is a stop, in the same order
 
 -- of each stop its cause, and what was told before and after

@@ -380,12 +380,13 @@ fn all_plain(
     Ok(roots)
 }
 
-/// The atoms from which all that the image keeps is reached. Without `-dead_strip` all atoms but the literals for which
-/// others stand, and those whose external symbols all name winners elsewhere; a winner in a literal stands in the one that
-/// stands for it, whichever file that is in, and a common symbol that wins has an atom of its own. With it those of an executable's entry, of the wanted names, of the exported winners of a library or where the
-/// command lists what is exported, of symbols and sections that are marked as kept (`nlist.h`: N_NO_DEAD_STRIP;
-/// `loader.h`: S_ATTR_NO_DEAD_STRIP), and of the pointers to initializers. An atom may be listed more than once. The
-/// symbols' winners are found by the numbers of their names.
+/// The atoms from which all that the image keeps is reached. Without `-dead_strip` all atoms but the literals for
+/// which others stand, and those whose external symbols all name winners elsewhere; a winner in a literal stands in
+/// the one that stands for it, whichever file that is in, and a common symbol that wins has an atom of its own. With
+/// it those of an executable's entry, of the wanted names, of the exported winners of a library or where the command
+/// lists what is exported, of symbols and sections that are marked as kept (`nlist.h`: N_NO_DEAD_STRIP; `loader.h`:
+/// S_ATTR_NO_DEAD_STRIP), and of the pointers to initializers. An atom may be listed more than once. The symbols'
+/// winners are found by the numbers of their names.
 #[tactic(auto, unfolding(crate::specs::Roots::roots))]
 pub fn roots(
     alloc: Global,

@@ -22,7 +22,8 @@ use Rattle.link_files.specs.Names.{wanted}
 use Rattle.loader_laws.specs.Images.{IsImageOf}
 use Rattle.loader_laws.specs.LinkOf.{AreApart, BeginsAtItsEntry, IsAtomInMemory, IsKeptAtom, IsKeptReference, IsLinkOf, TellsItsGoal}
 use Rattle.loader_laws.specs.Means.{addresses_of}
-use Rattle.loader_laws.specs.Plans.{HaveBytes, IsPlanOfLink}
+use Rattle.link_engine.specs.Bytes.{HaveBytes}
+use Rattle.loader_laws.specs.Plans.{IsPlanOfLink}
 use Rattle.loader_laws.specs.Tellings.{AreInForm, AreWhole}
 use Rattle.loader_laws.proofs.Beginning.{entry_stands, wanted_found}
 use Rattle.loader_laws.proofs.Begun.{all_places}

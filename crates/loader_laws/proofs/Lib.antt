@@ -9,7 +9,6 @@ pub mod FileLinks
 pub mod First
 pub mod Fronted
 pub mod Goals
-pub mod Going
 pub mod Leading
 pub mod Linked
 pub mod LinkedGoals
@@ -20,11 +19,9 @@ pub mod Loading
 pub mod Lowest
 pub mod Mapping
 pub mod Named
-pub mod Parts
 pub mod Plain
 pub mod Planned
 pub mod PlannedLinks
-pub mod Reading
 pub mod Referred
 pub mod Referring
 pub mod Refs

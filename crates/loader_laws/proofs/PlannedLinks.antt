@@ -19,9 +19,9 @@ use Rattle.link_steps.proofs.AskLemmas.{asks_case, gives_case, last_case, tries_
 use Rattle.member_rounds.proofs.RiseLemmas.{loaded_rises}
 use Rattle.member_rounds.specs.Rounds.{loaded_of}
 use Rattle.loader_laws.specs.Plans.{IsPlanOfImage}
-use Rattle.loader_laws.proofs.Going.{no_fault, same_value}
+use Rattle.link_engine.proofs.ValueLemmas.{no_fault, same_value}
 use Rattle.loader_laws.proofs.Linked.{image_linked}
-use Rattle.loader_laws.proofs.Reading.{loaded_cut}
+use Rattle.link_engine.proofs.LoadedLemmas.{loaded_cut}
 
 -- ---- all steps, a line for each
 

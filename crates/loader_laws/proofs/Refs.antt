@@ -25,7 +25,7 @@ use Rattle.mo_types.specs.declared.reference_fault.RefFault.{RefFault}
 use Rattle.mo_types.specs.declared.reference_fault.RefFault.TheVariants.{BadPair, BadShape, BadPlace, BadTarget}
 use Rattle.atom_cut.proofs.TileLemmas.{greatest_cut}
 use Rattle.loader_laws.proofs.Cuts.{key_at}
-use Rattle.loader_laws.proofs.Going.{no_value, same_value}
+use Rattle.link_engine.proofs.ValueLemmas.{no_value, same_value}
 use Rattle.loader_laws.proofs.Lists.{both_empty, from_mapped, from_then, from_when, neither, no_some, none_chosen, not_none, not_second, not_when, some_is}
 
 -- ---- what the rules leave

@@ -1,6 +1,6 @@
 -- The image that is planned for the words of a command line, by what stands under each path.
 use Rattle.std.specs.Prelude.{ℕ, ◌≡◌, List, Ok}
-use Rattle.file_cache.specs.Program.{File, There}
+use Rattle.file_cache.specs.Program.{File}
 use Rattle.input_fetch.specs.Contents.{contents_of, places_of}
 use Rattle.input_fetch.specs.declared.content.Content.{Content}
 use Rattle.input_read.specs.Opened.{Contents}
@@ -15,7 +15,6 @@ use Rattle.link_files.specs.Linked.{AreCut, AreOrdered, IsLinked}
 use Rattle.link_files.specs.Names.{wanted}
 use Rattle.member_rounds.specs.Rounds.{loaded_of}
 use Rattle.command_line.specs.declared.command.Command.{Command}
-use Rattle.mo_obj.specs.Read.{AreBytes}
 use Rattle.mo_types.specs.declared.loaded.Loaded.{Loaded}
 use Rattle.loader_laws.specs.Images.{IsImageOf}
 use Rattle.loader_laws.specs.LinkOf.{IsLinkOf}
@@ -47,12 +46,3 @@ pub record IsPlanOfImage (words : List (List ℕ)) (look : List ℕ → File) (p
 pub record IsPlanOfLink (words : List (List ℕ)) (look : List ℕ → File) (plan : Plan) : Type 0 where
   pub planned : IsPlanOfImage words look plan
   pub link : IsLinkOf planned.command planned.libs planned.loaded.files planned.image
-
--- what a file has are bytes
-abbrev pub HasBytes : File → Type 0
-HasBytes (There bytes) = AreBytes bytes
-HasBytes _ = Unit {0}
-
--- so it is under each path
-abbrev pub HaveBytes : (List ℕ → File) → Type 0
-HaveBytes look = (path : List ℕ) → HasBytes (look path)

@@ -1,9 +1,9 @@
 //! The words of a command line (ld(1)), read to a command.
 //!
 //! `read_words` answers exactly the command of the definition for the words after the program's name, or the first
-//! fault (`command_by`, in `specs/Command.antt`), by the `Rows` of the table of options that a form of the link has: a
-//! word that these don't have is unknown. `read_all_words` is the same by all rows (`whole_command_of`). How many workers the
-//! words name (`workers_by`) is no part of a command: so no definition of the link can look at it.
+//! fault (`command_by`, in `specs/Command.antt`), by the `Rows` of the table of options that a form of the link has:
+//! a word that these don't have is unknown. `read_all_words` is the same by all rows (`whole_command_of`). How many
+//! workers the words name (`workers_by`) is no part of a command: so no definition of the link can look at it.
 //!
 //! The module `parts` tells what each word is: an option, one of its values, a path, or unknown. `faults` finds the
 //! first rule of the first part that breaks one; a `UsageFault` has the number of the word, counted from 1, or 0 for a

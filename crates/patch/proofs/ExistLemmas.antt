@@ -33,7 +33,7 @@ use Rattle.patch.specs.declared.met.RangeFault.{RangeFault}
 use Rattle.patch.specs.declared.range.PlacedWork.{PlacedWork}
 use Rattle.patch.specs.Field.{address_of, branch_field, difference_of, field_by, field_of, is_signed_32, low12_field, or_range, page_field, pages_between, signed_32, signed_field, target_of, wrapped_target}
 use Rattle.patch.specs.Patched.{AreFields, ArePatched, Fits, IsFirstFault, size_of}
-use Rattle.patch.specs.Range.{AllFit, AreStanding, AreWork, HasFields, IsBeside, IsLeastAtFault, IsLeastFault, IsPlaced, IsSameBeside, IsUpTo, bytes_of, part_of}
+use Rattle.patch.specs.Range.{AllFit, AreStanding, AreWork, HasBytes, HasFields, IsBeside, IsLeastAtFault, IsLeastFault, IsPlaced, IsSameBeside, IsUpTo, bytes_of, part_of}
 use Rattle.patch.specs.inner.Writing.{with_number}
 use Rattle.patch.proofs.KeyLemmas.{itself, through, turned_round}
 use Rattle.patch.proofs.WriteLemmas.{IsWriting, unwritten, writing_ends, writing_goes_on, writing_starts}
@@ -230,10 +230,6 @@ put_there at ys xs room =
     let behind : drop at (take at xs ++ rest) ≡ rest = ap (λ (m : ℕ). drop m (take at xs ++ rest)) (sym front) ∙ drop-append_seam (take at xs) rest in
     ap (λ (zs : List ℕ). take (length ys) zs) behind ∙ take-append_seam ys (drop (length ys) (drop at xs))
 
-bytes_put : (at : ℕ) (ys xs : List ℕ) → AreBytes ys → AreBytes xs → AreBytes (put_bytes at ys xs)
-unfolding put_bytes
-bytes_put at ys xs first second = bytes_joined (take at xs) (ys ++ drop (length ys) (drop at xs)) (bytes_taken at xs second) (bytes_joined ys (drop (length ys) (drop at xs)) first (bytes_left (length ys) (drop at xs) (bytes_left at xs second)))
-
 -- a part of the same bytes
 part_same : (n p : ℕ) (xs ys : List ℕ) → length ys ≡ length xs → ((i : ℕ) → i < n → slice_index ys (p + i) ≡ slice_index xs (p + i)) → take n (drop p ys) ≡ take n (drop p xs)
 part_same n p xs ys long same =
@@ -248,7 +244,7 @@ record IsFilledWith (files : List LoadedFile) (mets : PlacedWork → List Met) (
   pub new : List ℕ
   pub beside : IsSameBeside files from work old new
   pub placed : All (IsPlaced files mets from new) work
-  pub bytes : All (λ byte. byte < 256) new
+  pub bytes : All (HasBytes files from new) work
 
 with_item : (files : List LoadedFile) (mets : PlacedWork → List Met) (from : ℕ) (item : PlacedWork) (work : List PlacedWork) (old : List ℕ) → AreStanding files from (length old) (item ∷ work) → HasFields files mets item → AllFit files mets item → AreBytes (bytes_of files item) → IsFilledWith files mets from work old → IsFilledWith files mets from (item ∷ work) old
 unfolding part_of
@@ -264,6 +260,11 @@ with_item files mets from item work old stand fields fit bytes rest =
     let new : List ℕ = put_bytes at made.new rest.new in
     let same : length new ≡ length rest.new = length-put at made.new rest.new room in
     let here : take (length (bytes_of files item)) (drop at new) ≡ made.new = ap (λ (n : ℕ). take n (drop at new)) (sym size) ∙ put_there at made.new rest.new (omega arith) in
+    let still : (k : ℕ) (d : PlacedWork) → k < length work → part_of files from (get_or work k d) rest.new ≡ part_of files from (get_or work k d) new =
+    λ k d low.
+    let other : PlacedWork = get_or work k d in
+    let before : item.at + length (bytes_of files item) ≤ other.at = stand.in_order 0 (suc k) d (omega arith) (omega arith) in
+    sym (part_same (length (bytes_of files other)) (other.at - from) rest.new new same (λ i less. put_outside at (other.at - from + i) made.new rest.new room (inr (omega arith)))) in
     record {
       new = new;
       beside = record {
@@ -272,13 +273,10 @@ with_item files mets from item work old stand fields fit bytes rest =
       };
       placed = All-cons (IsPlaced files mets from new) item work
           (subst (λ (z : List ℕ). ArePatched item.address (mets item) (bytes_of files item) z) (sym here) made.is)
-          (λ k d low.
-          let other : PlacedWork = get_or work k d in
-          let before : item.at + length (bytes_of files item) ≤ other.at = stand.in_order 0 (suc k) d (omega arith) (omega arith) in
-          subst (λ (z : List ℕ). ArePatched other.address (mets other) (bytes_of files other) z)
-          (sym (part_same (length (bytes_of files other)) (other.at - from) rest.new new same (λ i less. put_outside at (other.at - from + i) made.new rest.new room (inr (omega arith)))))
-          (rest.placed k d low));
-      bytes = all_from_bytes new (bytes_put at made.new rest.new made.bytes (bytes_from_all rest.new rest.bytes));
+          (λ k d low. subst (λ (z : List ℕ). ArePatched (get_or work k d).address (mets (get_or work k d)) (bytes_of files (get_or work k d)) z) (still k d low) (rest.placed k d low));
+      bytes = All-cons (HasBytes files from new) item work
+          (subst (λ (z : List ℕ). All (λ byte. byte < 256) z) (sym here) (all_from_bytes made.new made.bytes))
+          (λ k d low. subst (λ (z : List ℕ). All (λ byte. byte < 256) z) (still k d low) (rest.bytes k d low));
     }
   where
     apart : (k : ℕ) → IsBeside files from k item → from ≤ item.at → {n : ℕ} → n ≡ length (bytes_of files item) → (k < item.at - from) ⊎ (item.at - from + n ≤ k)
@@ -291,18 +289,18 @@ stand_later files from size item work stand = record {
   in_order = λ i j d less low. stand.in_order (suc i) (suc j) d (omega arith) (omega arith);
 }
 
-filled : (files : List LoadedFile) (mets : PlacedWork → List Met) (from : ℕ) (old : List ℕ) (work : List PlacedWork) → AreStanding files from (length old) work → All (HasFields files mets) work → All (AllFit files mets) work → All (λ item. All (λ byte. byte < 256) (bytes_of files item)) work → All (λ byte. byte < 256) old → IsFilledWith files mets from work old
-filled files mets from old [] stand fields fit bytes low = record {
+filled : (files : List LoadedFile) (mets : PlacedWork → List Met) (from : ℕ) (old : List ℕ) (work : List PlacedWork) → AreStanding files from (length old) work → All (HasFields files mets) work → All (AllFit files mets) work → All (λ item. All (λ byte. byte < 256) (bytes_of files item)) work → IsFilledWith files mets from work old
+filled files mets from old [] stand fields fit bytes = record {
   new = old;
   beside = record { size = refl; others = λ k out. refl };
   placed = All-nil (IsPlaced files mets from old);
-  bytes = low;
+  bytes = All-nil (HasBytes files from old);
 }
-filled files mets from old (item ∷ work) stand fields fit bytes low =
+filled files mets from old (item ∷ work) stand fields fit bytes =
     with_item files mets from item work old stand (All-head (HasFields files mets) item work fields) (All-head (AllFit files mets) item work fit)
     (bytes_from_all (bytes_of files item) (All-head (λ it. All (λ byte. byte < 256) (bytes_of files it)) item work bytes))
     (filled files mets from old work (stand_later files from (length old) item work stand) (All-tail (HasFields files mets) item work fields) (All-tail (AllFit files mets) item work fit)
-    (All-tail (λ it. All (λ byte. byte < 256) (bytes_of files it)) item work bytes) low)
+    (All-tail (λ it. All (λ byte. byte < 256) (bytes_of files it)) item work bytes))
 
 -- ---- the first value that doesn't fit
 
@@ -434,10 +432,10 @@ work_verdict files mets (item ∷ work) = by (work_verdict files mets work) (ver
     by (inl all) (inr (fault, is)) = here fault is (All-weaker (AllFit files mets) (λ o. AllFit files mets o ⊎ IsUpTo item.atom.key o.atom.key) (λ o fits. inl fits) work all)
     by (inr (key, other, is)) (inr (fault, first)) = against fault first key other is (is_gt (compare_keys item.atom.key key)) refl
 
-pub placed_or_fault : (files : List LoadedFile) (mets : PlacedWork → List Met) (from : ℕ) (work : List PlacedWork) (old : List ℕ) → AreWork files mets from (length old) work → All (λ item. All (λ byte. byte < 256) (bytes_of files item)) work → All (λ byte. byte < 256) old
-    → ((new : List ℕ) × IsSameBeside files from work old new × All (IsPlaced files mets from new) work × All (λ byte. byte < 256) new) ⊎ ((key : AtomKey) × (fault : RangeFault) × IsLeastFault files mets work key fault)
-placed_or_fault files mets from work old is bytes low = by (work_verdict files mets work)
+pub placed_or_fault : (files : List LoadedFile) (mets : PlacedWork → List Met) (from : ℕ) (work : List PlacedWork) (old : List ℕ) → AreWork files mets from (length old) work → All (λ item. All (λ byte. byte < 256) (bytes_of files item)) work
+    → ((new : List ℕ) × IsSameBeside files from work old new × All (IsPlaced files mets from new) work × All (HasBytes files from new) work) ⊎ ((key : AtomKey) × (fault : RangeFault) × IsLeastFault files mets work key fault)
+placed_or_fault files mets from work old is bytes = by (work_verdict files mets work)
   where
-    by : WorkVerdict files mets work → ((new : List ℕ) × IsSameBeside files from work old new × All (IsPlaced files mets from new) work × All (λ byte. byte < 256) new) ⊎ ((key : AtomKey) × (fault : RangeFault) × IsLeastFault files mets work key fault)
-    by (inl fit) = let all = filled files mets from old work is.stand is.fields fit bytes low in inl (all.new, all.beside, all.placed, all.bytes)
+    by : WorkVerdict files mets work → ((new : List ℕ) × IsSameBeside files from work old new × All (IsPlaced files mets from new) work × All (HasBytes files from new) work) ⊎ ((key : AtomKey) × (fault : RangeFault) × IsLeastFault files mets work key fault)
+    by (inl fit) = let all = filled files mets from old work is.stand is.fields fit bytes in inl (all.new, all.beside, all.placed, all.bytes)
     by (inr fault) = inr fault

@@ -47,6 +47,10 @@ abbrev pub IsPlaced : List LoadedFile → (PlacedWork → List Met) → ℕ → 
 IsPlaced files mets from piece item =
     ArePatched item.address (mets item) (bytes_of files item) (part_of files from item piece)
 
+-- what an atom has in the piece are bytes
+abbrev pub HasBytes : List LoadedFile → ℕ → List ℕ → PlacedWork → Type 0
+HasBytes files from piece item = All (λ byte. byte < 256) (part_of files from item piece)
+
 -- a byte of the piece is none of an atom's
 abbrev pub IsBeside : List LoadedFile → ℕ → ℕ → PlacedWork → Type 0
 IsBeside files from k item = (from + k < item.at) ⊎ (item.at + length (bytes_of files item) ≤ from + k)

@@ -18,7 +18,7 @@ ghost use Rattle.patch.specs.declared.met.Met.{Met};
 ghost use Rattle.patch.specs.declared.met.RangeFault.{RangeFault};
 ghost use Rattle.patch.specs.declared.range.PlacedWork.{PlacedWork};
 ghost use Rattle.patch.specs.Patched.{AreFields, ArePatched, IsOutside, size_of};
-ghost use Rattle.patch.specs.Range.{AreStanding, AreWork, IsBeside, IsLeastFault, IsPlaced, IsSameBeside, bytes_of};
+ghost use Rattle.patch.specs.Range.{AreStanding, AreWork, HasBytes, IsBeside, IsLeastFault, IsPlaced, IsSameBeside, bytes_of};
 ghost use Rattle.patch.specs.Reading.{KeepsBits, Tells};
 
 /// What was written reads back as what was wanted: a branch leads to the target, a page is the target's, the low 12
@@ -57,8 +57,8 @@ pub fn patched_bytes_are_one()
 /// is a first value that doesn't fit.
 pub fn atoms_are_placed_or_a_fault_exists()
     ensures { (files : List LoadedFile) (mets : PlacedWork → List Met) (from : ℕ) (work : List PlacedWork) (old : List ℕ)
-        → AreWork files mets from (length old) work → All (λ item. All (λ byte. byte < 256) (bytes_of files item)) work → All (λ byte. byte < 256) old
-        → ((new : List ℕ) × IsSameBeside files from work old new × All (IsPlaced files mets from new) work × All (λ byte. byte < 256) new)
+        → AreWork files mets from (length old) work → All (λ item. All (λ byte. byte < 256) (bytes_of files item)) work
+        → ((new : List ℕ) × IsSameBeside files from work old new × All (IsPlaced files mets from new) work × All (HasBytes files from new) work)
         ⊎ ((key : AtomKey) × (fault : RangeFault) × IsLeastFault files mets work key fault) }
 {}
 

@@ -1,5 +1,6 @@
 -- The law is that of the lemmas.
-use Rattle.loader_laws.proofs.Fetched.{map_bytes, planned_in_form, planned_whole}
+use Rattle.link_engine.proofs.FetchedLemmas.{map_bytes}
+use Rattle.loader_laws.proofs.Fetched.{planned_in_form, planned_whole}
 use Rattle.loader_laws.proofs.links.what_is_planned_is_of_whole_objects.Goals as goal
 
 pub returns-clause-whole : goal.returns-clause-whole

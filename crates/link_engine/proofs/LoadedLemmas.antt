@@ -1,7 +1,10 @@
--- Each file that is loaded is cut into its pieces, has the form, and is whole where it is read of bytes.
+-- Each file that is loaded is cut into its pieces, has the form and atoms of low alignment, and is whole and has bytes where it
+-- is read of bytes.
 use Rattle.std.proofs.Common.{◌≡◌, ℕ, ◌<◌, ◌^◌, false, true, Bool, nat_lt, List, All, length, Result, Ok, Err, refl, sym, subst}
 use Rattle.std.specs.Result.{IfErr}
 use Rattle.std.proofs.lemmas.Bool.{ltb-true}
+use Rattle.std.proofs.lemmas.List.{get_or_default}
+use Rattle.std.proofs.lemmas.List.Elements.{All-weaker}
 use Rattle.list_lemmas.proofs.Members.{In, Contains_from_in, in_from_Contains}
 use Rattle.mo_types.specs.Gives.{guarded}
 use Rattle.mo_types.specs.Loaded.{IsWholeFile}
@@ -11,6 +14,7 @@ use Rattle.mo_types.specs.declared.key.FileId.{FileId}
 use Rattle.mo_types.specs.declared.loaded.Loaded.{Loaded}
 use Rattle.mo_types.specs.declared.loaded.LoadedFile.{LoadedFile}
 use Rattle.mo_types.specs.declared.object.Object.{Object}
+use Rattle.mo_types.specs.declared.object.Section.{Section}
 use Rattle.mo_types.specs.declared.object_fault.ObjFault.TheVariants.{Limit}
 use Rattle.mo_types.specs.declared.reference.Ref.{Ref}
 use Rattle.mo_types.specs.declared.reference_fault.RefFault.{RefFault}
@@ -21,21 +25,21 @@ use Rattle.mo_obj.proofs.ReadLemmas.{bind_ok}
 use Rattle.mo_obj.specs.Read.{AreBytes, IsRead}
 use Rattle.mo_obj.specs.Relocations.{relocations_of}
 use Rattle.lib_bind.specs.declared.library.LibraryGraph.{LibraryGraph}
-use Rattle.input_files.specs.Files.{all_ids, content_of, file_of, is_first, refs_or_none}
+use Rattle.input_files.specs.Files.{HasLowAtoms, all_ids, content_of, file_of, is_first, refs_or_none}
 use Rattle.input_files.specs.Form.{is_later}
 use Rattle.member_rounds.specs.Growth.{union}
 use Rattle.member_rounds.specs.Rounds.{asks, loaded_ids, loaded_of}
 use Rattle.input_files.specs.declared.input.Input.{Input}
 use Rattle.member_rounds.proofs.AnswerLemmas.{loaded_only}
 use Rattle.input_files.proofs.FileLemmas.{few_ids}
-use Rattle.member_rounds.proofs.LowLemmas.{IsObjectOf, form_is, object_at}
+use Rattle.member_rounds.proofs.LowLemmas.{IsObjectOf, form_is, low_at, object_at}
 use Rattle.input_files.proofs.EachLemmas.{all_from}
 use Rattle.member_rounds.proofs.WorkLemmas.{from_all}
 use Rattle.link_files.proofs.KeptLemmas.{IsCut}
-use Rattle.loader_laws.specs.Tellings.{AreInForm, AreWhole}
-use Rattle.loader_laws.proofs.Going.{no_value, same_value}
-use Rattle.loader_laws.proofs.Parts.{HaveBytes, content_bytes}
-use Rattle.link_files.specs.Linked.{AreCut}
+use Rattle.link_engine.proofs.ValueLemmas.{no_value, same_value}
+use Rattle.link_engine.proofs.PartLemmas.{HaveBytes, content_bytes}
+use Rattle.link_files.specs.Linked.{AreCut, AreLow}
+use Rattle.image_make.specs.Whole.{AreBytesIn}
 
 -- ---- an object
 
@@ -77,6 +81,17 @@ file_formed : (inputs : List Input) (id : FileId) (file : LoadedFile) → file_o
 unfolding file_of
 file_formed inputs id file is = form_is id (content_of inputs id).label (content_of inputs id).bytes file is
 
+abbrev HasByteSections : LoadedFile → Type 0
+HasByteSections file = All (λ (section : Section). All (λ byte. byte < 256) section.bytes) file.object.sections
+
+file_bytes : (inputs : List Input) (id : FileId) (file : LoadedFile) → AreBytes (content_of inputs id).bytes → file_of inputs id ≡ Ok file → HasByteSections file
+file_bytes inputs id file bytes is =
+    let content = content_of inputs id in
+    let of : IsObjectOf id content.label content.bytes file = object_at inputs id file is in
+    let read : IsRead of.object = read_whole content.bytes of.object bytes of.read in
+    subst HasByteSections (sym of.is) (All-weaker (λ (section : Section). AreBytes section.bytes) (λ (section : Section). All (λ byte. byte < 256) section.bytes)
+    (λ section are k d within. subst (λ (n : ℕ). n < 256) (get_or_default section.bytes k 0 d within) (are k)) of.object.sections read.contents)
+
 -- ---- what is loaded
 
 module _ (inputs : List Input) (libs : LibraryGraph) (wanted : List (List ℕ)) (loaded : Loaded) (is : loaded_of inputs libs wanted ≡ Ok loaded) where
@@ -90,8 +105,14 @@ module _ (inputs : List Input) (libs : LibraryGraph) (wanted : List (List ℕ)) 
   pub loaded_cut : AreCut loaded.files
   loaded_cut = each_loaded IsCut (λ id file among read. subst IsCut (sym (object_at inputs id file read).is) refl)
 
-  pub loaded_formed : AreInForm loaded.files
+  pub loaded_formed : All (λ (file : LoadedFile). is_later file ≡ false) loaded.files
   loaded_formed = each_loaded (λ (file : LoadedFile). is_later file ≡ false) (λ id file among read. file_formed inputs id file read)
 
-  pub loaded_whole : HaveBytes inputs → AreWhole loaded.files
+  pub loaded_whole : HaveBytes inputs → All IsWholeFile loaded.files
   loaded_whole are = each_loaded IsWholeFile (λ id file among read. file_whole inputs id file (few_ids inputs id among) (content_bytes inputs id are) read)
+
+  pub loaded_low : AreLow loaded.files
+  loaded_low = each_loaded HasLowAtoms (λ id file among read. low_at inputs id file read)
+
+  pub loaded_bytes : HaveBytes inputs → AreBytesIn loaded.files
+  loaded_bytes are = each_loaded HasByteSections (λ id file among read. file_bytes inputs id file (content_bytes inputs id are) read)

@@ -33,7 +33,7 @@ use Rattle.input_read.specs.Opening.{archive_in, object_in, opened_archive, open
 use Rattle.input_read.specs.declared.opening.Opening.{Opening}
 use Rattle.input_read.specs.declared.opening.Opening.TheVariants as opening
 use Rattle.input_read.proofs.OpenedLemmas.{first_read, nothing_read}
-use Rattle.loader_laws.proofs.Going.{no_value, same_value}
+use Rattle.link_engine.proofs.ValueLemmas.{no_value, same_value}
 
 -- each input has bytes
 abbrev pub HaveBytes : List Input → Type 0
