@@ -1,5 +1,5 @@
 -- What was written links what was loaded.
-use Rattle.std.proofs.Common.{◌≡◌, ◌≢◌, ℕ, List, [], Ok, sym, subst, ◌∙◌}
+use Rattle.std.proofs.Common.{◌≡◌, ◌≢◌, ℕ, List, [], sym, subst, ◌∙◌}
 use Rattle.file_cache.proofs.RunLemmas.{told_gave}
 use Rattle.file_cache.specs.Kept.{FilesSeen}
 use Rattle.file_cache.specs.Runs.{AreNew, file_told, paths_in}

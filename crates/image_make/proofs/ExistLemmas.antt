@@ -1,17 +1,14 @@
 -- Each plan has an image, or a reason why there is none.
-use Rattle.std.proofs.Common.{◌≡◌, ℕ, zero, suc, ◌+◌, ◌-◌, ◌<◌, ◌≤◌, ◌^◌, ◌&&◌, ◌⊎◌, inl, inr, pos, ℤ, Bool, true, false, nat_le, nat_lt, List, [], ◌∷◌, length, take, drop, get_or, slice_index, Option, Some, None, Result, Ok, Err, Contains, refl, sym, ap, ◌∙◌, subst, arith, if◌then◌else◌}
+use Rattle.std.proofs.Common.{◌≡◌, ℕ, ◌-◌, ◌<◌, ◌^◌, ◌⊎◌, inl, inr, pos, ℤ, Bool, true, false, List, [], length, take, drop, Option, Some, None, Ok, Err, refl, arith, if◌then◌else◌}
 use Rattle.std.specs.Prelude.{◌==◌, All, slice_get}
 use Rattle.std.specs.Option.{option_map_or}
-use Rattle.std.specs.Ordering.{on}
-use Rattle.std.proofs.lemmas.Bool.{cases_Bool, cases_lt}
+use Rattle.std.proofs.lemmas.Bool.{cases_lt}
 use Rattle.std.proofs.lemmas.Cmp.{on_total}
-use Rattle.std.proofs.lemmas.List.{get_or_past}
 use Rattle.std.proofs.lemmas.List.Elements.{All-contains, All-from_recursion}
 use Rattle.list_lemmas.proofs.Members.{Contains_from_in, In, all_from_in}
 use Rattle.sort_lemmas.proofs.Sorting.{sorted_exists}
 use Rattle.mo_types.proofs.KeyOrder.{compare_keys_total}
 use Rattle.mo_types.specs.AtomBytes.{atom_bytes}
-use Rattle.mo_types.specs.Keys.{compare_keys}
 use Rattle.mo_types.specs.Loaded.{IsWholeFile}
 use Rattle.mo_types.specs.RelocationRules.{section_numbered}
 use Rattle.mo_types.specs.declared.atom.Atom.{Atom}
@@ -31,7 +28,6 @@ use Rattle.patch.proofs.ExistLemmas.{AreBytes, all_from_bytes, bytes_from_all, b
 use Rattle.image_make.specs.Atoms.{AreLow, AreRising}
 use Rattle.image_make.specs.Made.{IsLaid, IsMade, ImageInputs, blank, kept_of, mets_of, plan_for, rows_of}
 use Rattle.image_make.specs.Whole.{AreBytesIn}
-use Rattle.image_make.specs.declared.fault.MakeFault.{MakeFault}
 use Rattle.image_make.specs.declared.fault.MakeFault.TheVariants.{Place, Range}
 use Rattle.image_make.proofs.WorkLemmas.{are_work}
 

@@ -1,11 +1,11 @@
 -- A layout of kept atoms that rise has each atom once.
-use Rattle.std.proofs.Common.{◌≡◌, ◌-◌, ◌≤◌, ◌<◌, ℕ, length, drop, subst, List, map, get_or, sym, ap, ◌∙◌}
+use Rattle.std.proofs.Common.{◌≡◌, ◌≤◌, ℕ, List, map, get_or, sym, ap, ◌∙◌}
 use Rattle.std.specs.Prelude.{All}
 use Rattle.std.specs.List.Sorted.{IsStrictlySortedBy}
 use Rattle.std.specs.Ordering.{on}
 use Rattle.std.specs.declared.cmp.Ordering.TheVariants.{Less, Equal}
 use Rattle.std.proofs.lemmas.Cmp.{tied_itself}
-use Rattle.std.proofs.lemmas.List.Elements.{All-drop, All-take, recursion_from_All}
+use Rattle.std.proofs.lemmas.List.Elements.{recursion_from_All}
 use Rattle.list_lemmas.proofs.Members.{all_at, all_map}
 use Rattle.list_lemmas.proofs.Rising.{rising_at}
 use Rattle.mo_types.proofs.KeyOrder.{compare_keys_total}
@@ -23,12 +23,7 @@ use Rattle.sect_place.specs.declared.layout.Placed.{Placed}
 use Rattle.slot_plan.specs.declared.list.Slots.{Slots}
 use Rattle.image_make.specs.Atoms.{atom_of}
 use Rattle.image_make.specs.declared.kept.KeptAtom.{KeptAtom}
-use Rattle.image_make.specs.Made.{IsFilledImage, no_parts, plan_with, sizes_of}
-use Rattle.mo_types.specs.declared.key.AtomKey.{AtomKey}
-use Rattle.patch.specs.declared.met.RangeFault.{RangeFault}
-use Rattle.patch.specs.Range.{AreStanding, AreWork, HasBytes, HasFields, IsLeastFault, IsPlaced, IsSameBeside, bytes_of, part_of}
-use Rattle.patch.specs.declared.met.Met.{Met}
-use Rattle.patch.specs.declared.range.PlacedWork.{PlacedWork}
+use Rattle.image_make.specs.Made.{no_parts, plan_with, sizes_of}
 use Rattle.sect_place.specs.Addresses.{AreOnce}
 
 less_not_equal : Less ≡ Equal → ⊥
@@ -48,29 +43,3 @@ same_plan command libs files kept slots islands atoms sections size a s z =
     ap (λ (n : ℕ). plan_of atoms sections slots islands (record { commands = n; unwind = 0 }) command) z
     ∙ ap (λ (xs : List OutSection). plan_of atoms xs slots islands (sizes_of command libs) command) s
     ∙ ap (λ (xs : List Atom). plan_of xs (out_sections files xs) slots islands (sizes_of command libs) command) a
-
-part_bytes : (files : List LoadedFile) (from : ℕ) (image : List ℕ) (item : PlacedWork) → All (λ byte. byte < 256) image → HasBytes files from image item
-unfolding part_of
-part_bytes files from image item all = All-take (λ (byte : ℕ). byte < 256) (length (bytes_of files item)) (drop (item.at - from) image) (All-drop (λ (byte : ℕ). byte < 256) (item.at - from) image all)
-
-pub filled : (files f : List LoadedFile) (mets : PlacedWork → List Met) (items : List PlacedWork) (blank old image : List ℕ) (n : ℕ) → f ≡ files → old ≡ blank → n ≡ length blank
-    → AreStanding f 0 n items → IsSameBeside files 0 items old image → All (HasFields files mets) items × All (IsPlaced files mets 0 image) items → All (λ byte. byte < 256) image → IsFilledImage files mets items blank image
-filled files f mets items blank old image n a b c stand beside patched bytes = record {
-  work = record {
-    stand = subst (λ (x : List LoadedFile). AreStanding x 0 (length blank) items) a (subst (λ (x : ℕ). AreStanding f 0 x items) c stand);
-    fields = patched.0;
-  };
-  beside = subst (λ (x : List ℕ). IsSameBeside files 0 items x image) b beside;
-  placed = patched.1;
-  bytes = λ k d low. part_bytes files 0 image (get_or items k d) bytes;
-}
-
-pub at_fault : (files f : List LoadedFile) (mets : PlacedWork → List Met) (items : List PlacedWork) (blank : List ℕ) (n : ℕ) (key : AtomKey) (fault : RangeFault) → f ≡ files → n ≡ length blank
-    → AreStanding f 0 n items → All (HasFields files mets) items × IsLeastFault files mets items key fault → AreWork files mets 0 (length blank) items × IsLeastFault files mets items key fault
-at_fault files f mets items blank n key fault a c stand patched = (
-  record {
-    stand = subst (λ (x : List LoadedFile). AreStanding x 0 (length blank) items) a (subst (λ (x : ℕ). AreStanding f 0 x items) c stand);
-    fields = patched.0;
-  },
-  patched.1,
-)

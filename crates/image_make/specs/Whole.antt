@@ -1,5 +1,5 @@
 -- What the inputs of an image have, as the types of the code have it: bytes are numbers below 256.
-use Rattle.std.specs.Prelude.{ℕ, ◌<◌, All, List}
+use Rattle.std.specs.Prelude.{◌<◌, All, List}
 use Rattle.mo_types.specs.declared.loaded.LoadedFile.{LoadedFile}
 
 -- the contents of all sections are bytes

@@ -59,6 +59,7 @@ fn are_bytes(bytes: &[u8])
 
 /// An image with its atoms, each with the fields of its references, written by so many workers. Atoms that don't stand
 /// one behind the other are answered as want of memory.
+#[tactic(auto, using(patch::proofs::ExistLemmas::parts_bytes))]
 pub(crate) fn fill_image<R: Threads + Sync, G: Gate + Sync>(
     rt: &R,
     alloc: Global,

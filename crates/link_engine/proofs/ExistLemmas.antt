@@ -1,11 +1,10 @@
 -- Words have a verdict, whatever files told.
-use Rattle.std.proofs.Common.{◌≡◌, ℕ, ◌++◌, true, List, [], length, Option, None, Result, Ok, Err, refl, sym, subst}
+use Rattle.std.proofs.Common.{◌≡◌, ℕ, ◌++◌, true, List, [], length, Result, Ok, Err, refl, sym, subst}
 use Rattle.file_cache.specs.Program.{File}
 use Rattle.file_cache.specs.Runs.{AreOfBytes, file_told}
 use Rattle.input_fetch.specs.Contents.{contents_of, places_of}
 use Rattle.input_fetch.specs.declared.content.Content.{Content}
 use Rattle.input_files.specs.Sources.{AreInOrder}
-use Rattle.input_files.specs.declared.input.Input.{Input}
 use Rattle.input_read.specs.Opened.{Contents}
 use Rattle.input_read.specs.Opened as opened
 use Rattle.input_read.proofs.OpenedLemmas.{keeps_order, stubs_named}

@@ -1,12 +1,12 @@
 -- What is fetched of files that are bytes has bytes.
-use Rattle.std.proofs.Common.{◌≡◌, ◌<◌, ℕ, ◌+◌, ◌⊎◌, inl, inr, All, length, get_or, arith, Bool, true, false, cond, bytes_eq, List, [], ◌∷◌, Some, Result, Ok, Err, refl, subst}
+use Rattle.std.proofs.Common.{◌≡◌, ◌<◌, ℕ, ◌+◌, inl, inr, All, length, get_or, arith, Bool, true, false, cond, bytes_eq, List, [], ◌∷◌, Some, Result, Ok, Err, refl, subst}
 use Rattle.std.specs.Map.{lookup}
 use Rattle.std.proofs.lemmas.Bool.{cases_lt}
 use Rattle.std.proofs.lemmas.List.{get_or_past}
 use Rattle.std.specs.List.{AllByRecursion}
 use Rattle.file_cache.specs.Program.{File, There, Absent, Unread, Outcome, and_then, ends, read_as}
 use Rattle.file_cache.specs.Runs.{AreOfBytes, IsOfBytes, file_told, told_as}
-use Rattle.input_fetch.specs.Contents.{content_of, contents_of, first_of, places_of, there_or}
+use Rattle.input_fetch.specs.Contents.{content_of, contents_of, first_of, there_or}
 use Rattle.input_fetch.specs.declared.content.Content.{Content}
 use Rattle.input_fetch.specs.declared.stop.FetchStop.TheVariants.{ReadFault}
 use Rattle.command_line.specs.declared.command.CommandInput.{CommandInput}

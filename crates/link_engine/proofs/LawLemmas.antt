@@ -46,7 +46,6 @@ use Rattle.command_line.specs.declared.command.Command.{Command}
 use Rattle.mo_cmd.specs.declared.usage_fault.UsageFault.{UsageFault}
 use Rattle.mo_cmd.specs.declared.usage_fault.UsageFault.TheVariants as usage
 use Rattle.mo_types.specs.Atoms.{atoms_of}
-use Rattle.mo_types.specs.Gives.{◌>>=◌}
 use Rattle.mo_types.specs.Scan.{first_some, option_or_else}
 use Rattle.mo_types.specs.declared.answer.Refusal.{Refusal}
 use Rattle.mo_types.specs.declared.answer.Refusal.TheVariants as refusal

@@ -1,5 +1,5 @@
 -- Which paths the later steps of a link try.
-use Rattle.std.proofs.Common.{◌≡◌, ℕ, List, [], ◌++◌, Result, Ok, sym, ◌∙◌}
+use Rattle.std.proofs.Common.{◌≡◌, ℕ, List, [], Result, Ok, sym, ◌∙◌}
 use Rattle.std.proofs.lemmas.List.{append-nil}
 use Rattle.file_cache.specs.Program.{File}
 use Rattle.input_fetch.specs.declared.content.Content.{Content}

@@ -1,16 +1,15 @@
 -- How a link ends, against its verdict.
-use Rattle.std.proofs.Common.{◌≡◌, ℕ, ◌⊎◌, inl, inr, List, [], ◌∷◌, ◌++◌, take, Option, Some, None, Result, Ok, Err, IfSome, ◌≢◌, refl, sym, ap, ◌∙◌, subst}
+use Rattle.std.proofs.Common.{◌≡◌, ℕ, ◌⊎◌, inl, inr, List, [], ◌++◌, take, Option, Some, None, Result, Ok, Err, IfSome, ◌≢◌, refl, sym, ap, ◌∙◌, subst}
 use Rattle.file_cache.proofs.RunLemmas.{files_gave, told_gave}
 use Rattle.file_cache.specs.Kept.{FilesSeen}
 use Rattle.file_cache.specs.Program.{File}
 use Rattle.file_cache.specs.Runs.{FilesTold, AllAgree, AllRead, AreNew, Gave, file_in, file_told, fresh, paths_in}
 use Rattle.lib_bind.specs.declared.bind_fault.BindFault.{BindFault}
 use Rattle.lib_bind.specs.declared.bind_fault.BindFault.TheVariants as bind
-use Rattle.link_steps.proofs.AskLemmas.{asks_case, gives_case, unless_case}
+use Rattle.link_steps.proofs.AskLemmas.{gives_case, unless_case}
 use Rattle.link_steps.specs.Steps.{Meets}
 use Rattle.link_steps.specs.declared.fault.StepFault.{StepFault}
 use Rattle.link_steps.specs.declared.fault.StepFault.TheVariants as fault
-use Rattle.command_line.specs.declared.command.Command.{Command}
 use Rattle.mo_outside.specs.Answers.{Answer, Exchange}
 use Rattle.mo_outside.specs.Faults.{Rises}
 use Rattle.mo_outside.specs.Files.{FileMap}
@@ -24,7 +23,6 @@ use Rattle.link_engine.specs.declared.stop.Stop.TheVariants as stop
 use Rattle.link_engine.specs.Answered.{Answered, Ran}
 use Rattle.link_engine.specs.Causes.{StopCause}
 use Rattle.link_engine.specs.Command.{command_of, commanded, crowd_stop}
-use Rattle.link_engine.specs.Fetched.{FetchedBy}
 use Rattle.link_engine.specs.Kept.{IsReadWell, IsStop}
 use Rattle.link_engine.specs.Settles.{Carries, CarriesPart, ExactlyWhere, IsComplete, OutputSeen, Settles, Stopped}
 use Rattle.link_engine.specs.Stop.{bind_fault_for, status_for, status_of, stop_in}

@@ -2,15 +2,14 @@
 use Rattle.std.proofs.Common.{◌≡◌, ◌≢◌, ◌⊎◌, ◌^◌, inl, inr, ℕ, zero, suc, nat_le, nat_lt, length, get_or, slice_get, List, [], ◌∷◌, ◌++◌, if◌then◌else◌, Bool, true, false, cond, Option, Some, None, Result, Ok, Err, refl, sym, ap, ◌∙◌, subst, append_assoc, bytes_eq}
 use Rattle.std.specs.List.{list_any}
 use Rattle.std.specs.Map.{lookup}
-use Rattle.std.proofs.lemmas.Slice.Eq.{bytes_eq-Decides}
-use Rattle.file_cache.specs.Program.{File, There, Absent, Unread, Outcome, Program, ◌>>=◌, and_then, ends, file_at, read_as}
+use Rattle.file_cache.specs.Program.{File, There, Absent, Unread, Program, ◌>>=◌, and_then, ends, file_at, read_as}
 use Rattle.file_cache.specs.Runs.{AllRead, Gave, IsTold, file_told, fresh, paths_in, told_as}
 use Rattle.input_fetch.specs.Contents.{content_of, contents_of, first_of, places_of, there_or}
 use Rattle.input_fetch.specs.declared.content.Content.{Content}
 use Rattle.input_fetch.specs.declared.stop.FetchStop.{FetchStop}
 use Rattle.input_fetch.specs.declared.stop.FetchStop.TheVariants as fetch
 use Rattle.lib_bind.specs.Closing.{added, begun, choose, choose_all, choose_as, chosen_of, fault_of, install_of, last_of, linked, no_input, read_at, with_library}
-use Rattle.lib_bind.specs.Closure.{Bound, after, bound_after, fetched, met, second_of, sought, sought_as, step, target, target_of}
+use Rattle.lib_bind.specs.Closure.{Bound, after, bound_after, met, second_of, sought, sought_as, step, target, target_of}
 use Rattle.lib_bind.specs.Found.{found}
 use Rattle.lib_bind.specs.Paths.{plain_path, stub_path}
 use Rattle.lib_bind.specs.Reexported.{reexported}
@@ -23,7 +22,6 @@ use Rattle.lib_bind.specs.declared.growing.Growing.{Growing}
 use Rattle.lib_bind.specs.declared.growing.Reexport.{Reexport}
 use Rattle.lib_bind.specs.declared.named.NamedStub.{NamedStub}
 use Rattle.lib_bind.specs.declared.sought.Sought.{Sought}
-use Rattle.lib_bind.specs.declared.sought.Target.{Target}
 use Rattle.command_line.specs.declared.command.Command.{Command}
 use Rattle.mo_outside.specs.Answers.{Answer, Exchange}
 use Rattle.mo_outside.specs.Answers as answer

@@ -1,10 +1,8 @@
 -- Files link to something.
-use Rattle.std.proofs.Common.{◌≡◌, ℕ, ◌⊎◌, ◌++◌, inl, inr, ℤ, List, Option, Some, None, Result, Ok, Err, refl, sym, ap, ◌∙◌, subst}
+use Rattle.std.proofs.Common.{◌≡◌, ℕ, ◌⊎◌, inl, inr, ℤ, List, Option, Some, None, Result, Ok, Err, refl, ap, ◌∙◌}
 use Rattle.std.specs.Prelude.{All}
 use Rattle.image_make.specs.Atoms.{AreLow as AreLowKept, AreRising}
 use Rattle.image_make.specs.Made.{IsMade, ImageInputs, kept_of}
-use Rattle.image_make.specs.Whole.{AreBytesIn}
-use Rattle.image_make.specs.declared.fault.MakeFault.{MakeFault}
 use Rattle.image_make.specs.declared.fault.MakeFault.TheVariants as make
 use Rattle.image_make.proofs.ExistLemmas.{answered}
 use Rattle.lib_bind.specs.declared.library.LibraryGraph.{LibraryGraph}
@@ -17,9 +15,8 @@ use Rattle.liveness.specs.Roots.{roots}
 use Rattle.mark_core.proofs.ExistLemmas.{kept_exist}
 use Rattle.mo_types.specs.Loaded.{IsWholeFile}
 use Rattle.mo_types.specs.declared.answer.Refusal.{Refusal}
-use Rattle.mo_types.specs.declared.answer.Refusal.TheVariants.{Duplicate, Limit, Range}
+use Rattle.mo_types.specs.declared.answer.Refusal.TheVariants.{Duplicate, Range}
 use Rattle.mo_types.specs.declared.cause.RangeKind.TheVariants.{ImageSize}
-use Rattle.mo_types.specs.declared.cause.Which.TheVariants.{Names}
 use Rattle.mo_types.specs.declared.goal.Goal.{Goal}
 use Rattle.mo_types.specs.declared.key.AtomKey.{AtomKey}
 use Rattle.mo_types.specs.declared.key.FileId.{FileId}
@@ -36,7 +33,7 @@ use Rattle.symbol_winners.proofs.ExistLemmas.{duplicate_exists, table_exists}
 use Rattle.symbol_winners.proofs.NamedLemmas.{gathered_named}
 use Rattle.link_files.specs.Flags.{header_flags}
 use Rattle.link_files.specs.Later.{later_refusal}
-use Rattle.link_files.specs.Linked.{AreLinkable, AsImage, AsMade, IsLinked, making}
+use Rattle.link_files.specs.Linked.{AreLinkable, AsImage, IsLinked, making}
 use Rattle.link_files.specs.Lost.{undefined_refusal}
 use Rattle.link_files.specs.Names.{atoms_refusal, label_of, names_of, or_too_many, wanted}
 use Rattle.link_files.specs.Refusals.{IsDuplicateTold}

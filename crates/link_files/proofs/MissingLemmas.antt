@@ -1,9 +1,9 @@
 -- Which kept atom is the first to refer to what an image can't have.
-use Rattle.std.proofs.Common.{◌≡◌, ℕ, zero, suc, ◌+◌, ◌<◌, ◌≤◌, ◌&&◌, ◌⊎◌, Bool, true, false, List, [], ◌∷◌, ◌++◌, map, Contains, Option, Some, None, inl, inr, refl, sym, ap, ◌∙◌, subst, arith, if◌then◌else◌}
-use Rattle.std.specs.Prelude.{slice_get, option_and_then}
+use Rattle.std.proofs.Common.{◌≡◌, ℕ, zero, suc, ◌+◌, ◌<◌, ◌&&◌, ◌⊎◌, Bool, true, false, List, [], ◌∷◌, ◌++◌, map, Option, Some, None, inl, inr, refl, sym, ap, ◌∙◌, subst, arith, if◌then◌else◌}
+use Rattle.std.specs.Prelude.{slice_get}
 use Rattle.std.specs.Cmp.Lexicographic.{slice_cmp}
-use Rattle.std.specs.List.{AllByRecursion, enumerate_from, filter, filter_map, find, flat_map, list_any}
-use Rattle.std.specs.Option.{option_map, option_map_or}
+use Rattle.std.specs.List.{AllByRecursion, enumerate_from, find, flat_map, list_any}
+use Rattle.std.specs.Option.{option_map}
 use Rattle.std.specs.Ordering.{is_eq, is_lt, nat_cmp, ordering_reverse}
 use Rattle.std.specs.Str.{bytes_eq}
 use Rattle.std.specs.declared.cmp.Ordering.{Ordering}
@@ -17,7 +17,7 @@ use Rattle.command_line.specs.declared.command.Command.{Command}
 use Rattle.lib_bind.specs.Provides.{provider_of}
 use Rattle.lib_bind.specs.declared.library.LibraryGraph.{LibraryGraph}
 use Rattle.lib_bind.specs.declared.provider.Provider.{Provider}
-use Rattle.list_lemmas.proofs.Members.{Contains_from_in, In, all_in, any_from_in, any_true, find_none, find_some, from_filter, from_filter_map, from_flat, from_map, in_either, in_filter, in_filter_map, in_flat, in_from_Contains, in_left, in_map, in_right}
+use Rattle.list_lemmas.proofs.Members.{Contains_from_in, In, all_in, any_from_in, any_true, find_none, find_some, from_filter, from_filter_map, from_flat, from_map, in_either, in_filter, in_filter_map, in_flat, in_from_Contains, in_map, in_right}
 use Rattle.literal_merge.specs.Representatives.{representatives_of}
 use Rattle.liveness.specs.Undefined.{IsFirstLeast, is_nobody, kept_refs, least, lost, lost_at, lost_in, lost_name, lost_names, name_if, targets_of, undefined}
 use Rattle.liveness.specs.Undefined as undefined_names
@@ -25,23 +25,22 @@ use Rattle.liveness.proofs.LeastLemmas.{least_none, least_some}
 use Rattle.mark_core.specs.Kept.{has}
 use Rattle.mo_types.specs.Scan.{first_some, option_or_else}
 use Rattle.mo_types.specs.declared.goal.Goal.{Goal}
-use Rattle.mo_types.specs.declared.goal.Goal.TheVariants.{Def, WeakSelf, Header, Import, Flat, Nobody}
 use Rattle.mo_types.specs.declared.key.AtomKey.{AtomKey}
 use Rattle.mo_types.specs.declared.loaded.LoadedFile.{LoadedFile}
 use Rattle.mo_types.specs.declared.object.Symbol.{Symbol}
 use Rattle.mo_types.specs.declared.reference.Ref.{Ref}
 use Rattle.mo_types.specs.declared.reference.Target.{Target}
 use Rattle.mo_types.specs.declared.reference.Target.TheVariants.{Name, Local}
-use Rattle.resolve.specs.Goals.{goal_at, goal_of_name, goal_of_symbol, goal_table, goals_of_symbols, is_flat, is_header_symbol, local_goal, name_goal, outer_goal, winner_goal}
+use Rattle.resolve.specs.Goals.{goal_of_name, goal_of_symbol, goal_table, goals_of_symbols, is_flat, is_header_symbol, local_goal, name_goal, winner_goal}
 use Rattle.symbol_winners.specs.Places.{place_of}
 use Rattle.symbol_winners.specs.SymbolTable.{is_weak}
 use Rattle.symbol_winners.specs.Winners.{winner_of}
 use Rattle.symbol_winners.specs.declared.places.Place.{Place}
 use Rattle.symbol_winners.specs.declared.winner.Winner.{Winner}
 use Rattle.link_files.specs.Causes.{IsMissed, IsMissedIn}
-use Rattle.link_files.specs.Later.{is_kept_later, is_later_ref, is_later_target, is_looked_up, later_at, later_file, later_in}
+use Rattle.link_files.specs.Later.{is_kept_later, is_later_ref, is_later_target, is_looked_up, later_at, later_file}
 use Rattle.link_files.specs.Lost.{is_lost, lost_wanted}
-use Rattle.link_files.specs.Missing.{Asks, HoldsOfNone, IsFirstFile, IsWantedInVain, LeadsNowhere, Misses, RefersTo, StandsForNothing}
+use Rattle.link_files.specs.Missing.{Asks, HoldsOfNone, IsFirstFile, IsWantedInVain, LeadsNowhere, Misses, StandsForNothing}
 use Rattle.link_files.specs.Names.{wanted}
 
 some_is : {X : Type 0} (x y : X) → Some x ≡ Some y → x ≡ y

@@ -1,6 +1,6 @@
 -- What kept atoms refer to and an image can't have: names that lead nowhere, and what the loader looks up (ld(1):
 -- -undefined, -flat_namespace; `loader.h`: two-level namespaces).
-use Rattle.std.specs.Prelude.{ℕ, ◌≡◌, ◌<◌, ◌⊎◌, true, false, List, [], Contains, Some, None, slice_get}
+use Rattle.std.specs.Prelude.{ℕ, ◌≡◌, ◌<◌, ◌⊎◌, true, false, List, Contains, Some, None, slice_get}
 use Rattle.command_line.specs.declared.command.Command.{Command}
 use Rattle.lib_bind.specs.Provides.{provider_of}
 use Rattle.lib_bind.specs.declared.library.LibraryGraph.{LibraryGraph}

@@ -1,5 +1,5 @@
 -- The objects of what is planned are whole.
-use Rattle.std.proofs.Common.{◌≡◌, ℕ, List}
+use Rattle.std.proofs.Common.{ℕ, List}
 use Rattle.file_cache.specs.Program.{File}
 use Rattle.input_fetch.specs.Contents.{places_of}
 use Rattle.link_engine.specs.Bytes.{HaveBytes}

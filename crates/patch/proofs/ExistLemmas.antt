@@ -7,7 +7,7 @@ use Rattle.std.specs.Ordering.{is_gt}
 use Rattle.std.proofs.Math.Seq.{drop-append_seam, take-append_seam}
 use Rattle.std.proofs.lemmas.Bool.{cases_lt}
 use Rattle.std.proofs.lemmas.List.{ext_get_or, get_or-append_right, get_or-drop, get_or-take, get_or_append_left, get_or_default, get_or_past, length-take, length-take-le}
-use Rattle.std.proofs.lemmas.List.Elements.{All-cons, All-head, All-nil, All-tail, All-weaker}
+use Rattle.std.proofs.lemmas.List.Elements.{All-cons, All-drop, All-head, All-nil, All-tail, All-take, All-weaker}
 use Rattle.byteorder.specs.Numbers.{little_from-lt}
 use Rattle.arm64_insn.specs.Branch.{branch_word, is_branch_delta, put_branch}
 use Rattle.arm64_insn.specs.Field.{twos_complement}
@@ -239,6 +239,12 @@ part_same n p xs ys long same =
     (λ i low. get_or-take n (drop p ys) i 0 (omega arith) ∙ get_or-drop p ys i 0 ∙ same i (omega arith) ∙ sym (get_or-take n (drop p xs) i 0 (omega arith) ∙ get_or-drop p xs i 0))
 
 -- ---- all atoms
+
+-- where all of a piece are bytes, so is what each atom has in it
+pub parts_bytes : (files : List LoadedFile) (from : ℕ) (work : List PlacedWork) (piece : List ℕ) → All (λ byte. byte < 256) piece → All (HasBytes files from piece) work
+unfolding part_of
+parts_bytes files from work piece all = λ k d low.
+    All-take (λ (byte : ℕ). byte < 256) (length (bytes_of files (get_or work k d))) (drop ((get_or work k d).at - from) piece) (All-drop (λ (byte : ℕ). byte < 256) ((get_or work k d).at - from) piece all)
 
 record IsFilledWith (files : List LoadedFile) (mets : PlacedWork → List Met) (from : ℕ) (work : List PlacedWork) (old : List ℕ) : Type 0 where
   pub new : List ℕ
