@@ -47,8 +47,8 @@ pub use checks::{are_libraries, are_links};
 pub use laws::{
     a_finite_map_has_libraries, a_library_reaches_what_paths_lead_to, a_provider_is_the_first,
     links_are_all_reexports, what_is_bound_has_libraries, what_is_bound_is_one,
-    what_is_bound_stays, what_is_known_was_answered, what_is_tried_goes_on, whole_libraries_are_one,
-    without_a_provider_nothing_provides,
+    what_is_bound_stays, what_is_known_was_answered, what_is_tried_goes_on,
+    whole_libraries_are_one, without_a_provider_nothing_provides,
 };
 pub use libraries::Libraries;
 pub use library::{Library, LibraryGraph, LibraryList, LinkList, NumberList};
