@@ -4,13 +4,11 @@ use crate::listed::{Listed, one_each};
 use mo_types::{
     AtomKey, Bytes, Loaded, LoadedList, Object, OutOfMemory, RangeKind, RefKind, SymbolList,
 };
-use patch::{
-    Met, PatchFault, PlacedWork, RangeFault, fields_are_in_order, patch_atom, patch_range,
-    work_stands,
-};
+use patch::{Met, PatchFault, PlacedWork, RangeFault, patch_atom, patch_range};
 use std::alloc::Global;
 use std::test::Fail;
 use test_objects::{atom, file, file_id, key, object_of, section};
+use test_work::{are_work, fields_are_in_order};
 
 // ---- one field
 
@@ -540,14 +538,14 @@ fn filled(
     let loaded = loaded(alloc, b"\0\0\0\x94\x01\x02\x03\x14")?;
     let items = [work(0, 0, 0x4004), work(1, 4, 0x4008), work(1, 0, 0x4010)];
     let mut piece = [0xee; 20];
-    if !work_stands(&items, loaded.files.as_slice(), 0x4000, 20) {
-        return Ok((Ok(()), [0; 20]));
-    }
     let listed = Listed {
         from: 0x4000,
         apart: 4,
         rows: &[&[], mets[0], mets[1], &[], mets[2]],
     };
+    if !are_work(alloc, &items, loaded.files.as_slice(), &listed, 0x4000, 20)? {
+        return Ok((Ok(()), [0; 20]));
+    }
     let answer = patch_range(alloc, &mut piece, 0x4000, &items, &loaded, &listed);
     Ok((answer, piece))
 }
@@ -600,24 +598,6 @@ fn least_key_is_told(alloc: Global) -> Result<bool, OutOfMemory> {
     )
 }
 
-// References of the first two atoms for whose fields memory is refused.
-fn are_refused(alloc: Global, first: &[Met], second: &[Met]) -> Result<bool, OutOfMemory> {
-    let (answer, piece) = filled(alloc, [first, second, &[]])?;
-    Ok(answer == Err(PatchFault::OutOfMemory) && beside_are_kept(&piece))
-}
-
-// Fields that overlap, and such that end behind their atom, one of them beside a value that doesn't fit its field.
-fn fields_must_lie_apart(alloc: Global) -> Result<bool, OutOfMemory> {
-    let number = met(0, RefKind::Diff32, 1);
-    let pointer = met(0, RefKind::Pointer, 1);
-    let far = met(0, RefKind::Branch, 0x1_0800_4004);
-    Ok(
-        are_refused(alloc, &[], &[number, number])?
-            && are_refused(alloc, &[met(1, RefKind::Diff32, 1)], &[number])?
-            && are_refused(alloc, &[far], &[pointer])?,
-    )
-}
-
 // Some thousands of atoms, which stand in the image the other way round than in their section.
 fn many_words(alloc: Global) -> Result<Vec<u8>, OutOfMemory> {
     let mut contents = Vec::new(alloc);
@@ -649,18 +629,19 @@ fn are_filled(
     items: &[PlacedWork],
     loaded: &Loaded,
     rows: &[&[Met]],
-) -> bool {
-    if !work_stands(items, loaded.files.as_slice(), 0, piece.len()) {
-        return false;
-    }
+) -> Result<bool, OutOfMemory> {
     let listed = Listed {
         from: 0,
         apart: 8,
         rows,
     };
+    let files = loaded.files.as_slice();
+    if !are_work(alloc, items, files, &listed, 0, piece.len())? {
+        return Ok(false);
+    }
     let is_done = patch_range(alloc, piece, 0, items, loaded, &listed) == Ok(());
     let want = b"\x01\0\0\x94\xee\xee\xee\xee".as_slice();
-    is_done && piece.chunks(8).all(|part| part == want)
+    Ok(is_done && piece.chunks(8).all(|part| part == want))
 }
 
 fn thousands_are_filled(alloc: Global) -> Result<bool, OutOfMemory> {
@@ -669,13 +650,13 @@ fn thousands_are_filled(alloc: Global) -> Result<bool, OutOfMemory> {
     let items = many_works(alloc)?;
     let loaded = loaded(alloc, many_words(alloc)?.as_slice())?;
     let mut piece = vec![in alloc; 0xee; 24_000]?;
-    Ok(are_filled(
+    are_filled(
         alloc,
         piece.as_mut_slice(),
         items.as_slice(),
         &loaded,
         rows.as_slice(),
-    ))
+    )
 }
 
 // One field, several fields, and atoms with theirs.
@@ -692,7 +673,6 @@ fn fields_hold_their_values(rt: HostRuntime) -> Result<(), Fail> {
     assert!(rt; thousands_are_written(alloc)?);
     assert!(rt; atoms_are_filled(alloc)?);
     assert!(rt; least_key_is_told(alloc)?);
-    assert!(rt; fields_must_lie_apart(alloc)?);
     assert!(rt; thousands_are_filled(alloc)?);
     Ok(())
 }

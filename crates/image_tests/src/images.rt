@@ -8,11 +8,12 @@ use crate::listed::{Listed, one_each};
 use image_join::{Part, PartList, Parts, PlacedAtoms, fill, join};
 use mo_outside::{FreeGate, Gate, MeetGate};
 use mo_types::{AtomKey, Bytes, Loaded, OutOfMemory, RangeKind, RefKind};
-use patch::{Met, PatchFault, PlacedWork, RangeFault, work_stands};
+use patch::{Met, PatchFault, PlacedWork, RangeFault};
 use std::alloc::Global;
 use std::test::Fail;
 use std::thread::Threads;
 use test_objects::{file, file_id, key, only};
+use test_work::are_work;
 
 // ---- parts
 
@@ -130,7 +131,8 @@ fn branches(alloc: Global, count: u64) -> Result<Loaded, OutOfMemory> {
     loaded(alloc, contents.as_slice())
 }
 
-// Fills an image, where its atoms stand there one behind the other, so many bytes apart, each with a row of references.
+// Fills an image, where its atoms stand there one behind the other, so many bytes apart, each with a row of references whose
+// fields it has.
 fn filled<R: Threads + Sync, G: Gate + Sync>(
     rt: &R,
     alloc: Global,
@@ -141,22 +143,25 @@ fn filled<R: Threads + Sync, G: Gate + Sync>(
     loaded: &Loaded,
     apart: u64,
     rows: &[&[Met]],
-) -> Option<Result<(), PatchFault>> {
-    let size = image.len();
-    if apart == 0 || !work_stands(items, loaded.files.as_slice(), 0, size) {
-        return None;
+) -> Result<Option<Result<(), PatchFault>>, OutOfMemory> {
+    if apart == 0 {
+        return Ok(None);
     }
     let listed = Listed {
         from: 0,
         apart,
         rows,
     };
+    let files = loaded.files.as_slice();
+    if !are_work(alloc, items, files, &listed, 0, image.len())? {
+        return Ok(None);
+    }
     let atoms = PlacedAtoms {
         work: items,
         loaded,
         meeting: &listed,
     };
-    Some(fill(rt, alloc, gate, workers, image, &atoms))
+    Ok(Some(fill(rt, alloc, gate, workers, image, &atoms)))
 }
 
 // Atoms, of which the last one of the section comes first, so many bytes apart.
@@ -202,7 +207,7 @@ fn branches_are_filled<R: Threads + Sync, G: Gate + Sync>(
         &loaded,
         8,
         rows.as_slice(),
-    );
+    )?;
     Ok(answer == Some(Ok(())) && branches_lead_back(image.as_slice(), count))
 }
 
@@ -293,7 +298,7 @@ fn is_told<R: Threads + Sync>(
         &loaded,
         4,
         rows.as_slice(),
-    );
+    )?;
     Ok(answer == Some(Err(PatchFault::Range { atom, fault })))
 }
 
