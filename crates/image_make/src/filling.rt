@@ -3,6 +3,7 @@ ghost use Rattle.std.specs.Prelude.{◌≡◌, ◌<◌, All, IfOk};
 ghost use Rattle.image_make.specs.AtomReferences.{IsReady, met_by};
 ghost use Rattle.image_make.specs.Made as spec;
 ghost use Rattle.image_make.specs.inner.Filled.{IsFilled};
+ghost use Rattle.patch.specs.Range.{HasBytes};
 ghost use Rattle.sect_place.specs.Whole.{IsWholeSegment};
 
 use crate::fault::MakeFault;
@@ -57,9 +58,16 @@ fn are_bytes(bytes: &[u8])
     let _ = bytes;
 }
 
+// What each atom has in a slice of bytes are bytes.
+fn have_bytes(atoms: &PlacedAtoms<AtomReferences>, image: &[u8])
+    ensures { All (HasBytes atoms.now.loaded.now.files 0 image.now) atoms.now.work.now }
+{
+    let _ = atoms;
+    are_bytes(image);
+}
+
 /// An image with its atoms, each with the fields of its references, written by so many workers. Atoms that don't stand
 /// one behind the other are answered as want of memory.
-#[tactic(auto, using(patch::proofs::ExistLemmas::parts_bytes))]
 pub(crate) fn fill_image<R: Threads + Sync, G: Gate + Sync>(
     rt: &R,
     alloc: Global,
@@ -78,7 +86,7 @@ pub(crate) fn fill_image<R: Threads + Sync, G: Gate + Sync>(
     match fill(rt, alloc, gate, workers, image.as_mut_slice(), atoms) {
         Ok(()) => {
             let image = Bytes::from_vec(image)?;
-            are_bytes(image.as_slice());
+            have_bytes(atoms, image.as_slice());
             Ok(image)
         }
         Err(PatchFault::Range { atom, fault }) => Err(MakeFault::Range { atom, fault }),
