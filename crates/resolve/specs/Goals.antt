@@ -1,5 +1,5 @@
 -- Where names and symbols lead (`loader.h`: two-level namespaces, weak definitions; `nlist.h`: N_EXT).
-use Rattle.std.specs.Prelude.{ℕ, ◌&&◌, ◌||◌, Bool, List, codes, map, slice_get, Option, Some, None, if◌then◌else◌}
+use Rattle.std.specs.Prelude.{ℕ, ◌&&◌, ◌||◌, Bool, List, codes, map, slice_get, unwrap_or, Option, Some, None, if◌then◌else◌}
 use Rattle.std.specs.List.{enumerate_from, find}
 use Rattle.std.specs.Option.{option_map_or}
 use Rattle.std.specs.Ordering.{is_eq}
@@ -83,3 +83,8 @@ unfoldable pub goal_of : List LoadedFile → LibraryGraph → Command → Loaded
 goal_of files graph command file (target.Name index) =
     option_map_or (λ symbol. goal_of_symbol files graph command file (index, symbol)) (slice_get file.object.symbols index) Nobody
 goal_of files graph command file (target.Local atom offset) = goal_at (representatives_of files) atom offset
+
+-- the same by the goals of the file's symbols
+abbrev pub target_goal : List Representative → List Goal → Target → Goal
+target_goal literals goals (target.Name index) = unwrap_or (slice_get goals index) Nobody
+target_goal literals goals (target.Local atom offset) = goal_at literals atom offset

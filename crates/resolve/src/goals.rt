@@ -1,7 +1,10 @@
 //! Where names, symbols and references lead.
 ghost use Rattle.std.specs.Prelude.{◌≡◌, ℕ, ◌<◌, IfOk, List, OnOk, Some, length, slice_get, slice_index_or};
 ghost use Rattle.std.specs.Option.{option_copied};
-ghost use Rattle.resolve.specs.Table.{goals_of};
+ghost use Rattle.lib_bind.specs.declared.library.LibraryGraph.{LibraryGraph};
+ghost use Rattle.command_line.specs.declared.command.Command.{Command as Commanded};
+ghost use Rattle.mo_types.specs.declared.loaded.LoadedFile.{LoadedFile as Loads};
+ghost use Rattle.resolve.specs.Table.{file_goals, goals_of};
 ghost use Rattle.mo_types.specs.Loaded.{IsWholeFile, IsWholeLoaded};
 ghost use Rattle.mo_types.specs.declared.object.Symbol.{Symbol as Declared};
 ghost use Rattle.name_ids.specs.Names.{number_of, numbers_in, numbers_of};
@@ -11,10 +14,10 @@ ghost use Rattle.resolve.specs.inner.Pools.{ArePlaces, AreTables, Extends, IsAt}
 ghost use Rattle.resolve.specs.inner.Scoped as scoped;
 
 use crate::scope::Scope;
-use crate::table::{GoalTable, PlaceList};
+use crate::table::{FileGoals, GoalTable, PlaceList};
 use command_line::Command;
 use lib_bind::{Libraries, provider_of};
-use mo_types::{Bytes, Goal, Items, Loaded, LoadedFile, OutOfMemory};
+use mo_types::{Bytes, Goal, Items, Loaded, LoadedFile, OutOfMemory, Target};
 use name_ids::{NameTable, NumberList};
 use std::alloc::Global;
 use symbol_winners::{SymbolTable, Winner, place_of};
@@ -269,4 +272,26 @@ pub fn goal_table(
     let mut pool = name_goals(alloc, &scope, room(symbols.names(), numbers))?;
     let places = put_files(alloc, &mut pool, &scope, numbers)?;
     Ok(GoalTable::new(pool, places))
+}
+
+/// Where a target of a file's reference leads, by the goals that a table has of the file's symbols: a symbol to its goal there,
+/// and nowhere where the file has no such symbol; a place in an atom to the same place in the atom that stands for it.
+#[tactic(auto, using(crate::proofs::TargetLemmas::goal_is))]
+pub fn goal_of(
+    symbols: &SymbolTable,
+    file: &FileGoals,
+    target: &Target,
+) -> Result<Goal, OutOfMemory>
+    ensures table { IfOk result (λ goal. goal ≡ goals.target_goal symbols.now.literals (file_goals file.now) target.now) }
+    ensures meaning { IfOk result (λ goal. (files : List Loads) (graph : LibraryGraph) (command : Commanded) (one : Loads)
+        → IsSymbolTable command files symbols.now → file_goals file.now ≡ goals.goals_of_symbols files graph command one
+        → goal ≡ goals.goal_of files graph command one target.now) }
+{
+    match *target {
+        Target::Name(index) => match file.get(index as usize) {
+            Some(goal) => Ok(goal.clone()?),
+            None => Ok(Goal::Nobody),
+        },
+        Target::Local(atom, offset) => Ok(Goal::Def(symbols.representative(atom), offset)),
+    }
 }
