@@ -19,7 +19,7 @@ use mo_types::{
     kind_of,
 };
 use name_ids::{NameTable, NumberList, gather};
-use resolve::{FileGoals, goal_of_name, goal_table};
+use resolve::{FileGoals, goal_of, goal_of_name, goal_table};
 use std::alloc::Global;
 use std::test::Fail;
 use symbol_winners::{SymbolTable, Winner, least_words, winners};
@@ -447,20 +447,14 @@ fn leading_to(row: Option<((u16, u32), u64, u64)>) -> Goal {
     }
 }
 
-// Whether a target of a file leads where it is to, by the goals of the file's symbols.
-fn target_leads(symbols: &SymbolTable, goals: &FileGoals, target: &Target, wanted: &Goal) -> bool {
-    match *target {
-        Target::Name(index) => match goals.get(index as usize) {
-            Some(goal) => goal == wanted,
-            None => *wanted == Goal::Nobody,
-        },
-        Target::Local(atom, offset) => *wanted == Goal::Def(symbols.representative(atom), offset),
+// Whether targets of a file lead where they are to, by the goals of the file's symbols.
+fn targets_of_file_lead(symbols: &SymbolTable, goals: &FileGoals) -> Result<bool, OutOfMemory> {
+    for (target, leads) in &leading_rows() {
+        if goal_of(symbols, goals, target)? != leading_to(*leads) {
+            return Ok(false);
+        }
     }
-}
-
-fn targets_of_file_lead(symbols: &SymbolTable, goals: &FileGoals) -> bool {
-    goals.places().len() == 4
-        && leading_rows().iter().all(|row| target_leads(symbols, goals, &row.0, &leading_to(row.1)))
+    Ok(goals.places().len() == 4)
 }
 
 fn targets_lead(
@@ -477,7 +471,7 @@ fn targets_lead(
 {
     let table = goal_table(alloc, loaded, symbols, numbers, libs, command)?;
     match table.file(1) {
-        Some(goals) => Ok(loaded.files.len() == 2 && targets_of_file_lead(symbols, &goals)),
+        Some(goals) => Ok(loaded.files.len() == 2 && targets_of_file_lead(symbols, &goals)?),
         None => Ok(false),
     }
 }
