@@ -17,8 +17,8 @@ use Rattle.patch.specs.declared.met.Met.{Met}
 use Rattle.patch.specs.declared.met.RangeFault.{RangeFault}
 use Rattle.patch.specs.declared.range.PlacedWork.{PlacedWork}
 use Rattle.patch.specs.Field.{field_of}
-use Rattle.patch.specs.Patched.{AreApart, AreFields, Fits, IsFirstAtFault, IsFirstFault}
-use Rattle.patch.specs.Range.{AllFit, AreStanding, HasBytes, HasFields, IsBeside, IsLeastFault, IsPlaced, IsSameBeside, IsUpTo, bytes_of, part_of}
+use Rattle.patch.specs.Patched.{AreApart, Fits, IsFirstAtFault, IsFirstFault}
+use Rattle.patch.specs.Range.{AllFit, AreStanding, HasBytes, IsBeside, IsLeastFault, IsPlaced, IsSameBeside, IsUpTo, bytes_of, part_of}
 use Rattle.patch.proofs.OneLemmas.{by_element, one_patch}
 use Rattle.patch.proofs.WriteLemmas.{four_at_least}
 
@@ -111,14 +111,14 @@ never_apart : (a b : Met) → a.place ≡ b.place → AreApart a b → ⊥
 never_apart a b same (inl before) = let some = four_at_least a.kind in omega arith
 never_apart a b same (inr after) = let some = four_at_least b.kind in omega arith
 
-one_first : (address size : ℕ) (bytes : List ℕ) (mets : List Met) (fault other : RangeFault) → AreFields address size mets → IsFirstFault address bytes mets fault → IsFirstFault address bytes mets other → fault ≡ other
-one_first address size bytes mets fault other fields (a, first) (b, second) =
+one_first : (address : ℕ) (bytes : List ℕ) (mets : List Met) (fault other : RangeFault) → AllPairs AreApart mets → IsFirstFault address bytes mets fault → IsFirstFault address bytes mets other → fault ≡ other
+one_first address bytes mets fault other apart (a, first) (b, second) =
     let low : a.place ≤ b.place = first_place address bytes mets fault other a b first second in
     let high : b.place ≤ a.place = first_place address bytes mets other fault b a second first in
-    elim (two_of AreApart mets a b fields.apart first.among second.among) [
+    elim (two_of AreApart mets a b apart first.among second.among) [
       | inl same ↦ let fails : field_of address bytes b ≡ Err fault = subst (λ (met : Met). field_of address bytes met ≡ Err fault) same first.fails in let too : field_of address bytes b ≡ Err other = second.fails in cc
-      | inr (inl apart) ↦ absurd (never_apart a b (omega arith) apart)
-      | inr (inr apart) ↦ absurd (never_apart b a (omega arith) apart)
+      | inr (inl beside) ↦ absurd (never_apart a b (omega arith) beside)
+      | inr (inr beside) ↦ absurd (never_apart b a (omega arith) beside)
     ]
 
 -- a key is up to those of the atoms at fault
@@ -129,13 +129,13 @@ least_key files mets work fault other (a, first) (b, second) =
       | inr low ↦ subst (IsUpTo fault.0) (sym second.of_item) low
     ]
 
-pub one_fault : (files : List LoadedFile) (mets : PlacedWork → List Met) (work : List PlacedWork) (fault other : AtomKey × RangeFault) → All (HasFields files mets) work → AllPairs (λ a b. a.atom.key ≢ b.atom.key) work → IsLeastFault files mets work fault.0 fault.1 → IsLeastFault files mets work other.0 other.1 → fault ≡ other
-one_fault files mets work fault other fields differ (a, first) (b, second) =
+pub one_fault : (files : List LoadedFile) (mets : PlacedWork → List Met) (work : List PlacedWork) (fault other : AtomKey × RangeFault) → All (λ item. AllPairs AreApart (mets item)) work → AllPairs (λ a b. a.atom.key ≢ b.atom.key) work → IsLeastFault files mets work fault.0 fault.1 → IsLeastFault files mets work other.0 other.1 → fault ≡ other
+one_fault files mets work fault other apart differ (a, first) (b, second) =
     elim (two_of (λ a b. a.atom.key ≢ b.atom.key) work a b differ first.among second.among) [
       | inl same ↦
           let fails : IsFirstFault b.address (bytes_of files b) (mets b) fault.1 = subst (λ (item : PlacedWork). IsFirstFault item.address (bytes_of files item) (mets item) fault.1) same first.fails in
-          let it : HasFields files mets b = All-contains (HasFields files mets) work b fields second.among in
-          let faults : fault.1 ≡ other.1 = one_first b.address (length (bytes_of files b)) (bytes_of files b) (mets b) fault.1 other.1 it fails second.fails in
+          let it : AllPairs AreApart (mets b) = All-contains (λ (item : PlacedWork). AllPairs AreApart (mets item)) work b apart second.among in
+          let faults : fault.1 ≡ other.1 = one_first b.address (bytes_of files b) (mets b) fault.1 other.1 it fails second.fails in
           both keys faults
       | inr (inl not) ↦ absurd (not (sym first.of_item ∙ keys ∙ second.of_item))
       | inr (inr not) ↦ absurd (not (sym second.of_item ∙ sym keys ∙ first.of_item))

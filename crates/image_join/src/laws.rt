@@ -7,7 +7,8 @@ ghost use Rattle.mo_types.specs.declared.loaded.LoadedFile.{LoadedFile};
 ghost use Rattle.patch.specs.declared.met.Met.{Met};
 ghost use Rattle.patch.specs.declared.met.RangeFault.{RangeFault};
 ghost use Rattle.patch.specs.declared.range.PlacedWork.{PlacedWork};
-ghost use Rattle.patch.specs.Range.{AreStanding, HasBytes, HasFields, IsLeastFault, IsPlaced, IsSameBeside};
+ghost use Rattle.patch.specs.Patched.{AreApart};
+ghost use Rattle.patch.specs.Range.{AreStanding, HasBytes, IsLeastFault, IsPlaced, IsSameBeside};
 ghost use Rattle.image_join.specs.Joined.{IsJoined, LieApart, joined};
 ghost use Rattle.image_join.specs.declared.parts.Parts.{Parts};
 
@@ -28,12 +29,12 @@ pub fn filled_images_are_one()
         → IsSameBeside files from work old b → All (IsPlaced files mets from b) work → a ≡ b }
 {}
 
-/// Where a value doesn't fit its field, no image is filled, and where atoms have their fields and no two of them one key,
-/// one fault alone is the first one of the atom with the least key.
+/// Where a value doesn't fit its field, no image is filled, and where the fields of each atom lie apart and no two atoms
+/// have one key, one fault alone is the first one of the atom with the least key.
 pub fn filled_or_not()
     ensures never { (files : List LoadedFile) (mets : PlacedWork → List Met) (from : ℕ) (work : List PlacedWork) (key : AtomKey) (fault : RangeFault)
         → (image : List ℕ) → IsLeastFault files mets work key fault → ¬ All (IsPlaced files mets from image) work }
     ensures one { (files : List LoadedFile) (mets : PlacedWork → List Met) (work : List PlacedWork) (fault other : AtomKey × RangeFault)
-        → All (HasFields files mets) work → AllPairs (λ a b. a.atom.key ≢ b.atom.key) work
+        → All (λ item. AllPairs AreApart (mets item)) work → AllPairs (λ a b. a.atom.key ≢ b.atom.key) work
         → IsLeastFault files mets work fault.0 fault.1 → IsLeastFault files mets work other.0 other.1 → fault ≡ other }
 {}

@@ -84,12 +84,9 @@ answered m whole bytes rising low = elim (cases_lt (image_size (plan_for m)) (2 
 ]
   where
     laid : (layout : Layout) × IsLaid m layout → IsAnswered m
-    laid (layout, is) = by (placed_or_fault m.files (mets_of m layout) 0 (rows_of m layout) (blank m layout) work
+    laid (layout, is) = by (placed_or_fault m.files (mets_of m layout) 0 (rows_of m layout) (blank m layout) (are_work m layout whole rising low is)
         (All-from_recursion (λ (row : PlacedWork). All (λ byte. byte < 256) (bytes_of m.files row)) (rows_of m layout) (all_from_in (λ (row : PlacedWork). All (λ byte. byte < 256) (bytes_of m.files row)) (rows_of m layout) (λ row h. row_bytes m.files row bytes))))
       where
-        work : Rattle.patch.specs.Range.AreWork m.files (mets_of m layout) 0 (length (blank m layout)) (rows_of m layout)
-        work = are_work m layout whole rising low is
-
         by : ((new : List ℕ) × IsSameBeside m.files 0 (rows_of m layout) (blank m layout) new × All (IsPlaced m.files (mets_of m layout) 0 new) (rows_of m layout) × All (HasBytes m.files 0 new) (rows_of m layout)) ⊎ ((key : AtomKey) × (fault : RangeFault) × IsLeastFault m.files (mets_of m layout) (rows_of m layout) key fault) → IsAnswered m
-        by (inl (new, beside, placed, low)) = inl (new, (layout, is, record { work = work; beside = beside; placed = placed; bytes = low }))
-        by (inr (key, fault, least)) = inr (inr (key, fault, (layout, is, work, least)))
+        by (inl (new, beside, placed, low)) = inl (new, (layout, is, record { beside = beside; placed = placed; bytes = low }))
+        by (inr (key, fault, least)) = inr (inr (key, fault, (layout, is, least)))

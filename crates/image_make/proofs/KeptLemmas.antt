@@ -36,13 +36,12 @@ pub ruleset atoms = (atoms_start)
 numbered : (files : List LoadedFile) (i : ℕ) (d : LoadedFile) → i < length files → get_or (enumerate_from 0 files) i (0, d) ≡ (i, get_or files i d)
 numbered files i d low = let e : 0 + i ≡ i = omega arith in get_or-enumerate_from 0 files i (0, d) low ∙ ap (λ (n : ℕ). (n, get_or files i d)) e
 
-pub file_more : (literals : List Representative) (keys : List AtomKey) (now new : List KeptAtom) (files : List LoadedFile) (at place : ℕ) (file : LoadedFile) → IsGrowing (kept_in literals keys) [] now (enumerate_from 0 files) at → at < length files → file ≡ get_or files at file
-    → place ≡ at → new ≡ now ++ map (kept_as literals place) (filter (λ atom. has keys atom.key) file.atoms) → IsGrowing (kept_in literals keys) [] new (enumerate_from 0 files) (at + 1)
+pub file_more : (literals : List Representative) (keys : List AtomKey) (now new : List KeptAtom) (files : List LoadedFile) (at : ℕ) (file : LoadedFile) → IsGrowing (kept_in literals keys) [] now (enumerate_from 0 files) at → at < length files → file ≡ get_or files at file
+    → new ≡ now ++ map (kept_as literals at) (filter (λ atom. has keys atom.key) file.atoms) → IsGrowing (kept_in literals keys) [] new (enumerate_from 0 files) (at + 1)
 unfolding kept_in
-file_more literals keys now new files at place file grows low is same more =
+file_more literals keys now new files at file grows low is more =
     grow_item (kept_in literals keys) [] now new (enumerate_from 0 files) at (at, file) (0, file) grows (omega (arith, low, length-enumerate_from 0 files))
-    (ap (λ (x : LoadedFile). (at, x)) is ∙ sym (numbered files at file low))
-    (more ∙ ap (λ (n : ℕ). now ++ map (kept_as literals n) (filter (λ (atom : Atom). has keys atom.key) file.atoms)) same)
+    (ap (λ (x : LoadedFile). (at, x)) is ∙ sym (numbered files at file low)) more
 
 pub files_start : (literals : List Representative) (keys : List AtomKey) (files : List LoadedFile) → IsGrowing (kept_in literals keys) [] [] (enumerate_from 0 files) 0
 files_start literals keys files = grow_start (kept_in literals keys) [] (enumerate_from 0 files)

@@ -8,6 +8,7 @@ pub mod OrderLemmas
 pub mod ToldLemmas
 pub mod ExistLemmas
 pub mod RankLemmas
+pub mod RoomLemmas
 pub mod Rowed
 pub mod Spots
 pub mod StoredLemmas

@@ -1,8 +1,8 @@
 -- The atoms with bytes of an image stand one behind the other, and their references have fields in them.
-use Rattle.std.proofs.Common.{◌≡◌, ℕ, zero, suc, ◌+◌, ◌-◌, ◌<◌, ◌≤◌, ◌^◌, ◌==◌, inl, inr, Bool, true, false, not, List, [], ◌∷◌, ◌++◌, length, map, take, drop, get_or, Option, Some, None, Ok, Contains, refl, sym, ap, ◌∙◌, subst, arith, if◌then◌else◌, length-append}
+use Rattle.std.proofs.Common.{◌≡◌, ℕ, zero, suc, ◌+◌, ◌-◌, ◌<◌, ◌≤◌, ◌^◌, ◌==◌, ◌⊎◌, inl, inr, Bool, true, false, List, [], ◌∷◌, length, map, take, drop, Option, Some, None, Ok, Contains, refl, sym, ap, ◌∙◌, subst, arith}
 use Rattle.std.specs.Prelude.{All, slice_get}
-use Rattle.std.specs.List.{AllPairs, AllByRecursion, enumerate_from, filter, filter_map, find, flat_map}
-use Rattle.std.specs.Option.{option_and_then, option_map, option_map_or}
+use Rattle.std.specs.List.{AllPairs, enumerate_from, filter, filter_map, flat_map}
+use Rattle.std.specs.Option.{option_map_or}
 use Rattle.std.specs.Ordering.{is_eq}
 use Rattle.std.proofs.lemmas.Bool.{eqb-true}
 use Rattle.std.proofs.lemmas.List.{length-take, take-append-drop}
@@ -13,6 +13,7 @@ use Rattle.mo_types.specs.AtomBytes.{atom_bytes}
 use Rattle.mo_types.specs.Atoms.{atoms_of}
 use Rattle.mo_types.specs.Keys.{compare_keys}
 use Rattle.mo_types.specs.Loaded.{IsWholeFile}
+use Rattle.mo_types.specs.Refs.{refs_of}
 use Rattle.mo_types.specs.RelocationRules.{section_numbered}
 use Rattle.mo_types.specs.Rows.{field_size}
 use Rattle.mo_types.specs.declared.atom.Atom.{Atom}
@@ -28,37 +29,35 @@ use Rattle.tlv_plan.specs.Template.{aligned, stand}
 use Rattle.tlv_plan.specs.Template as template
 use Rattle.tlv_plan.proofs.Walk.{aligned_least}
 use Rattle.sect_list.specs.OutSections.{out_sections}
-use Rattle.sect_place.specs.Addresses.{AreOnce, address_in}
-use Rattle.sect_place.specs.Layout.{Plan, base_of, end_of_image, first_segments, image_places, image_sections, image_segments, image_size, linkedit, made_bytes, plan_of}
-use Rattle.sect_place.specs.Places.{area_unit, groups_file, groups_sections, groups_segments, spaced, with_area}
+use Rattle.sect_place.specs.Addresses.{address_in}
+use Rattle.sect_place.specs.Layout.{base_of, image_places, image_sections, made_bytes, plan_of}
+use Rattle.sect_place.specs.Places.{area_unit, groups_file, groups_sections, spaced, with_area}
 use Rattle.sect_place.specs.declared.island.IslandArea.{IslandArea}
 use Rattle.sect_place.specs.declared.layout.Layout.{Layout}
 use Rattle.sect_place.specs.declared.layout.Placed.{Placed}
 use Rattle.sect_place.specs.declared.layout.PlacedSection.{PlacedSection}
-use Rattle.sect_place.specs.Whole.{AreInSegments, IsIn, IsWholeLayout, IsWholeSegment}
+use Rattle.sect_place.specs.Whole.{AreInSegments, IsIn, IsWholeSegment}
 use Rattle.sect_place.specs.declared.layout.Segment.{Segment}
 use Rattle.sect_place.proofs.AddressLemmas.{address_is}
 use Rattle.sect_place.proofs.Positions.{finds, found_atom}
-use Rattle.sect_place.proofs.Sound.{whole_finished}
-use Rattle.image_join.specs.declared.parts.Parts.{Parts}
-use Rattle.image_join.proofs.JoinedLemmas.{length-joined}
 use Rattle.patch.specs.Order.{StandsBefore}
-use Rattle.patch.specs.Patched.{AreApart, AreFields, size_of}
+use Rattle.patch.specs.Patched.{AreApart, size_of}
 use Rattle.patch.specs.Range.{AreStanding, AreWork, HasFields, IsStanding, bytes_of}
 use Rattle.patch.specs.declared.met.Met.{Met}
 use Rattle.patch.specs.declared.range.PlacedWork.{PlacedWork}
-use Rattle.patch.proofs.ChosenLemmas.{Pairs, all_pairs, in_slice, pairs_filter, pairs_join, pairs_map, pairs_weaker, some_is}
+use Rattle.patch.proofs.ChosenLemmas.{Pairs, all_pairs, in_slice, pairs_filter, pairs_join, pairs_map, pairs_weaker}
 use Rattle.patch.proofs.ReferenceLemmas.{LieApart, apart_refs, atom_low, low_offset, within_atom}
 use Rattle.image_make.specs.Addresses.{Addressing}
 use Rattle.image_make.specs.Atoms.{AreLow, AreRising, atom_of, kept_as, kept_at, kept_atoms, kept_in, raised}
-use Rattle.image_make.specs.Made.{IsLaid, ImageInputs, blank, blank_of, file_end, front_of, kept_of, mets_of, plan_for, plan_with, rows_of, scene_of, sizes_of}
+use Rattle.image_make.specs.Made.{IsLaid, ImageInputs, blank, blank_of, front_of, kept_of, mets_of, plan_for, plan_with, rows_of, scene_of, sizes_of}
 use Rattle.image_make.specs.Mets as mets
 use Rattle.image_make.specs.Mets.{is_ref_of, met_of}
 use Rattle.image_make.specs.Rows.{goals_at, has_bytes, kept_mets, row_at, row_of, rows, section_rows}
 use Rattle.image_make.specs.declared.kept.KeptAtom.{KeptAtom}
 use Rattle.image_make.proofs.LaidLemmas.{low_atoms}
 use Rattle.image_make.proofs.RankLemmas.{all_stored}
-use Rattle.image_make.proofs.Rowed.{IsRow, IsWithin, atom_within, find_mapped, is_row, placed_once, row_in}
+use Rattle.image_make.proofs.RoomLemmas.{blank_long, layout_end, whole_layout}
+use Rattle.image_make.proofs.Rowed.{atom_within, find_mapped, is_row, placed_once, row_in}
 use Rattle.image_make.proofs.Spots.{all_have, spot}
 use Rattle.image_make.proofs.StoredLemmas.{FileChain, groups_chain}
 
@@ -220,26 +219,6 @@ sections_turn files rows_in from end (section ∷ sections) chain good =
       ];
     }
 
-last_there : (xs : List Segment) (last : Segment) → slice_get (xs ++ last ∷ []) (length xs) ≡ Some last
-last_there [] last = refl
-last_there (x ∷ xs) last = last_there xs last
-
-end_is : (xs : List Segment) (last : Segment) → file_end (xs ++ last ∷ []) ≡ last.file_offset + last.file_size
-unfolding file_end
-end_is xs last =
-    let long : length (xs ++ last ∷ []) - 1 ≡ length xs = omega (arith, length-append xs (last ∷ [])) in
-    ap (λ (n : ℕ). option_map_or (λ (s : Segment). s.file_offset + s.file_size) (slice_get (xs ++ last ∷ []) n) 0) long
-    ∙ ap (λ (o : Option Segment). option_map_or (λ (s : Segment). s.file_offset + s.file_size) o 0) (last_there xs last)
-
-pub blank_long : (m : ImageInputs) (layout : Layout) → IsLaid m layout → length (blank m layout) ≡ groups_file (plan_for m).atoms (plan_for m).base 0 (plan_for m).lead (plan_for m).groups
-unfolding blank_of image_segments
-blank_long m layout laid =
-    let plan = plan_for m in
-    let last = linkedit (end_of_image plan) (groups_file plan.atoms plan.base 0 plan.lead plan.groups) in
-    let others = first_segments m.command ++ groups_segments plan.atoms plan.base 0 plan.lead plan.groups in
-    let ends : file_end layout.segments ≡ groups_file plan.atoms plan.base 0 plan.lead plan.groups + 0 = ap file_end laid.layout_of.segments ∙ end_is others last in
-    length-joined (record { size = file_end layout.segments; parts = record { from = 0; bytes = front_of m layout } ∷ [] }) ∙ ends ∙ (omega arith)
-
 rows_in : (m : ImageInputs) (layout : Layout) → AreRising (kept_of m) → AreLow (kept_of m) → IsLaid m layout → AreRowsIn m.files 0 (length (blank m layout)) (rows_of m layout)
 unfolding rows plan_with plan_of image_sections
 rows_in m layout rising low laid =
@@ -250,7 +229,7 @@ rows_in m layout rising low laid =
     let here : FileChain 0 (filter has_bytes layout.sections) (groups_file plan.atoms plan.base 0 plan.lead plan.groups) =
     subst (λ (ss : List PlacedSection). FileChain 0 (filter has_bytes ss) (groups_file plan.atoms plan.base 0 plan.lead plan.groups)) (sym laid.layout_of.sections) chain in
     sections_turn m.files (section_rows layout.placed (kept_of m)) 0 (length (blank m layout)) (filter has_bytes layout.sections)
-    (subst (λ (n : ℕ). FileChain 0 (filter has_bytes layout.sections) n) (sym (blank_long m layout laid)) here)
+    (subst (λ (n : ℕ). FileChain 0 (filter has_bytes layout.sections) n) (sym (blank_long (front_of m layout) layout ∙ layout_end m layout laid)) here)
     (λ section h. good_section m layout section rising laid (from_filter has_bytes layout.sections section h).0)
 
 -- ---- the file of a row, and its atom there
@@ -345,19 +324,28 @@ fields_within scene goals file atom whole listed =
         let fits : m.0.place + field_size m.0.kind ≤ length (atom_bytes file.object atom) = within_atom file.object file.id file.refs atom m.0 whole.object whole.refs (subst (λ (xs : List Atom). In atom xs) whole.atoms listed) of.0 of.1 of.2 in
         subst (λ (x : Met). x.place + size_of x ≤ length (atom_bytes file.object atom)) m.2 fits
 
-fields_apart : (scene : Addressing) (goals : List Goal) (file : LoadedFile) (atom : Atom) → IsWholeFile file → In atom file.atoms → AllPairs AreApart (mets.mets_of scene goals file.refs atom.key)
+-- the references of a file are those of its object, or there are none
+abbrev pub HasRefs : LoadedFile → Type 0
+HasRefs file = (refs_of file.object file.id ≡ Ok file.refs) ⊎ (file.refs ≡ [])
+
+fields_apart : (scene : Addressing) (goals : List Goal) (file : LoadedFile) (key : AtomKey) → HasRefs file → AllPairs AreApart (mets.mets_of scene goals file.refs key)
 unfolding mets.mets_of met_of
-fields_apart scene goals file atom whole listed =
-    all_pairs AreApart (map (met_of scene goals) (chosen file atom.key))
-    (pairs_map (met_of scene goals) AreApart (chosen file atom.key)
-    (pairs_weaker LieApart (λ a b. AreApart (met_of scene goals a) (met_of scene goals b)) (chosen file atom.key) meets
-    (pairs_filter LieApart (is_ref_of atom.key.section atom.key.offset) file.refs (apart_refs file.object file.id file.refs whole.refs))))
+fields_apart scene goals file key (inr none) = rw none (λ i j d low high. absurd (omega (arith, high)))
+fields_apart scene goals file key (inl refs) =
+    all_pairs AreApart (map (met_of scene goals) (chosen file key))
+    (pairs_map (met_of scene goals) AreApart (chosen file key)
+    (pairs_weaker LieApart (λ a b. AreApart (met_of scene goals a) (met_of scene goals b)) (chosen file key) meets
+    (pairs_filter LieApart (is_ref_of key.section key.offset) file.refs (apart_refs file.object file.id file.refs refs))))
   where
-    meets : (a b : Ref) → In a (chosen file atom.key) → In b (chosen file atom.key) → LieApart a b → AreApart (met_of scene goals a) (met_of scene goals b)
+    meets : (a b : Ref) → In a (chosen file key) → In b (chosen file key) → LieApart a b → AreApart (met_of scene goals a) (met_of scene goals b)
     meets a b h k apart =
-        let first = chosen_of file atom a whole listed h in
-        let second = chosen_of file atom b whole listed k in
-        apart (first.1 ∙ sym second.1) (first.2 ∙ sym second.2)
+        let first = from_filter (is_ref_of key.section key.offset) file.refs a h in
+        let second = from_filter (is_ref_of key.section key.offset) file.refs b k in
+        let low = low_offset file.object file.id file.refs a refs first.0 in
+        let small = low_offset file.object file.id file.refs b refs second.0 in
+        let one = eqb-true (place_of a.atom.section a.atom.offset) (place_of key.section key.offset) first.1 in
+        let other = eqb-true (place_of b.atom.section b.atom.offset) (place_of key.section key.offset) second.1 in
+        apart (omega (arith, one, other, low, small)) (omega (arith, one, other, low, small))
 
 bytes_are : (m : ImageInputs) (row : PlacedWork) (of : IsOfFile m row) → bytes_of m.files row ≡ atom_bytes of.file.object of.among
 unfolding bytes_of raised
@@ -385,18 +373,9 @@ section_low (segment ∷ segments) sections section whole are h =
       | inr later ↦ section_low segments (drop segment.sections sections) section (All-tail IsWholeSegment segment segments whole) are.2 later
     ]
 
-base_small : (dylib : Bool) → (if dylib then 0 else 2 ^ 32) ≤ 2 ^ 32
-base_small true = omega arith
-base_small false = omega arith
-
-whole_layout : (m : ImageInputs) (layout : Layout) → IsLaid m layout → IsWholeLayout layout
-unfolding plan_with plan_of
-whole_layout m layout laid =
-    whole_finished m.command (plan_for m) (out_sections m.files (map atom_of (kept_of m))) (made_bytes m.slots (sizes_of m.command m.libs)) (Ok layout) refl (base_small m.command.dylib) refl laid.layout_of.segments laid.layout_of.sections laid.small
-
 -- ---- all rows
 
-fields_of : (m : ImageInputs) (layout : Layout) (row : PlacedWork) → All IsWholeFile m.files → AreRising (kept_of m) → IsLaid m layout → In row (rows_of m layout) → HasFields m.files (mets_of m layout) row
+pub fields_of : (m : ImageInputs) (layout : Layout) (row : PlacedWork) → All IsWholeFile m.files → AreRising (kept_of m) → IsLaid m layout → In row (rows_of m layout) → HasFields m.files (mets_of m layout) row
 fields_of m layout row whole rising laid h =
     let of = row_of_file m layout row h in
     let file : IsWholeFile of.file = All-contains IsWholeFile m.files of.file whole (Contains_from_in m.files of.file (in_slice m.files row.file of.file of.there)) in
@@ -411,21 +390,50 @@ fields_of m layout row whole rising laid h =
       within = subst (λ (ms : List Met). All (λ (met : Met). met.place + size_of met ≤ length (bytes_of m.files row)) ms) (sym (mets_are m layout row of))
           (subst (λ (bs : List ℕ). All (λ (met : Met). met.place + size_of met ≤ length bs) (mets.mets_of (scene_of m layout) (goals_at m.goals row.file) of.file.refs of.among.key)) (sym bytes)
           (fields_within (scene_of m layout) (goals_at m.goals row.file) of.file of.among file of.listed));
-      apart = subst (λ (ms : List Met). AllPairs AreApart ms) (sym (mets_are m layout row of)) (fields_apart (scene_of m layout) (goals_at m.goals row.file) of.file of.among file of.listed);
+      apart = subst (λ (ms : List Met). AllPairs AreApart ms) (sym (mets_are m layout row of)) (fields_apart (scene_of m layout) (goals_at m.goals row.file) of.file of.among.key (inl file.refs));
+    }
+
+-- the references of each have fields that lie apart
+pub rows_apart : (m : ImageInputs) (layout : Layout) → All HasRefs m.files → All (λ (row : PlacedWork). AllPairs AreApart (mets_of m layout row)) (rows_of m layout)
+rows_apart m layout refs = All-from_recursion Apart (rows_of m layout) (all_from_in Apart (rows_of m layout) each)
+  where
+    Apart : PlacedWork → Type 0
+    Apart row = AllPairs AreApart (mets_of m layout row)
+
+    each : (row : PlacedWork) → In row (rows_of m layout) → Apart row
+    each row h =
+        let of = row_of_file m layout row h in
+        let file : HasRefs of.file = All-contains HasRefs m.files of.file refs (Contains_from_in m.files of.file (in_slice m.files row.file of.file of.there)) in
+        subst (λ (ms : List Met). AllPairs AreApart ms) (sym (mets_are m layout row of)) (fields_apart (scene_of m layout) (goals_at m.goals row.file) of.file of.among.key file)
+
+-- they stand one behind the other
+pub are_standing : (m : ImageInputs) (layout : Layout) → AreRising (kept_of m) → AreLow (kept_of m) → IsLaid m layout → AreStanding m.files 0 (length (blank m layout)) (rows_of m layout)
+are_standing m layout rising low laid =
+    let stand = rows_in m layout rising low laid in
+    record {
+      items = All-from_recursion (IsStanding m.files 0 (length (blank m layout))) (rows_of m layout) (all_from_in (IsStanding m.files 0 (length (blank m layout))) (rows_of m layout)
+          (λ row h.
+          let of = row_of_file m layout row h in
+          let one = stand.within row h in
+          record { file = slice_low m.files row.file of.file of.there; begins = omega arith; ends = omega (arith, one.1) }));
+      in_order = all_pairs (StandsBefore m.files) (rows_of m layout) stand.turn;
     }
 
 pub are_work : (m : ImageInputs) (layout : Layout) → All IsWholeFile m.files → AreRising (kept_of m) → AreLow (kept_of m) → IsLaid m layout → AreWork m.files (mets_of m layout) 0 (length (blank m layout)) (rows_of m layout)
 are_work m layout whole rising low laid =
-    let stand = rows_in m layout rising low laid in
     record {
-      stand = record {
-        items = All-from_recursion (IsStanding m.files 0 (length (blank m layout))) (rows_of m layout) (all_from_in (IsStanding m.files 0 (length (blank m layout))) (rows_of m layout)
-            (λ row h.
-            let of = row_of_file m layout row h in
-            let one = stand.within row h in
-            record { file = slice_low m.files row.file of.file of.there; begins = omega arith; ends = omega (arith, one.1) }));
-        in_order = all_pairs (StandsBefore m.files) (rows_of m layout) stand.turn;
-      };
+      stand = are_standing m layout rising low laid;
       fields = All-from_recursion (HasFields m.files (mets_of m layout)) (rows_of m layout) (all_from_in (HasFields m.files (mets_of m layout)) (rows_of m layout)
           (λ row h. fields_of m layout row whole rising laid h));
     }
+
+-- of what was laid out, by what the steps gave
+pub laid_work : (m : ImageInputs) (layout : Layout) (kept : List KeptAtom) (base : ℕ) (mets : PlacedWork → List Met) (items : List PlacedWork) (front old : List ℕ) → All IsWholeFile m.files → AreRising (kept_of m) → AreLow (kept_of m) → IsLaid m layout → kept ≡ kept_of m → base ≡ base_of m.command → front ≡ front_of m layout
+    → mets ≡ kept_mets (record { literals = m.literals; base = base; placed = layout.placed }) m.files m.goals → items ≡ rows layout.placed kept layout.sections → old ≡ blank_of front layout → AreWork m.files mets 0 (length old) items
+laid_work m layout kept base mets items front old whole rising low laid kept_is base_is front_is mets_is items_is old_is =
+    let met : mets ≡ mets_of m layout = mets_is ∙ ap (λ (b : ℕ). kept_mets (record { literals = m.literals; base = b; placed = layout.placed }) m.files m.goals) base_is in
+    let all : items ≡ rows_of m layout = items_is ∙ ap (λ (ks : List KeptAtom). rows layout.placed ks layout.sections) kept_is in
+    let blanks : old ≡ blank m layout = old_is ∙ ap (λ (f : List ℕ). blank_of f layout) front_is in
+    subst (λ (ms : PlacedWork → List Met). AreWork m.files ms 0 (length old) items) (sym met)
+    (subst (λ (xs : List PlacedWork). AreWork m.files (mets_of m layout) 0 (length old) xs) (sym all)
+    (subst (λ (bs : List ℕ). AreWork m.files (mets_of m layout) 0 (length bs) (rows_of m layout)) (sym blanks) (are_work m layout whole rising low laid)))

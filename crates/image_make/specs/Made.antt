@@ -18,7 +18,7 @@ use Rattle.mo_types.specs.declared.key.AtomKey.{AtomKey}
 use Rattle.mo_types.specs.declared.loaded.LoadedFile.{LoadedFile}
 use Rattle.patch.specs.declared.met.Met.{Met}
 use Rattle.patch.specs.declared.range.PlacedWork.{PlacedWork}
-use Rattle.patch.specs.Range.{AreWork, HasBytes, IsLeastFault, IsPlaced, IsSameBeside}
+use Rattle.patch.specs.Range.{HasBytes, IsLeastFault, IsPlaced, IsSameBeside}
 use Rattle.literal_merge.specs.declared.representative.Representative.{Representative}
 use Rattle.sect_place.specs.Layout.{IsLayoutOf, IsTooLarge, Plan, base_of, image_size, plan_of}
 use Rattle.sect_list.specs.OutSections.{out_sections}
@@ -126,9 +126,8 @@ rows_of m layout = rows layout.placed (kept_of m) layout.sections
 abbrev pub mets_of : ImageInputs → Layout → PlacedWork → List Met
 mets_of m layout = kept_mets (scene_of m layout) m.files m.goals
 
--- an image is a blank one with its atoms, which stand apart, each of bytes with its fields, and no other change
+-- an image is a blank one with its atoms, each of bytes with its fields, and no other change
 pub record IsFilledImage (files : List LoadedFile) (mets : PlacedWork → List Met) (items : List PlacedWork) (old image : List ℕ) : Type 0 where
-  pub work : AreWork files mets 0 (length old) items
   pub beside : IsSameBeside files 0 items old image
   pub placed : All (IsPlaced files mets 0 image) items
   pub bytes : All (HasBytes files 0 image) items
@@ -138,6 +137,5 @@ abbrev pub IsMade : ImageInputs → Result (List ℕ) MakeFault → Type 0
 IsMade m (Ok image) = (layout : Layout) × IsLaid m layout × IsFilledImage m.files (mets_of m layout) (rows_of m layout) (blank m layout) image
 IsMade m (Err (Place fault)) = IsTooLarge (image_size (plan_for m)) fault
 IsMade m (Err (Range key fault)) =
-    (layout : Layout) × IsLaid m layout × AreWork m.files (mets_of m layout) 0 (length (blank m layout)) (rows_of m layout)
-    × IsLeastFault m.files (mets_of m layout) (rows_of m layout) key fault
+    (layout : Layout) × IsLaid m layout × IsLeastFault m.files (mets_of m layout) (rows_of m layout) key fault
 IsMade m (Err OutOfMemory) = Unit {0}

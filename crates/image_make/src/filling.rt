@@ -1,9 +1,9 @@
 //! A blank image, filled with its atoms.
-ghost use Rattle.std.specs.Prelude.{◌≡◌, ◌<◌, All, IfOk};
+ghost use Rattle.std.specs.Prelude.{◌≡◌, ◌<◌, ◌≤◌, ◌^◌, All, IfOk, length};
 ghost use Rattle.image_make.specs.AtomReferences.{IsReady, met_by};
 ghost use Rattle.image_make.specs.Made as spec;
 ghost use Rattle.image_make.specs.inner.Filled.{IsFilled};
-ghost use Rattle.patch.specs.Range.{HasBytes};
+ghost use Rattle.patch.specs.Range.{AreWork, HasBytes};
 ghost use Rattle.sect_place.specs.Whole.{IsWholeSegment};
 
 use crate::fault::MakeFault;
@@ -11,7 +11,7 @@ use crate::meeting::AtomReferences;
 use image_join::{Part, PartList, Parts, PlacedAtoms, fill, join};
 use mo_outside::Gate;
 use mo_types::{Bytes, OutOfMemory};
-use patch::{PatchFault, work_stands};
+use patch::PatchFault;
 use sect_place::{Layout, Segment};
 use std::alloc::Global;
 use std::thread::Threads;
@@ -28,21 +28,19 @@ fn file_end(segments: &[Segment]) -> u64
     }
 }
 
-/// An image with its header and load commands, and zeros behind them. A header that has no room before the end of the
-/// last segment is answered as want of memory.
+/// An image with its header and load commands, and zeros behind them, to the end of the last segment.
 #[tactic(auto, unfolding(crate::specs::Made::blank_of))]
 pub(crate) fn blank_image(
     alloc: Global,
     layout: &Layout,
     front: Bytes,
 ) -> Result<Vec<u8>, OutOfMemory>
-    requires { All IsWholeSegment layout.now.segments }
+    requires whole { All IsWholeSegment layout.now.segments }
+    requires room { length front ≤ spec.file_end layout.now.segments }
+    requires small { spec.file_end layout.now.segments < 2 ^ 32 }
     ensures { IfOk result (λ blank. blank.items ≡ spec.blank_of front layout.now) }
 {
     let size = file_end(layout.segments.as_slice());
-    if size >= 1 << 32 || front.len() as u64 > size {
-        return Err(OutOfMemory);
-    }
     let mut parts = PartList::new(alloc);
     parts.push(Part {
         from: 0,
@@ -66,8 +64,8 @@ fn have_bytes(atoms: &PlacedAtoms<AtomReferences>, image: &[u8])
     are_bytes(image);
 }
 
-/// An image with its atoms, each with the fields of its references, written by so many workers. Atoms that don't stand
-/// one behind the other are answered as want of memory.
+/// An image with its atoms, which stand one behind the other, each with the fields of its references, written by so many
+/// workers.
 pub(crate) fn fill_image<R: Threads + Sync, G: Gate + Sync>(
     rt: &R,
     alloc: Global,
@@ -77,12 +75,10 @@ pub(crate) fn fill_image<R: Threads + Sync, G: Gate + Sync>(
     blank: Vec<u8>,
 ) -> Result<Bytes, MakeFault>
     requires ready { IsReady atoms.now.meeting.now }
+    requires work { AreWork atoms.now.loaded.now.files (met_by atoms.now.meeting.now) 0 (length blank.items) atoms.now.work.now }
     ensures { IsFilled atoms.now.loaded.now.files (met_by atoms.now.meeting.now) atoms.now.work.now blank.items result }
 {
     let mut image = blank;
-    if !work_stands(atoms.work, atoms.loaded.files.as_slice(), 0, image.len()) {
-        return Err(MakeFault::OutOfMemory);
-    }
     match fill(rt, alloc, gate, workers, image.as_mut_slice(), atoms) {
         Ok(()) => {
             let image = Bytes::from_vec(image)?;

@@ -24,7 +24,7 @@ pub struct KeptAtom {
 #[derive(Debug, Drop)]
 pub struct KeptList {
     atoms: AtomList,
-    files: Vec<u32>,
+    files: Vec<usize>,
 }
 
 impl Model for KeptList {
@@ -66,10 +66,7 @@ impl KeptList {
     {
         let atom = *self.atoms.get(at)?;
         let file = *self.files.get(at)?;
-        Some(KeptAtom {
-            atom,
-            file: file as usize,
-        })
+        Some(KeptAtom { atom, file })
     }
 
     /// The atoms alone.
@@ -136,7 +133,7 @@ fn with_file(
     before: KeptList,
     symbols: &SymbolTable,
     keys: &[AtomKey],
-    at: u32,
+    at: usize,
     atoms: &[Atom],
 ) -> Result<KeptList, OutOfMemory>
     requires { IsStrictlySortedBy compare_keys keys.now }
@@ -154,7 +151,7 @@ fn with_file(
     })
 }
 
-// Those of files. 2^32 files run out of memory.
+// Those of files.
 #[tactic(auto, using(crate::proofs::KeptLemmas::files))]
 fn kept_of(
     alloc: Global,
@@ -167,16 +164,13 @@ fn kept_of(
 {
     let mut kept = KeptList::with_capacity(alloc, keys.len())?;
     for (at, file) in files.iter().enumerate() {
-        let Ok(place) = u32::try_from(at) else {
-            return Err(OutOfMemory);
-        };
-        kept = with_file(kept, symbols, keys, place, file.atoms.as_slice())?;
+        kept = with_file(kept, symbols, keys, at, file.atoms.as_slice())?;
     }
     Ok(kept)
 }
 
 /// The atoms of loaded files whose keys are kept, file by file and in each as it is cut, with the alignments with which
-/// they are placed: a literal has the greatest of those for which it stands. Those of 2^32 files run out of memory.
+/// they are placed: a literal has the greatest of those for which it stands.
 pub fn kept_atoms(
     alloc: Global,
     loaded: &Loaded,

@@ -1,7 +1,7 @@
 -- The laws of the verdict, a line for each step: there is one at most, and it is a stop just where its cause stands.
 use Rattle.std.proofs.Common.{◌≡◌, ◌↔◌, ℕ, ◌+◌, ◌<◌, ◌^◌, ◌++◌, if◌then◌else◌, Bool, true, false, nat_lt, List, [], ◌∷◌, length, Option, Some, None, Result, Ok, Err, refl, sym, ap, ◌∙◌, subst, arith}
 use Rattle.std.specs.List.{range_with_len}
-use Rattle.std.specs.Prelude.{IfErr, IfOk}
+use Rattle.std.specs.Prelude.{All, IfErr, IfOk}
 use Rattle.std.specs.Result.{result_err}
 use Rattle.std.proofs.lemmas.Bool.{ltb-true, ltb-false}
 use Rattle.file_cache.specs.Program.{File, There, Absent, Unread, Outcome, and_then, ends, read_as}
@@ -23,21 +23,21 @@ use Rattle.lib_bind.specs.declared.named.NamedStub.{NamedStub}
 use Rattle.lib_bind.proofs.OneLemmas.{outcomes_one, whole_one}
 use Rattle.link_files.proofs.CauseLemmas.{link_stops}
 use Rattle.link_files.proofs.OneLemmas.{link_one}
-use Rattle.link_files.specs.Linked.{AreCut, IsLinked}
+use Rattle.link_files.specs.Linked.{AreCut, AreLow, AreReferred, IsLinked}
 use Rattle.link_files.specs.Names.{wanted}
 use Rattle.link_steps.proofs.AskLemmas.{asks_law, gives_law, last_law, tries_law, unless_law}
 use Rattle.link_steps.specs.Asking.{IsLawful, IsOne, Stops, gives}
 use Rattle.link_steps.specs.Steps.{Agree}
 use Rattle.link_steps.specs.declared.fault.StepFault.{StepFault}
 use Rattle.list_lemmas.proofs.Members.{Contains_from_in}
-use Rattle.input_files.specs.Files.{IsLoadFault, all_ids, content_of as file_content, file_of}
+use Rattle.input_files.specs.Files.{HasLowAtoms, IsLoadFault, all_ids, content_of as file_content, file_of, refs_or_none}
 use Rattle.member_rounds.specs.Rounds.{files_of, loaded_ids, loaded_of, names_fault, new_ids, round, round_fault}
 use Rattle.input_files.specs.Sources.{AreInOrder}
 use Rattle.input_files.specs.declared.fault.LoadFault.{LoadFault}
 use Rattle.input_files.specs.declared.fault.LoadFault.TheVariants as rounds
 use Rattle.input_files.specs.declared.input.Input.{Input}
 use Rattle.member_rounds.proofs.AnswerLemmas.{loaded_only}
-use Rattle.member_rounds.proofs.LowLemmas.{object_at}
+use Rattle.member_rounds.proofs.LowLemmas.{low_at, object_at}
 use Rattle.member_rounds.proofs.RiseLemmas.{loaded_rises}
 use Rattle.input_files.proofs.EachLemmas.{all_from}
 use Rattle.name_ids.specs.Names.{external_names, numbered}
@@ -46,6 +46,7 @@ use Rattle.command_line.specs.declared.command.Command.{Command}
 use Rattle.mo_cmd.specs.declared.usage_fault.UsageFault.{UsageFault}
 use Rattle.mo_cmd.specs.declared.usage_fault.UsageFault.TheVariants as usage
 use Rattle.mo_types.specs.Atoms.{atoms_of}
+use Rattle.mo_types.specs.Refs.{refs_of}
 use Rattle.mo_types.specs.Scan.{first_some, option_or_else}
 use Rattle.mo_types.specs.declared.answer.Refusal.{Refusal}
 use Rattle.mo_types.specs.declared.answer.Refusal.TheVariants as refusal
@@ -308,16 +309,32 @@ module _ (look : List ℕ → File) (command : Command) (stubs : List NamedStub)
 abbrev IsCut : LoadedFile → Type 0
 IsCut file = file.atoms ≡ atoms_of file.object file.id
 
--- what is read is cut into the pieces of its object
-all_cut : (inputs : List Input) (libs : LibraryGraph) (names : List (List ℕ)) (loaded : Loaded) → loaded_of inputs libs names ≡ Ok loaded → AreCut loaded.files
-all_cut inputs libs names loaded is = all_from IsCut loaded.files (λ one there.
-    let from = loaded_only inputs libs names loaded one is (Contains_from_in loaded.files one there) in
-    subst IsCut (sym (object_at inputs from.0 one from.2).is) refl)
+-- it has the references of its object
+abbrev IsReferred : LoadedFile → Type 0
+IsReferred file = file.refs ≡ refs_or_none (refs_of file.object file.id)
+
+-- what holds of each file that is read
+module _ (inputs : List Input) (libs : LibraryGraph) (names : List (List ℕ)) (loaded : Loaded) (is : loaded_of inputs libs names ≡ Ok loaded) where
+  all_read : (P : LoadedFile → Type 0) → ((id : FileId) (file : LoadedFile) → file_of inputs id ≡ Ok file → P file) → All P loaded.files
+  all_read P holds = all_from P loaded.files (λ one there.
+      let from = loaded_only inputs libs names loaded one is (Contains_from_in loaded.files one there) in
+      holds from.0 one from.2)
+
+  all_cut : AreCut loaded.files
+  all_cut = all_read IsCut (λ id file read. subst IsCut (sym (object_at inputs id file read).is) refl)
+
+  all_referred : AreReferred loaded.files
+  all_referred = all_read IsReferred (λ id file read. subst IsReferred (sym (object_at inputs id file read).is) refl)
+
+  all_low : AreLow loaded.files
+  all_low = all_read HasLowAtoms (low_at inputs)
 
 -- the files of a command's inputs
 module _ (command : Command) (libs : LibraryGraph) (inputs : List Input) (loaded : Loaded) (order : AreInOrder inputs) (is : loaded_of inputs libs (wanted command) ≡ Ok loaded) where
   linked_one : (a b : Result (List ℕ) Refusal) → IsLinked command libs loaded.files a → IsLinked command libs loaded.files b → a ≡ b
-  linked_one a b p q = link_one command libs loaded.files (loaded_rises inputs libs (wanted command) loaded order is) (all_cut inputs libs (wanted command) loaded is) a b p q
+  linked_one =
+      let names = wanted command in
+      link_one command libs loaded.files (loaded_rises inputs libs names loaded order is) (all_cut inputs libs names loaded is) (all_referred inputs libs names loaded is) (all_low inputs libs names loaded is)
 
   image_one : Agree (IsImage command libs loaded.files) (IsImage command libs loaded.files)
   image_one a b p q = by a b p q

@@ -23,7 +23,7 @@ use Rattle.sect_place.specs.Layout.{image_size}
 use Rattle.sect_place.specs.declared.size.PlaceFault.TheVariants as place
 use Rattle.link_files.specs.Causes.{IsLookedUp, IsLost, IsUnfit, LinkCause}
 use Rattle.link_files.specs.Flags.{header_flags}
-use Rattle.link_files.specs.Later.{first_later, is_outer, later_file, later_refusal}
+use Rattle.link_files.specs.Later.{is_outer, later_file, later_refusal}
 use Rattle.link_files.specs.Linked.{AsImage, IsLinked, making}
 use Rattle.link_files.specs.Lost.{lost_wanted, undefined_refusal}
 use Rattle.link_files.specs.Missing.{Asks, HoldsOfNone, IsFirstFile}
@@ -94,7 +94,7 @@ image_stop command libs files symbols keys why = (to, from)
     by : (fault : MakeFault) → IsMade m (Err fault) → IsToldAs command files fault why → IsUnfit m why
     by (make.Place (place.ImageSize value)) is told = inl (record { long = is.0; told = told ∙ ap (λ (v : ℤ). refusal.Range command.output 0 ImageSize v) is.1 })
     by (make.Place place.OutOfMemory) is told = absurd told
-    by (make.Range key fault) is told = inr (record { layout = is.0; laid = is.1; stands = is.2; key = key; fault = fault; unfit = is.3; told = told })
+    by (make.Range key fault) is told = inr (record { layout = is.0; laid = is.1; key = key; fault = fault; unfit = is.2; told = told })
     by make.OutOfMemory is told = absurd told
 
     to : AsImage command libs files symbols keys (Err why) → IsUnfit m why
@@ -102,7 +102,7 @@ image_stop command libs files symbols keys why = (to, from)
 
     from : IsUnfit m why → AsImage command libs files symbols keys (Err why)
     from (inl long) = (make.Place (place.ImageSize (pos (image_size (plan_for m)))), (long.long, refl), long.told)
-    from (inr out) = (make.Range out.key out.fault, (out.layout, out.laid, out.stands, out.unfit), out.told)
+    from (inr out) = (make.Range out.key out.fault, (out.layout, out.laid, out.unfit), out.told)
 
 pub link_stops : (command : Command) (libs : LibraryGraph) (files : List LoadedFile) → Stops (IsLinked command libs files) (LinkCause command libs files)
 link_stops command libs files =

@@ -1,12 +1,14 @@
 -- Loaded files link to one thing.
-use Rattle.std.proofs.Common.{◌≡◌, ℕ, ◌+◌, ◌<◌, ◌≤◌, ◌^◌, ◌++◌, Bool, true, false, ℤ, List, [], ◌∷◌, map, Option, Some, None, Result, Ok, Err, refl, sym, ap, ap₂, subst, ◌∙◌, arith, if◌then◌else◌}
+use Rattle.std.proofs.Common.{◌≡◌, ℕ, ◌+◌, ◌<◌, ◌≤◌, ◌^◌, ◌++◌, Bool, true, false, ℤ, inl, inr, get_or, List, [], ◌∷◌, map, Option, Some, None, Result, Ok, Err, refl, sym, ap, ap₂, subst, ◌∙◌, arith, if◌then◌else◌}
 use Rattle.std.specs.Prelude.{All, slice_get}
-use Rattle.std.specs.List.{AllPairs, filter_map, flat_map, list_any}
+use Rattle.std.specs.List.{filter_map, flat_map, list_any}
 use Rattle.std.specs.List.Sorted.{IsStrictlySortedBy}
 use Rattle.std.specs.Ordering.{on}
-use Rattle.image_make.specs.Atoms.{atom_of, kept_atoms}
+use Rattle.image_make.specs.Atoms.{AreLow as AreLowKept, AreRising, atom_of}
 use Rattle.image_join.proofs.OneLemmas.{not_filled, one_fault, one_image}
 use Rattle.image_make.proofs.KeptListLemmas.{rising_atoms}
+use Rattle.image_make.proofs.WorkLemmas.{HasRefs, are_standing, rows_apart}
+use Rattle.input_files.specs.Files.{refs_or_none}
 use Rattle.image_make.specs.Made.{IsFilledImage, IsLaid, IsMade, ImageInputs, blank, kept_of, mets_of, plan_for, plan_with, rows_of, sizes_of}
 use Rattle.image_make.specs.declared.fault.MakeFault.{MakeFault}
 use Rattle.image_make.specs.declared.fault.MakeFault.TheVariants as make
@@ -15,7 +17,7 @@ use Rattle.mark_core.proofs.LawLemmas.{kept_is_one}
 use Rattle.mark_core.specs.Kept.{IsKept}
 use Rattle.command_line.specs.declared.command.Command.{Command}
 use Rattle.mo_types.specs.Keys.{compare_keys}
-use Rattle.mo_types.specs.Loaded.{IsBefore}
+use Rattle.mo_types.specs.Refs.{refs_of}
 use Rattle.mo_format.specs.declared.loader.TheConstants.{MH_DYLDLINK, MH_NOUNDEFS, MH_TWOLEVEL}
 use Rattle.mo_types.specs.declared.answer.Refusal.{Refusal}
 use Rattle.mo_types.specs.declared.answer.Refusal.TheVariants.{Duplicate}
@@ -24,6 +26,8 @@ use Rattle.mo_types.specs.declared.goal.Goal.{Goal}
 use Rattle.mo_types.specs.declared.key.AtomKey.{AtomKey}
 use Rattle.mo_types.specs.declared.key.FileId.{FileId}
 use Rattle.mo_types.specs.declared.loaded.LoadedFile.{LoadedFile}
+use Rattle.mo_types.specs.declared.reference.Ref.{Ref}
+use Rattle.mo_types.specs.declared.reference_fault.RefFault.{RefFault}
 use Rattle.name_ids.specs.Names.{IsNumbering}
 use Rattle.patch.specs.Range.{IsLeastFault}
 use Rattle.patch.specs.declared.met.RangeFault.{RangeFault}
@@ -43,13 +47,13 @@ use Rattle.sect_place.specs.declared.layout.Layout.{Layout}
 use Rattle.sect_place.specs.declared.size.PlaceFault.TheVariants as place
 use Rattle.link_files.specs.Flags.{header_flags, is_weak_export, kind_flag, weak_flag}
 use Rattle.link_files.specs.Later.{later_refusal}
-use Rattle.link_files.specs.Linked.{AsImage, AsMade, IsLinked, making}
+use Rattle.link_files.specs.Linked.{AreCut, AreLow, AreOrdered, AreReferred, AsImage, AsMade, IsLinked, making}
 use Rattle.link_files.specs.Lost.{undefined_refusal}
 use Rattle.link_files.specs.Names.{label_of, wanted}
 use Rattle.link_files.specs.Refusals.{AreOnce, IsDuplicateTold, IsToldAs, IsTwice}
 use Rattle.link_files.specs.Resolved.{AreKept}
 use Rattle.link_files.proofs.ApartLemmas.{work_apart}
-use Rattle.link_files.proofs.KeptLemmas.{IsCut, kept_rise}
+use Rattle.link_files.proofs.KeptLemmas.{kept_low, kept_rise}
 use Rattle.link_files.proofs.NameLemmas.{are_numbering, same_some}
 use Rattle.link_steps.proofs.StepLemmas.{checks_agree, gives_agree, some_agree, unless_agree}
 use Rattle.link_steps.specs.Steps.{Agree}
@@ -149,22 +153,31 @@ layout_one m a b rising p q =
     layouts_same (map atom_of (kept_of m)) (out_sections m.files (map atom_of (kept_of m))) m.slots m.islands (sizes_of m.command m.libs) m.command a b
     (listed_once m.files (map atom_of (kept_of m)) rising) p.layout_of q.layout_of
 
-image_one : (m : ImageInputs) (a b : List ℕ) → IsStrictlySortedBy (on (λ (atom : Atom). atom.key) compare_keys) (map atom_of (kept_of m)) → IsMade m (Ok a) → IsMade m (Ok b) → a ≡ b
-image_one m a b rising (lay, laid, filled) (other, also, again) =
-    let same : other ≡ lay = layout_one m other lay rising also laid in
-    let here : IsFilledImage m.files (mets_of m lay) (rows_of m lay) (blank m lay) b = subst (λ (l : Layout). IsFilledImage m.files (mets_of m l) (rows_of m l) (blank m l) b) same again in
-    one_image m.files (mets_of m lay) 0 (rows_of m lay) (blank m lay) a b filled.work.stand filled.bytes here.bytes filled.beside filled.placed here.beside here.placed
+-- What an image is made of that is one: kept atoms that rise and are aligned to a page at most, and references of which no
+-- two fill in one field.
+record IsSound (m : ImageInputs) : Type 0 where
+  rising : AreRising (kept_of m)
+  low : AreLowKept (kept_of m)
+  refs : All HasRefs m.files
 
-image_or_fault : (m : ImageInputs) (image : List ℕ) (key : AtomKey) (fault : RangeFault) → IsStrictlySortedBy (on (λ (atom : Atom). atom.key) compare_keys) (map atom_of (kept_of m)) → IsMade m (Ok image) → IsMade m (Err (make.Range key fault)) → ⊥
-image_or_fault m image key fault rising (lay, laid, filled) (other, also, work, least) =
-    let same : other ≡ lay = layout_one m other lay rising also laid in
+same_layout : (m : ImageInputs) (a b : Layout) → IsSound m → IsLaid m a → IsLaid m b → a ≡ b
+same_layout m a b sound = layout_one m a b (rising_atoms (kept_of m) sound.rising)
+
+image_one : (m : ImageInputs) (a b : List ℕ) → IsSound m → IsMade m (Ok a) → IsMade m (Ok b) → a ≡ b
+image_one m a b sound (lay, laid, filled) (other, also, again) =
+    let same : other ≡ lay = same_layout m other lay sound also laid in
+    let here : IsFilledImage m.files (mets_of m lay) (rows_of m lay) (blank m lay) b = subst (λ (l : Layout). IsFilledImage m.files (mets_of m l) (rows_of m l) (blank m l) b) same again in
+    one_image m.files (mets_of m lay) 0 (rows_of m lay) (blank m lay) a b (are_standing m lay sound.rising sound.low laid) filled.bytes here.bytes filled.beside filled.placed here.beside here.placed
+
+image_or_fault : (m : ImageInputs) (image : List ℕ) (key : AtomKey) (fault : RangeFault) → IsSound m → IsMade m (Ok image) → IsMade m (Err (make.Range key fault)) → ⊥
+image_or_fault m image key fault sound (lay, laid, filled) (other, also, least) =
+    let same : other ≡ lay = same_layout m other lay sound also laid in
     not_filled m.files (mets_of m lay) 0 (rows_of m lay) key fault image (subst (λ (l : Layout). IsLeastFault m.files (mets_of m l) (rows_of m l) key fault) same least) filled.placed
 
-fault_one : (m : ImageInputs) (key other_key : AtomKey) (fault other_fault : RangeFault) → IsStrictlySortedBy (on (λ (atom : Atom). atom.key) compare_keys) (map atom_of (kept_of m))
-    → IsMade m (Err (make.Range key fault)) → IsMade m (Err (make.Range other_key other_fault)) → ◌≡◌ {A = AtomKey × RangeFault} (key, fault) (other_key, other_fault)
-fault_one m key other_key fault other_fault rising (lay, laid, work, least) (other, also, again, more) =
-    let same : other ≡ lay = layout_one m other lay rising also laid in
-    one_fault m.files (mets_of m lay) (rows_of m lay) (key, fault) (other_key, other_fault) work.fields (work_apart m lay rising laid) least
+fault_one : (m : ImageInputs) (key other_key : AtomKey) (fault other_fault : RangeFault) → IsSound m → IsMade m (Err (make.Range key fault)) → IsMade m (Err (make.Range other_key other_fault)) → ◌≡◌ {A = AtomKey × RangeFault} (key, fault) (other_key, other_fault)
+fault_one m key other_key fault other_fault sound (lay, laid, least) (other, also, more) =
+    let same : other ≡ lay = same_layout m other lay sound also laid in
+    one_fault m.files (mets_of m lay) (rows_of m lay) (key, fault) (other_key, other_fault) (rows_apart m lay sound.refs) (work_apart m lay (rising_atoms (kept_of m) sound.rising) laid) least
     (subst (λ (l : Layout). IsLeastFault m.files (mets_of m l) (rows_of m l) other_key other_fault) same more)
 
 -- an image, or a fault of what it is made of
@@ -175,31 +188,48 @@ IsAnswer (Err (make.Place place.OutOfMemory)) = ⊥
 IsAnswer (Err (make.Range key fault)) = Unit {0}
 IsAnswer (Err make.OutOfMemory) = ⊥
 
-made_one : (m : ImageInputs) (a b : Result (List ℕ) MakeFault) → IsStrictlySortedBy (on (λ (atom : Atom). atom.key) compare_keys) (map atom_of (kept_of m)) → IsAnswer a → IsAnswer b → IsMade m a → IsMade m b → a ≡ b
-made_one m (Ok a) (Ok b) rising p q x y = ap Ok (image_one m a b rising x y)
-made_one m (Ok a) (Err (make.Place (place.ImageSize value))) rising p q (lay, laid, filled) y = let small : image_size (plan_for m) < 2 ^ 32 = laid.small in let large : 2 ^ 32 ≤ image_size (plan_for m) = y.0 in absurd (omega (arith, small, large))
-made_one m (Ok a) (Err (make.Place place.OutOfMemory)) rising p q x y = absurd q
-made_one m (Ok a) (Err (make.Range key fault)) rising p q x y = absurd (image_or_fault m a key fault rising x y)
-made_one m (Ok a) (Err make.OutOfMemory) rising p q x y = absurd q
-made_one m (Err (make.Place (place.ImageSize value))) (Ok b) rising p q x (lay, laid, filled) = let small : image_size (plan_for m) < 2 ^ 32 = laid.small in let large : 2 ^ 32 ≤ image_size (plan_for m) = x.0 in absurd (omega (arith, small, large))
-made_one m (Err (make.Place (place.ImageSize value))) (Err (make.Place (place.ImageSize other))) rising p q x y = ap (λ (v : ℤ). Err (make.Place (place.ImageSize v))) (x.1 ∙ sym y.1)
-made_one m (Err (make.Place (place.ImageSize value))) (Err (make.Place place.OutOfMemory)) rising p q x y = absurd q
-made_one m (Err (make.Place (place.ImageSize value))) (Err (make.Range key fault)) rising p q x (lay, laid, work, least) = let small : image_size (plan_for m) < 2 ^ 32 = laid.small in let large : 2 ^ 32 ≤ image_size (plan_for m) = x.0 in absurd (omega (arith, small, large))
-made_one m (Err (make.Place (place.ImageSize value))) (Err make.OutOfMemory) rising p q x y = absurd q
-made_one m (Err (make.Place place.OutOfMemory)) b rising p q x y = absurd p
-made_one m (Err (make.Range key fault)) (Ok b) rising p q x y = absurd (image_or_fault m b key fault rising y x)
-made_one m (Err (make.Range key fault)) (Err (make.Place (place.ImageSize value))) rising p q (lay, laid, work, least) y = let small : image_size (plan_for m) < 2 ^ 32 = laid.small in let large : 2 ^ 32 ≤ image_size (plan_for m) = y.0 in absurd (omega (arith, small, large))
-made_one m (Err (make.Range key fault)) (Err (make.Place place.OutOfMemory)) rising p q x y = absurd q
-made_one m (Err (make.Range key fault)) (Err (make.Range other_key other_fault)) rising p q x y = ap (λ (f : AtomKey × RangeFault). Err (make.Range f.0 f.1)) (fault_one m key other_key fault other_fault rising x y)
-made_one m (Err (make.Range key fault)) (Err make.OutOfMemory) rising p q x y = absurd q
-made_one m (Err make.OutOfMemory) b rising p q x y = absurd p
+made_one : (m : ImageInputs) (a b : Result (List ℕ) MakeFault) → IsSound m → IsAnswer a → IsAnswer b → IsMade m a → IsMade m b → a ≡ b
+made_one m (Ok a) (Ok b) sound p q x y = ap Ok (image_one m a b sound x y)
+made_one m (Ok a) (Err (make.Place (place.ImageSize value))) sound p q (lay, laid, filled) y = let small : image_size (plan_for m) < 2 ^ 32 = laid.small in let large : 2 ^ 32 ≤ image_size (plan_for m) = y.0 in absurd (omega (arith, small, large))
+made_one m (Ok a) (Err (make.Place place.OutOfMemory)) sound p q x y = absurd q
+made_one m (Ok a) (Err (make.Range key fault)) sound p q x y = absurd (image_or_fault m a key fault sound x y)
+made_one m (Ok a) (Err make.OutOfMemory) sound p q x y = absurd q
+made_one m (Err (make.Place (place.ImageSize value))) (Ok b) sound p q x (lay, laid, filled) = let small : image_size (plan_for m) < 2 ^ 32 = laid.small in let large : 2 ^ 32 ≤ image_size (plan_for m) = x.0 in absurd (omega (arith, small, large))
+made_one m (Err (make.Place (place.ImageSize value))) (Err (make.Place (place.ImageSize other))) sound p q x y = ap (λ (v : ℤ). Err (make.Place (place.ImageSize v))) (x.1 ∙ sym y.1)
+made_one m (Err (make.Place (place.ImageSize value))) (Err (make.Place place.OutOfMemory)) sound p q x y = absurd q
+made_one m (Err (make.Place (place.ImageSize value))) (Err (make.Range key fault)) sound p q x (lay, laid, least) = let small : image_size (plan_for m) < 2 ^ 32 = laid.small in let large : 2 ^ 32 ≤ image_size (plan_for m) = x.0 in absurd (omega (arith, small, large))
+made_one m (Err (make.Place (place.ImageSize value))) (Err make.OutOfMemory) sound p q x y = absurd q
+made_one m (Err (make.Place place.OutOfMemory)) b sound p q x y = absurd p
+made_one m (Err (make.Range key fault)) (Ok b) sound p q x y = absurd (image_or_fault m b key fault sound y x)
+made_one m (Err (make.Range key fault)) (Err (make.Place (place.ImageSize value))) sound p q (lay, laid, least) y = let small : image_size (plan_for m) < 2 ^ 32 = laid.small in let large : 2 ^ 32 ≤ image_size (plan_for m) = y.0 in absurd (omega (arith, small, large))
+made_one m (Err (make.Range key fault)) (Err (make.Place place.OutOfMemory)) sound p q x y = absurd q
+made_one m (Err (make.Range key fault)) (Err (make.Range other_key other_fault)) sound p q x y = ap (λ (f : AtomKey × RangeFault). Err (make.Range f.0 f.1)) (fault_one m key other_key fault other_fault sound x y)
+made_one m (Err (make.Range key fault)) (Err make.OutOfMemory) sound p q x y = absurd q
+made_one m (Err make.OutOfMemory) b sound p q x y = absurd p
 
 -- ---- all steps
 
-rising_of : (command : Command) (libs : LibraryGraph) (files : List LoadedFile) (flags : ℕ) (keys : List AtomKey) → AllPairs (λ a b. IsBefore a.id b.id) files → All IsCut files → IsStrictlySortedBy (on (λ (atom : Atom). atom.key) compare_keys) (map atom_of (kept_of (making command libs files flags keys)))
+refs_in : (file : LoadedFile) → file.refs ≡ refs_or_none (refs_of file.object file.id) → HasRefs file
+refs_in file is = by (refs_of file.object file.id) refl
+  where
+    by : (r : Result (List Ref) RefFault) → refs_of file.object file.id ≡ r → HasRefs file
+    by (Ok refs) e = inl (e ∙ ap Ok (sym (is ∙ ap refs_or_none e)))
+    by (Err fault) e = inr (is ∙ ap refs_or_none e)
+
+-- files as they are loaded: their ids rise, and each has the pieces and the references of its object
+record AreLoaded (files : List LoadedFile) : Type 0 where
+  ordered : AreOrdered files
+  cut : AreCut files
+  referred : AreReferred files
+  low : AreLow files
+
+sound_of : (command : Command) (libs : LibraryGraph) (files : List LoadedFile) (flags : ℕ) (keys : List AtomKey) → AreLoaded files → IsSound (making command libs files flags keys)
 unfolding making
-rising_of command libs files flags keys pairs cut =
-    rising_atoms (kept_atoms (representatives_of files) keys files) (kept_rise (representatives_of files) keys files pairs cut)
+sound_of command libs files flags keys are = record {
+  rising = kept_rise (representatives_of files) keys files are.ordered are.cut;
+  low = kept_low (representatives_of files) keys files are.low refl;
+  refs = λ k d low. refs_in (get_or files k d) (are.referred k d low);
+}
 
 answer_of : (command : Command) (files : List LoadedFile) (fault : MakeFault) (why : Refusal) → IsToldAs command files fault why → IsAnswer (Err fault)
 answer_of command files (make.Place (place.ImageSize value)) why told = tt
@@ -213,41 +243,41 @@ told_same command files (make.Place place.OutOfMemory) a b p q = absurd p
 told_same command files (make.Range key fault) a b p q = p ∙ sym q
 told_same command files make.OutOfMemory a b p q = absurd p
 
-made_same : (command : Command) (libs : LibraryGraph) (files : List LoadedFile) (flags : ℕ) (keys : List AtomKey) (a b : Result (List ℕ) Refusal) → AllPairs (λ a b. IsBefore a.id b.id) files → All IsCut files → AsMade command libs files flags keys a → AsMade command libs files flags keys b → a ≡ b
-made_same command libs files flags keys a b pairs cut p q = by a b p q
+made_same : (command : Command) (libs : LibraryGraph) (files : List LoadedFile) (flags : ℕ) (keys : List AtomKey) (a b : Result (List ℕ) Refusal) → AreLoaded files → AsMade command libs files flags keys a → AsMade command libs files flags keys b → a ≡ b
+made_same command libs files flags keys a b are p q = by a b p q
   where
     m : ImageInputs
     m = making command libs files flags keys
 
-    rising : IsStrictlySortedBy (on (λ (atom : Atom). atom.key) compare_keys) (map atom_of (kept_of m))
-    rising = rising_of command libs files flags keys pairs cut
+    sound : IsSound m
+    sound = sound_of command libs files flags keys are
 
     no_fault : (image : List ℕ) (fault : MakeFault) (why : Refusal) → IsMade m (Ok image) → IsMade m (Err fault) → IsToldAs command files fault why → ⊥
     no_fault image fault why is other told =
-        let same : ◌≡◌ {A = Result (List ℕ) MakeFault} (Ok image) (Err fault) = made_one m (Ok image) (Err fault) rising tt (answer_of command files fault why told) is other in
+        let same : ◌≡◌ {A = Result (List ℕ) MakeFault} (Ok image) (Err fault) = made_one m (Ok image) (Err fault) sound tt (answer_of command files fault why told) is other in
         cc
 
     one_fault_only : (f g : MakeFault) (v w : Refusal) → IsMade m (Err f) → IsMade m (Err g) → IsToldAs command files f v → IsToldAs command files g w → v ≡ w
     one_fault_only f g v w is other told tell =
-        let both : ◌≡◌ {A = Result (List ℕ) MakeFault} (Err f) (Err g) = made_one m (Err f) (Err g) rising (answer_of command files f v told) (answer_of command files g w tell) is other in
+        let both : ◌≡◌ {A = Result (List ℕ) MakeFault} (Err f) (Err g) = made_one m (Err f) (Err g) sound (answer_of command files f v told) (answer_of command files g w tell) is other in
         let same : g ≡ f = cc in
         told_same command files f v w told (subst (λ (x : MakeFault). IsToldAs command files x w) same tell)
 
     by : (a b : Result (List ℕ) Refusal) → AsMade command libs files flags keys a → AsMade command libs files flags keys b → a ≡ b
-    by (Ok x) (Ok y) is other = ap Ok (image_one m x y rising is other)
+    by (Ok x) (Ok y) is other = ap Ok (image_one m x y sound is other)
     by (Ok x) (Err w) is other = absurd (no_fault x other.0 w is other.1 other.2)
     by (Err v) (Ok y) is other = absurd (no_fault y is.0 v other is.1 is.2)
     by (Err v) (Err w) is other = ap Err (one_fault_only is.0 other.0 v w is.1 other.1 is.2 other.2)
 
-image_same : (command : Command) (libs : LibraryGraph) (files : List LoadedFile) (symbols other : SymbolTable) (keys others : List AtomKey) → AllPairs (λ a b. IsBefore a.id b.id) files → All IsCut files → IsSymbolTable command files symbols → IsSymbolTable command files other → keys ≡ others
+image_same : (command : Command) (libs : LibraryGraph) (files : List LoadedFile) (symbols other : SymbolTable) (keys others : List AtomKey) → AreLoaded files → IsSymbolTable command files symbols → IsSymbolTable command files other → keys ≡ others
     → Agree (AsImage command libs files symbols keys) (AsImage command libs files other others)
-image_same command libs files symbols other keys others pairs cut is also same a b p q =
-    made_same command libs files (header_flags command libs other others) others a b pairs cut
+image_same command libs files symbols other keys others are is also same a b p q =
+    made_same command libs files (header_flags command libs other others) others a b are
     (subst (λ (n : ℕ). AsMade command libs files n others a) (flags_same command libs files symbols other keys others is also same)
     (subst (λ (ks : List AtomKey). AsMade command libs files (header_flags command libs symbols keys) ks a) same p)) q
 
-pub link_one : (command : Command) (libs : LibraryGraph) (files : List LoadedFile) → AllPairs (λ a b. IsBefore a.id b.id) files → All IsCut files → Agree (IsLinked command libs files) (IsLinked command libs files)
-link_one command libs files pairs cut =
+one_link : (command : Command) (libs : LibraryGraph) (files : List LoadedFile) → AreLoaded files → Agree (IsLinked command libs files) (IsLinked command libs files)
+one_link command libs files loaded =
     gives_agree _ _ _ _ refl (λ names are.
     unless_agree _ _ _ _ refl (λ few.
     checks_agree _ _ _ _ (duplicates_same files names (are_numbering files (wanted command) names are)) (λ once.
@@ -258,4 +288,7 @@ link_one command libs files pairs cut =
     let same : keys ≡ others = keys_same command files goals symbols other keys others is also kept again in
     unless_agree _ _ _ _ (ap (undefined_refusal command libs files goals) same) (λ found.
     unless_agree _ _ _ _ (ap (later_refusal command files goals entry) same) (λ inside.
-    image_same command libs files symbols other keys others pairs cut is also same)))))))
+    image_same command libs files symbols other keys others loaded is also same)))))))
+
+pub link_one : (command : Command) (libs : LibraryGraph) (files : List LoadedFile) → AreOrdered files → AreCut files → AreReferred files → AreLow files → Agree (IsLinked command libs files) (IsLinked command libs files)
+link_one command libs files ordered cut referred low = one_link command libs files (record { ordered = ordered; cut = cut; referred = referred; low = low })

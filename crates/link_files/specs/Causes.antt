@@ -2,7 +2,7 @@
 use Rattle.std.specs.Prelude.{ℕ, ◌≡◌, ◌<◌, ◌≤◌, ◌^◌, ◌++◌, ◌⊎◌, pos, true, false, List, [], length, slice_get, Some, None, Ok}
 use Rattle.std.specs.Cmp.Lexicographic.{slice_cmp}
 use Rattle.std.specs.Ordering.{is_lt, nat_cmp}
-use Rattle.image_make.specs.Made.{IsLaid, ImageInputs, blank, mets_of, plan_for, rows_of}
+use Rattle.image_make.specs.Made.{IsLaid, ImageInputs, mets_of, plan_for, rows_of}
 use Rattle.liveness.specs.Undefined.{undefined}
 use Rattle.lib_bind.specs.declared.library.LibraryGraph.{LibraryGraph}
 use Rattle.link_steps.specs.Steps.{Cause, ◌>>=◌, ◌>>◌, always, passes, refuses, stands, taken}
@@ -16,7 +16,7 @@ use Rattle.mo_types.specs.declared.goal.Goal.{Goal}
 use Rattle.mo_types.specs.declared.key.AtomKey.{AtomKey}
 use Rattle.mo_types.specs.declared.loaded.LoadedFile.{LoadedFile}
 use Rattle.name_ids.specs.Names.{external_names, numbered}
-use Rattle.patch.specs.Range.{AreWork, IsLeastFault}
+use Rattle.patch.specs.Range.{IsLeastFault}
 use Rattle.patch.specs.declared.met.RangeFault.{RangeFault}
 use Rattle.resolve.specs.Goals.{goal_of_name, goal_table}
 use Rattle.symbol_winners.specs.SymbolTable.{IsSymbolTable, SymbolTable}
@@ -84,7 +84,6 @@ pub record IsTooLong (m : ImageInputs) (why : Refusal) : Type 0 where
 pub record IsOutOfRange (m : ImageInputs) (why : Refusal) : Type 0 where
   pub layout : Layout
   pub laid : IsLaid m layout
-  pub stands : AreWork m.files (mets_of m layout) 0 (length (blank m layout)) (rows_of m layout)
   pub key : AtomKey
   pub fault : RangeFault
   pub unfit : IsLeastFault m.files (mets_of m layout) (rows_of m layout) key fault

@@ -5,16 +5,18 @@ ghost use Rattle.link_steps.specs.Steps.{IsOne, IsSome, Stops};
 ghost use Rattle.command_line.specs.declared.command.Command.{Command as Commanded};
 ghost use Rattle.mo_types.specs.declared.loaded.LoadedFile.{LoadedFile};
 ghost use Rattle.link_files.specs.Causes.{LinkCause, WentThrough};
-ghost use Rattle.link_files.specs.Linked.{AreCut, AreLinkable, AreOrdered, IsLinked};
+ghost use Rattle.link_files.specs.Linked.{AreCut, AreLinkable, AreLow, AreOrdered, AreReferred, IsLinked};
 
 /// Files as a link has them link to something.
 pub fn a_link_exists()
     ensures { (command : Commanded) (libs : LibraryGraph) (files : List LoadedFile) → AreLinkable files → IsSome (IsLinked command libs files) }
 {}
 
-/// Files whose ids rise, each cut into the pieces of its object, link to one thing.
+/// Files whose ids rise, each cut into the pieces of its object and with its references, and no piece of which is aligned to
+/// more than a page, link to one thing.
 pub fn a_link_is_one()
-    ensures { (command : Commanded) (libs : LibraryGraph) (files : List LoadedFile) → AreOrdered files → AreCut files → IsOne (IsLinked command libs files) }
+    ensures { (command : Commanded) (libs : LibraryGraph) (files : List LoadedFile)
+        → AreOrdered files → AreCut files → AreReferred files → AreLow files → IsOne (IsLinked command libs files) }
 {}
 
 /// What files link to, where it is an image, went through all steps: none of them refuses, and it is made of the atoms that

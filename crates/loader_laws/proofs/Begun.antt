@@ -1,8 +1,7 @@
 -- An image that was made begins with its header and load commands.
-use Rattle.std.proofs.Common.{◌≡◌, ℕ, ◌+◌, ◌-◌, ◌*◌, ◌%◌, ◌<◌, ◌≤◌, ◌^◌, ◌&&◌, inl, inr, nat_le, nat_lt, Bool, true, false, codes, List, [], ◌∷◌, ◌++◌, length, get_or, map, take, drop, Option, Some, Ok, refl, sym, ap, ◌∙◌, arith, subst, if◌then◌else◌, append_assoc, length-append}
-use Rattle.std.specs.Prelude.{All, slice_get}
+use Rattle.std.proofs.Common.{◌≡◌, ℕ, ◌+◌, ◌-◌, ◌*◌, ◌%◌, ◌<◌, ◌≤◌, ◌^◌, ◌&&◌, inl, inr, nat_le, nat_lt, Bool, true, false, codes, List, [], ◌∷◌, ◌++◌, length, get_or, map, take, drop, refl, sym, ap, ◌∙◌, arith, subst, if◌then◌else◌, append_assoc, length-append}
+use Rattle.std.specs.Prelude.{All}
 use Rattle.std.specs.List.{AllByRecursion}
-use Rattle.std.specs.Option.{option_map_or}
 use Rattle.std.proofs.lemmas.Bool.{cases_lt, le-leb, lt-ltb}
 use Rattle.std.proofs.lemmas.List.{ext_get_or, get_or-take, get_or_past, length-take-le, take-append-drop}
 use Rattle.list_lemmas.proofs.Members.{In, all_at, all_from_in, all_in}
@@ -13,33 +12,33 @@ use Rattle.mo_format.specs.declared.header.MachHeader.{MachHeader}
 use Rattle.mo_format.proofs.FieldLemmas.{AllRead, all_read}
 use Rattle.patch.specs.Range.{IsBeside}
 use Rattle.patch.specs.declared.range.PlacedWork.{PlacedWork}
-use Rattle.sect_place.specs.Arrangement.{parts_count, text_parts}
-use Rattle.sect_place.specs.Layout.{end_of_image, first_segments, image_segments, image_sections, lead_of, linkedit, made_bytes, others_of, plan_of}
+use Rattle.sect_place.specs.Arrangement.{text_parts}
+use Rattle.sect_place.specs.Layout.{end_of_image, first_segments, image_segments, image_sections, lead_of, linkedit, made_bytes, plan_of}
 use Rattle.sect_list.specs.OutSections.{out_sections}
 use Rattle.sect_place.specs.Places.{groups_file, groups_segments}
-use Rattle.sect_place.specs.Whole.{IsWholeLayout}
 use Rattle.sect_place.specs.declared.layout.Layout.{Layout}
 use Rattle.sect_place.specs.declared.layout.PlacedSection.{PlacedSection}
 use Rattle.sect_place.specs.declared.layout.Segment.{Segment}
-use Rattle.sect_place.proofs.Sound.{groups_split, later_groups, whole_finished}
+use Rattle.sect_place.proofs.Sound.{groups_split, later_groups}
 use Rattle.load_cmds.specs.Commands.{header}
 use Rattle.load_cmds.specs.Others.{others_bytes}
 use Rattle.load_cmds.specs.Segments.{segments_bytes, slot_count, stub_count}
 use Rattle.load_cmds.specs.Sizes.{other_count, other_size}
 use Rattle.load_cmds.specs.declared.parts.PartSizes.{PartSizes}
-use Rattle.load_cmds.proofs.Lengths.{commands_length, length-spelled}
+use Rattle.load_cmds.proofs.Lengths.{length-spelled}
 use Rattle.image_join.specs.Joined.{byte_at, joined}
 use Rattle.image_join.specs.declared.parts.Part.{Part}
 use Rattle.image_join.specs.declared.parts.Parts.{Parts}
 use Rattle.image_join.proofs.JoinedLemmas.{byte_here, byte_of_joined, byte_past, covers_not, length-joined}
 use Rattle.image_make.specs.Atoms.{atom_of}
 use Rattle.image_make.specs.Made.{IsLaid, ImageInputs, blank, blank_of, entry_offset, file_end, front_of, kept_of, no_parts, parts_of, plan_for, plan_with, rows_of, sizes_of}
+use Rattle.image_make.proofs.RoomLemmas.{blank_long, counts, front_room, layout_end, whole_layout}
 use Rattle.image_read.specs.Commands.{ncmds, sizeofcmds}
 use Rattle.loader_laws.specs.Means.{AreRising, IsImage}
 use Rattle.loader_laws.proofs.Fronted.{IsFronted}
 use Rattle.loader_laws.proofs.Listed.{all_join, few, length_join, other_list, others_are, others_each, others_many, segment_list, segments_are, segments_each, segments_many}
 use Rattle.loader_laws.proofs.Named.{all_named}
-use Rattle.loader_laws.proofs.Planned.{IsPlan, all_held, base_small, in_turn, lead_room, sections_count, segments_count}
+use Rattle.loader_laws.proofs.Planned.{IsPlan, all_held, in_turn}
 use Rattle.loader_laws.proofs.Rowed.{row_in}
 use Rattle.loader_laws.proofs.Turned.{IsHeldBy, appended, ends_before}
 use Rattle.loader_laws.proofs.Walk.{IsCommand, all_bytes}
@@ -66,51 +65,7 @@ is_plan m layout laid =
       room = omega arith;
     }
 
-lead_is : (m : ImageInputs) → 32 + (other_size no_parts m.command m.libs + 72 * (length (plan_for m).groups + others_of m.command) + 80 * parts_count (plan_for m).groups) ≤ (plan_for m).lead
-unfolding plan_with plan_of lead_of
-lead_is m = omega arith
-
-pub whole_layout : (m : ImageInputs) (layout : Layout) → IsLaid m layout → IsWholeLayout layout
-unfolding plan_with plan_of
-whole_layout m layout laid =
-    let sections = out_sections m.files (map atom_of (kept_of m)) in
-    whole_finished m.command (plan_for m) sections (made_bytes m.slots (sizes_of m.command m.libs)) (Ok layout) refl (base_small m.command.dylib) refl laid.layout_of.segments laid.layout_of.sections laid.small
-
--- how many segments and sections there are, and how many bytes stand before the first section
-pub record HasCounts (m : ImageInputs) (layout : Layout) : Type 0 where
-  pub segments : length layout.segments ≡ length (plan_for m).groups + others_of m.command
-  pub sections : length layout.sections ≡ parts_count (plan_for m).groups
-  pub front : length (front_of m layout) ≡ 32 + (72 * length layout.segments + 80 * length layout.sections + other_size no_parts m.command m.libs)
-  pub room : length (front_of m layout) ≤ (plan_for m).lead
-  pub small : (plan_for m).lead < 2 ^ 32
-
-pub counts : (m : ImageInputs) (layout : Layout) → IsLaid m layout → HasCounts m layout
-counts m layout laid =
-    let plan = is_plan m layout laid in
-    let segments : length layout.segments ≡ length (plan_for m).groups + others_of m.command = ap length laid.layout_of.segments ∙ segments_count m.command (plan_for m) in
-    let sections : length layout.sections ≡ parts_count (plan_for m).groups = ap length laid.layout_of.sections ∙ sections_count (plan_for m) in
-    let front = commands_length layout (parts_for m layout) m.command m.libs (whole_layout m layout laid) in
-    let lead = lead_is m in
-    let rooms = lead_room m.command (plan_for m) plan in
-    let small = laid.small in
-    record { segments = segments; sections = sections; front = front; room = omega (arith, front, segments, sections, lead); small = omega (arith, rooms.0, small) }
-
 -- ---- the blank image
-
-last_there : (xs : List Segment) (last : Segment) → slice_get (xs ++ last ∷ []) (length xs) ≡ Some last
-last_there [] last = refl
-last_there (x ∷ xs) last = last_there xs last
-
-end_is : (xs : List Segment) (last : Segment) → file_end (xs ++ last ∷ []) ≡ last.file_offset + last.file_size
-unfolding file_end
-end_is xs last =
-    let long : length (xs ++ last ∷ []) - 1 ≡ length xs = omega (arith, length-append xs (last ∷ [])) in
-    ap (λ (n : ℕ). option_map_or (λ (s : Segment). s.file_offset + s.file_size) (slice_get (xs ++ last ∷ []) n) 0) long
-    ∙ ap (λ (o : Option Segment). option_map_or (λ (s : Segment). s.file_offset + s.file_size) o 0) (last_there xs last)
-
-blank_long : (front : List ℕ) (layout : Layout) → length (blank_of front layout) ≡ file_end layout.segments
-unfolding blank_of
-blank_long front layout = length-joined (record { size = file_end layout.segments; parts = record { from = 0; bytes = front } ∷ [] })
 
 pub end_there : (m : ImageInputs) (layout : Layout) (image : List ℕ) (segment : Segment) → IsImage m layout image → In segment layout.segments → segment.file_offset + segment.file_size ≤ length image
 unfolding image_segments
@@ -118,19 +73,10 @@ end_there m layout image segment is among =
     let plan = plan_for m in
     let last = linkedit (end_of_image plan) (groups_file plan.atoms plan.base 0 plan.lead plan.groups) in
     let others = first_segments m.command ++ groups_segments plan.atoms plan.base 0 plan.lead plan.groups in
-    let ends = ap file_end is.laid.layout_of.segments ∙ end_is others last in
+    let ends = layout_end m layout is.laid in
     let before = ends_before 0 0 others last segment (in_turn m.command plan (is_plan m layout is.laid)) (subst (λ (ss : List Segment). In segment ss) is.laid.layout_of.segments among) in
     let long : length image ≡ file_end layout.segments = is.filled.beside.size ∙ blank_long (front_of m layout) layout in
     omega (arith, ends, before, long)
-
-end_of_layout : (m : ImageInputs) (layout : Layout) → IsLaid m layout → (plan_for m).lead ≤ file_end layout.segments
-unfolding image_segments
-end_of_layout m layout laid =
-    let plan = plan_for m in
-    let last = linkedit (end_of_image plan) (groups_file plan.atoms plan.base 0 plan.lead plan.groups) in
-    let ends = ap file_end laid.layout_of.segments ∙ end_is (first_segments m.command ++ groups_segments plan.atoms plan.base 0 plan.lead plan.groups) last in
-    let rooms = lead_room m.command plan (is_plan m layout laid) in
-    omega (arith, ends, rooms.1)
 
 blank_front : (front : List ℕ) (layout : Layout) (k : ℕ) → k < length front → length front ≤ file_end layout.segments → get_or (blank_of front layout) k 0 ≡ get_or front k 0
 unfolding blank_of
@@ -225,7 +171,7 @@ front_there m layout image rising is =
     let n = length front in
     let count = counts m layout is.laid in
     let room = count.room in
-    let ends = end_of_layout m layout is.laid in
+    let ends = (front_room m layout is.laid).0 in
     let long : length image ≡ file_end layout.segments = is.filled.beside.size ∙ blank_long front layout in
     let enough : n ≤ length image = omega arith in
     let size : length (take n image) ≡ n = length-take-le n image enough in

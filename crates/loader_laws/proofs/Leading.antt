@@ -1,9 +1,11 @@
 -- The references of an image's atoms lead to their goals.
 use Rattle.std.proofs.Common.{◌≡◌, ℕ, ◌+◌, ◌≤◌, true, List, length, map, Option, Some, None, Contains, refl, sym, arith, subst}
 use Rattle.std.specs.List.{filter}
+use Rattle.std.specs.Prelude.{All}
 use Rattle.std.specs.Option.{option_map, option_map_or}
 use Rattle.list_lemmas.proofs.Members.{In, in_filter, in_from_Contains, in_map}
 use Rattle.mo_bytes.specs.Number.{number}
+use Rattle.mo_types.specs.Loaded.{IsWholeFile}
 use Rattle.mo_types.specs.declared.goal.Goal.{Goal}
 use Rattle.mo_types.specs.declared.loaded.LoadedFile.{LoadedFile}
 use Rattle.mo_types.specs.declared.reference.Ref.{Ref}
@@ -43,10 +45,10 @@ met_in m layout row reference of_row =
 
 -- ---- its field
 
-met_told : (m : ImageInputs) (layout : Layout) (image : List ℕ) (row : PlacedWork) (met : Met) → AreRising m → IsImage m layout image → In row (rows_of m layout) → In met (made.mets_of m layout row) → IsToldAt image met.kind row.address met.place met
-met_told m layout image row met rising is h among =
+met_told : (m : ImageInputs) (layout : Layout) (image : List ℕ) (row : PlacedWork) (met : Met) → All IsWholeFile m.files → AreRising m → IsImage m layout image → In row (rows_of m layout) → In met (made.mets_of m layout row) → IsToldAt image met.kind row.address met.place met
+met_told m layout image row met whole rising is h among =
     let loaded = row_loaded m layout image row rising is h in
-    let fields = row_fields m layout image row is h in
+    let fields = row_fields m layout image row whole rising is h in
     let size = loaded.patched.size in
     let within = from_all (λ (x : Met). x.place + size_of x ≤ length (bytes_of m.files row)) (made.mets_of m layout row) met fields.within among in
     let addresses = fields.addresses in
@@ -64,12 +66,12 @@ value_met : (m : ImageInputs) (layout : Layout) (image : List ℕ) (row : Placed
 unfolding target_address
 value_met m layout image row target rising is address e = goal_there m layout image (goal_of m row target) address rising is e
 
-pub references_lead : (m : ImageInputs) (layout : Layout) (image : List ℕ) (offsets : AtomMap) (section : ℕ) (row : PlacedWork) (reference : Ref) → AreRising m → IsImage m layout image → Contains (rows_of m layout) row → IsReferenceOf m row reference → IsDirect m layout image row reference → TellsGoal m layout image offsets section row reference
+pub references_lead : (m : ImageInputs) (layout : Layout) (image : List ℕ) (offsets : AtomMap) (section : ℕ) (row : PlacedWork) (reference : Ref) → All IsWholeFile m.files → AreRising m → IsImage m layout image → Contains (rows_of m layout) row → IsReferenceOf m row reference → IsDirect m layout image row reference → TellsGoal m layout image offsets section row reference
 unfolding met_of
-references_lead m layout image offsets section row reference rising is among of_row direct =
+references_lead m layout image offsets section row reference whole rising is among of_row direct =
     let h = in_from_Contains (rows_of m layout) row among in
     let met : Met = met_of (scene_of m layout) (goals_at m.goals row.file) reference in
-    let told = met_told m layout image row met rising is h (met_in m layout row reference of_row) in
+    let told = met_told m layout image row met whole rising is h (met_in m layout row reference of_row) in
     denotes_by reference.kind image (places_of layout offsets) row.address reference.place section (goal_of m row reference.target) (minus_of m row reference) met told
     (value_met m layout image row reference.target rising is) (by reference.minus) direct
   where

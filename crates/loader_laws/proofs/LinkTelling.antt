@@ -199,7 +199,7 @@ ref_direct command libs files flags keys layout image row file r linked whole fo
 
 pub references_told : (command : Command) (libs : LibraryGraph) (files : List LoadedFile) (image : List ℕ) (is : IsImageOf command libs files image) (offsets : AtomMap) (section : ℕ) (row : PlacedWork) (reference : Ref) → AreOrdered files → AreWhole files → AreInForm files → Contains (rows_of (made_of is) is.layout) row → IsReferenceOf (made_of is) row reference → TellsGoal (made_of is) is.layout image offsets section row reference
 references_told command libs files image is offsets section row reference ordered whole form among of_row =
-    references_lead m layout image offsets section row reference is.rising is.is_image among of_row direct
+    references_lead m layout image offsets section row reference (subst AreWhole (sym (files_made command libs files is.flags is.keys)) whole) is.rising is.is_image among of_row direct
   where
     m : ImageInputs
     m = making command libs files is.flags is.keys

@@ -5,11 +5,13 @@ use Rattle.std.proofs.lemmas.List.{get_or-drop, get_or-take, length-drop, length
 use Rattle.std.proofs.lemmas.Option.{slice_get-get_or}
 use Rattle.list_lemmas.proofs.Members.{In, Contains_from_in}
 use Rattle.patch.specs.Patched.{AreFields, ArePatched, IsOutside}
-use Rattle.patch.specs.Range.{HasFields, IsPlaced, bytes_of, part_of}
+use Rattle.patch.specs.Range.{IsPlaced, bytes_of, part_of}
 use Rattle.patch.specs.declared.range.PlacedWork.{PlacedWork}
 use Rattle.sect_place.specs.declared.layout.Layout.{Layout}
 use Rattle.sect_place.specs.declared.layout.PlacedSection.{PlacedSection}
 use Rattle.image_make.specs.Made.{ImageInputs, mets_of, rows_of}
+use Rattle.image_make.proofs.WorkLemmas.{fields_of}
+use Rattle.mo_types.specs.Loaded.{IsWholeFile}
 use Rattle.image_read.specs.Mapped.{mapped}
 use Rattle.loader_laws.specs.Means.{AreInMemory, AreRising, IsImage, IsInMemory, KeepsOtherBytes}
 use Rattle.loader_laws.proofs.Begun.{all_places}
@@ -32,8 +34,8 @@ row_patched m layout image row is h =
     (from_all (IsPlaced m.files (mets_of m layout) 0 image) (rows_of m layout) row is.filled.placed h)
 
 -- its fields lie apart in it
-pub row_fields : (m : ImageInputs) (layout : Layout) (image : List ℕ) (row : PlacedWork) → IsImage m layout image → In row (rows_of m layout) → AreFields row.address (length (bytes_of m.files row)) (mets_of m layout row)
-row_fields m layout image row is h = from_all (HasFields m.files (mets_of m layout)) (rows_of m layout) row is.filled.work.fields h
+pub row_fields : (m : ImageInputs) (layout : Layout) (image : List ℕ) (row : PlacedWork) → All IsWholeFile m.files → AreRising m → IsImage m layout image → In row (rows_of m layout) → AreFields row.address (length (bytes_of m.files row)) (mets_of m layout row)
+row_fields m layout image row whole rising is h = fields_of m layout row whole rising is.laid h
 
 -- ---- in memory
 

@@ -39,7 +39,7 @@ use Rattle.loader_laws.proofs.Goals.{address_found, base_is, none_at}
 use Rattle.loader_laws.proofs.LinkedGoals.{IsWinnerIn, winner_there}
 use Rattle.loader_laws.proofs.Lists.{from_mapped, from_then, in_slice, no_some, some_is}
 use Rattle.loader_laws.proofs.Loading.{from_all}
-use Rattle.loader_laws.proofs.Planned.{base_small}
+use Rattle.image_make.proofs.RoomLemmas.{base_small}
 use Rattle.loader_laws.proofs.Spread.{address_low}
 
 -- ---- how far from its atom a goal lies

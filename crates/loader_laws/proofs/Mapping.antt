@@ -28,7 +28,8 @@ use Rattle.image_make.specs.Made.{ImageInputs, front_of, plan_for, rows_of}
 use Rattle.image_read.specs.Commands.{commands_of, fits}
 use Rattle.image_read.specs.Mapped.{byte_in, holder, holder_at, holds, mapped}
 use Rattle.loader_laws.specs.Means.{AreRising, IsImage}
-use Rattle.loader_laws.proofs.Begun.{all_places, blank_rest, commands_list, counts, end_there, held_in_layout, is_fronted, is_plan, parts_for, row_at_place}
+use Rattle.image_make.proofs.RoomLemmas.{counts}
+use Rattle.loader_laws.proofs.Begun.{all_places, blank_rest, commands_list, end_there, held_in_layout, is_fronted, is_plan, parts_for, row_at_place}
 use Rattle.loader_laws.proofs.First.{IsFirst, first_there, found_at, own}
 use Rattle.loader_laws.proofs.Fronted.{are_there, places_there}
 use Rattle.loader_laws.proofs.Listed.{other_list}

@@ -1,5 +1,5 @@
 -- What holds of the segments and sections of a plan.
-use Rattle.std.proofs.Common.{◌≡◌, ℕ, ◌+◌, ◌*◌, ◌<◌, ◌≤◌, ◌^◌, Bool, true, false, codes, List, [], ◌∷◌, ◌++◌, length, refl, sym, ap, ◌∙◌, arith, subst, if◌then◌else◌, append_assoc, length-append}
+use Rattle.std.proofs.Common.{◌≡◌, ℕ, ◌+◌, ◌*◌, ◌<◌, ◌≤◌, ◌^◌, Bool, true, false, codes, List, [], ◌∷◌, ◌++◌, length, refl, sym, ap, ◌∙◌, arith, subst, if◌then◌else◌, append_assoc}
 use Rattle.std.specs.List.{AllByRecursion}
 use Rattle.std.specs.Str.{bytes_eq}
 use Rattle.command_line.specs.declared.command.Command.{Command}
@@ -7,12 +7,12 @@ use Rattle.mo_types.specs.declared.atom.Atom.{Atom}
 use Rattle.mo_types.specs.declared.key.AtomKey.{AtomKey}
 use Rattle.sect_place.specs.Arrangement.{parts_count}
 use Rattle.sect_place.specs.Layout.{Plan, base_of, end_of_image, first_segments, image_sections, image_segments, image_size, linkedit, others_of, pagezero}
-use Rattle.sect_place.specs.Places.{file_bytes, group_end, groups_end, groups_file, groups_sections, groups_segments, page_up, part_end, parts_sections, segment_of}
+use Rattle.sect_place.specs.Places.{file_bytes, group_end, groups_end, groups_file, groups_sections, groups_segments, page_up, segment_of}
 use Rattle.sect_place.specs.declared.layout.PlacedSection.{PlacedSection}
 use Rattle.sect_place.specs.declared.layout.Segment.{Segment}
 use Rattle.sect_place.specs.declared.part.Group.{Group}
-use Rattle.sect_place.specs.declared.part.Part.{Part}
 use Rattle.sect_place.proofs.Spread.{group_bounds, groups_after}
+use Rattle.image_make.proofs.RoomLemmas.{base_small, first_end}
 use Rattle.loader_laws.proofs.First.{IsFirst, IsFitSegment, own}
 use Rattle.loader_laws.proofs.Seek.{EndsEmpty, ends_empty, first_text, is_text}
 use Rattle.loader_laws.proofs.Turned.{InTurn, IsHeldBy, IsNamed, appended, earlier, held_by_more, sections_held, turned}
@@ -108,26 +108,6 @@ fit_by true segments all = all
 fit_by false segments all =
     (record { address = omega arith; memory = omega arith; place = omega arith; bytes = omega arith; protection = omega arith; flags = omega arith; few = omega arith }, all)
 
-pub base_small : (dylib : Bool) → (if dylib then 0 else 2 ^ 32) ≤ 2 ^ 32
-base_small true = omega arith
-base_small false = omega arith
-
-file_after : (atoms : List AtomKey → List Atom) (at file lead : ℕ) (groups : List Group) → file ≤ groups_file atoms at file lead groups
-unfolding groups_file
-file_after atoms at file lead [] = omega arith
-file_after atoms at file lead (group ∷ groups) =
-    let rest = file_after atoms (page_up (group_end atoms at lead group)) (file + file_bytes atoms at lead group) 0 groups in omega arith
-
--- the first segment has the lead, in memory and in the file
-first_end : (atoms : List AtomKey → List Atom) (at file lead : ℕ) (group : Group) (groups : List Group) → (at + lead ≤ groups_end atoms at lead (group ∷ groups)) × (file + lead ≤ groups_file atoms at file lead (group ∷ groups))
-unfolding groups_end groups_file file_bytes
-first_end atoms at file lead group groups =
-    let bounds = group_bounds atoms at lead group.parts in
-    let next = page_up (group_end atoms at lead group) in
-    let after = groups_after atoms next 0 groups in
-    let stops = file_after atoms next (file + file_bytes atoms at lead group) 0 groups in
-    (omega (arith, bounds.0, bounds.3), omega (arith, bounds.1, bounds.4))
-
 pub lead_room : (command : Command) (plan : Plan) → IsPlan command plan → (plan.base + plan.lead ≤ end_of_image plan) × (plan.lead ≤ groups_file plan.atoms plan.base 0 plan.lead plan.groups)
 lead_room command plan is =
     let ends = first_end plan.atoms plan.base 0 plan.lead is.first is.later in
@@ -148,41 +128,6 @@ all_fit command plan is =
     (appended IsFitSegment (groups_segments plan.atoms plan.base 0 plan.lead plan.groups) (linkedit (end_of_image plan) (groups_file plan.atoms plan.base 0 plan.lead plan.groups) ∷ [])
     (groups_fit plan.atoms plan.base 0 plan.lead plan.groups (omega arith) (omega (arith, rooms.0)) (omega (arith, rooms.0)))
     (last, tt)))
-
--- ---- how many
-
-groups_many : (atoms : List AtomKey → List Atom) (at file lead : ℕ) (groups : List Group) → length (groups_segments atoms at file lead groups) ≡ length groups
-unfolding groups_segments
-groups_many atoms at file lead [] = refl
-groups_many atoms at file lead (group ∷ groups) =
-    let rest = groups_many atoms (page_up (group_end atoms at lead group)) (file + file_bytes atoms at lead group) 0 groups in omega arith
-
-many_by : (dylib : Bool) (segments : List Segment) (n : ℕ) → length segments ≡ n + 1 → length ((if dylib then [] else pagezero ∷ []) ++ segments) ≡ n + (if dylib then 1 else 2)
-many_by true segments n e = e
-many_by false segments n e = omega arith
-
-pub segments_count : (command : Command) (plan : Plan) → length (image_segments command plan) ≡ length plan.groups + others_of command
-segments_count command plan =
-    let last : List Segment = linkedit (end_of_image plan) (groups_file plan.atoms plan.base 0 plan.lead plan.groups) ∷ [] in
-    let some : length (behind plan) ≡ length plan.groups + 1 = length-append (groups_segments plan.atoms plan.base 0 plan.lead plan.groups) last ∙ ap (λ (n : ℕ). n + 1) (groups_many plan.atoms plan.base 0 plan.lead plan.groups) in
-    ap length (segments_split command plan) ∙ many_by command.dylib (behind plan) (length plan.groups) some
-
-parts_many : (atoms : List AtomKey → List Atom) (start file at : ℕ) (parts : List Part) → length (parts_sections atoms start file at parts) ≡ length parts
-unfolding parts_sections
-parts_many atoms start file at [] = refl
-parts_many atoms start file at (part ∷ parts) = let rest = parts_many atoms start file (part_end atoms at part) parts in omega arith
-
-sections_many : (atoms : List AtomKey → List Atom) (at file lead : ℕ) (groups : List Group) → length (groups_sections atoms at file lead groups) ≡ parts_count groups
-unfolding groups_sections parts_count
-sections_many atoms at file lead [] = refl
-sections_many atoms at file lead (group ∷ groups) =
-    let here = parts_many atoms at file (at + lead) group.parts in
-    let rest = sections_many atoms (page_up (group_end atoms at lead group)) (file + file_bytes atoms at lead group) 0 groups in
-    length-append (parts_sections atoms at file (at + lead) group.parts) (groups_sections atoms (page_up (group_end atoms at lead group)) (file + file_bytes atoms at lead group) 0 groups) ∙ omega arith
-
-pub sections_count : (plan : Plan) → length (image_sections plan) ≡ parts_count plan.groups
-unfolding image_sections
-sections_count plan = sections_many plan.atoms plan.base 0 plan.lead plan.groups
 
 -- ---- `__TEXT`
 

@@ -34,7 +34,7 @@ use Rattle.loader_laws.proofs.Begun.{is_plan}
 use Rattle.loader_laws.proofs.Complete.{stand_from}
 use Rattle.loader_laws.proofs.Lists.{from_mapped, some_is}
 use Rattle.loader_laws.proofs.Loading.{from_all}
-use Rattle.loader_laws.proofs.Planned.{base_small}
+use Rattle.image_make.proofs.RoomLemmas.{base_small}
 use Rattle.loader_laws.proofs.Rowed.{find_mapped, row_in}
 use Rattle.loader_laws.proofs.Spots.{spot}
 use Rattle.loader_laws.proofs.Standing.{equal_is}

@@ -1,5 +1,6 @@
 //! What holds of images that were made. Each function is a law, which its contract states, and does nothing.
 ghost use Rattle.std.specs.Prelude.{◌≡◌, ℕ, ◌<◌, ◌^◌, ◌⊎◌, false, All, Contains, List, Ok, Some};
+ghost use Rattle.mo_types.specs.Loaded.{IsWholeFile};
 ghost use Rattle.mo_types.specs.declared.goal.Goal.TheVariants.{Header};
 ghost use Rattle.mo_types.specs.declared.reference.Ref.{Ref};
 ghost use Rattle.sect_place.specs.Layout.{base_of};
@@ -60,10 +61,10 @@ pub fn programs_begin_at_their_entry()
         → AreRising m → IsImage m layout image → m.command.dylib ≡ false → IsGoalAt image layout m.entry address → address < 2 ^ 64 → BeginsAt image address }
 {}
 
-/// The field of each reference that needs no slot, no stub and no fixup tells its goal: a branch reaches it, an instruction
-/// tells its page or its offset in the page, and a difference is the distance between two of them.
+/// The field of each reference of a whole file that needs no slot, no stub and no fixup tells its goal: a branch reaches it,
+/// an instruction tells its page or its offset in the page, and a difference is the distance between two of them.
 pub fn references_tell_their_goals()
     ensures { (m : ImageInputs) (layout : Layout) (image : List ℕ) (offsets : AtomMap) (section : ℕ) (row : PlacedWork) (reference : Ref)
-        → AreRising m → IsImage m layout image → Contains (rows_of m layout) row → IsReferenceOf m row reference
+        → All IsWholeFile m.files → AreRising m → IsImage m layout image → Contains (rows_of m layout) row → IsReferenceOf m row reference
         → IsDirect m layout image row reference → TellsGoal m layout image offsets section row reference }
 {}
