@@ -1,12 +1,11 @@
 -- Where the places stand to which references lead.
-use Rattle.std.specs.Prelude.{ℕ, ◌+◌, List, slice_get, unwrap_or}
+use Rattle.std.specs.Prelude.{ℕ, ◌+◌, List}
 use Rattle.std.specs.Option.{option_map_or}
 use Rattle.mo_types.specs.declared.goal.Goal.{Goal}
-use Rattle.mo_types.specs.declared.goal.Goal.TheVariants.{Def, WeakSelf, Header, Nobody}
+use Rattle.mo_types.specs.declared.goal.Goal.TheVariants.{Def, WeakSelf, Header}
 use Rattle.mo_types.specs.declared.key.AtomKey.{AtomKey}
 use Rattle.mo_types.specs.declared.reference.Target.{Target}
-use Rattle.mo_types.specs.declared.reference.Target.TheVariants.{Name, Local}
-use Rattle.resolve.specs.Goals.{goal_at}
+use Rattle.resolve.specs.Goals.{target_goal}
 use Rattle.literal_merge.specs.declared.representative.Representative.{Representative}
 use Rattle.sect_place.specs.Addresses.{address_in}
 use Rattle.sect_place.specs.declared.layout.Placed.{Placed}
@@ -21,11 +20,6 @@ goal_address base placed (Def atom offset) = place_address placed atom offset
 goal_address base placed (WeakSelf name atom offset) = place_address placed atom offset
 goal_address base placed Header = base
 goal_address base placed _ = 0
-
--- where a target of a file's reference leads, by the goals of the file's symbols
-abbrev pub target_goal : List Representative → List Goal → Target → Goal
-target_goal literals goals (Name index) = unwrap_or (slice_get goals index) Nobody
-target_goal literals goals (Local atom offset) = goal_at literals atom offset
 
 -- What references are met with: what stands for each literal, where the image begins, and where its atoms stand.
 pub record Addressing : Type 0 where

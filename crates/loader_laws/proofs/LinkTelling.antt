@@ -23,11 +23,10 @@ use Rattle.liveness.specs.Undefined.{targets_of}
 use Rattle.lib_bind.specs.declared.library.LibraryGraph.{LibraryGraph}
 use Rattle.mark_core.specs.Kept.{has}
 use Rattle.command_line.specs.declared.command.Command.{Command}
-use Rattle.resolve.specs.Goals.{goal_table}
+use Rattle.resolve.specs.Goals.{goal_table, target_goal}
 use Rattle.literal_merge.specs.Representatives.{representatives_of}
 use Rattle.literal_merge.proofs.RepresentativeLemmas.{atoms_of_file}
 use Rattle.sect_place.specs.declared.layout.Layout.{Layout}
-use Rattle.image_make.specs.Addresses.{target_goal}
 use Rattle.image_make.specs.Atoms.{kept_as, kept_atoms, kept_in, raised}
 use Rattle.image_make.specs.Mets.{is_ref_of}
 use Rattle.image_make.specs.Rows.{goals_at}

@@ -1,33 +1,28 @@
 -- Each reference of a kept atom tells where it leads.
-use Rattle.std.proofs.Common.{◌≡◌, ℕ, zero, suc, ◌+◌, ◌*◌, ◌^◌, ◌⊎◌, inl, inr, true, false, List, [], ◌∷◌, Option, Some, None, refl, sym, ap, ◌∙◌, arith, subst}
-use Rattle.std.specs.Prelude.{slice_get, unwrap_or}
-use Rattle.std.specs.List.{enumerate_from}
-use Rattle.std.specs.Option.{option_map, option_map_or}
+use Rattle.std.proofs.Common.{◌≡◌, ℕ, ◌+◌, ◌*◌, ◌^◌, ◌⊎◌, inl, inr, true, List, Option, Some, None, refl, sym, ap, ◌∙◌, subst}
+use Rattle.std.specs.Prelude.{slice_get}
+use Rattle.std.specs.Option.{option_map}
 use Rattle.std.proofs.lemmas.Bool.{eq-eqb, false≢true}
-use Rattle.std.proofs.lemmas.Option.{slice_get-map}
 use Rattle.list_lemmas.proofs.Members.{Contains_from_in, In, in_from_Contains}
 use Rattle.mo_types.specs.Atoms as cuts
 use Rattle.mo_types.specs.Loaded.{IsWholeFile}
 use Rattle.mo_types.specs.RelocationRules.{section_numbered}
 use Rattle.mo_types.specs.declared.atom.Atom.{Atom}
 use Rattle.mo_types.specs.declared.goal.Goal.{Goal}
-use Rattle.mo_types.specs.declared.goal.Goal.TheVariants.{Nobody}
 use Rattle.mo_types.specs.declared.key.AtomKey.{AtomKey}
 use Rattle.mo_types.specs.declared.loaded.LoadedFile.{LoadedFile}
-use Rattle.mo_types.specs.declared.object.Symbol.{Symbol}
 use Rattle.mo_types.specs.declared.reference.Ref.{Ref}
 use Rattle.mo_types.specs.declared.reference.Target.{Target}
-use Rattle.mo_types.specs.declared.reference.Target.TheVariants.{Name, Local}
 use Rattle.command_line.specs.declared.command.Command.{Command}
 use Rattle.lib_bind.specs.declared.library.LibraryGraph.{LibraryGraph}
 use Rattle.literal_merge.specs.Representatives.{representatives_of}
 use Rattle.literal_merge.proofs.RepresentativeLemmas.{atoms_of_file}
 use Rattle.mark_core.specs.Kept.{has}
 use Rattle.patch.specs.declared.range.PlacedWork.{PlacedWork}
-use Rattle.resolve.specs.Goals.{goal_of, goal_of_symbol, goal_table, goals_of_symbols}
+use Rattle.resolve.specs.Goals.{goal_of, goal_table, goals_of_symbols, target_goal}
+use Rattle.resolve.proofs.TargetLemmas.{leads_same}
 use Rattle.sect_place.specs.Addresses.{address_in}
 use Rattle.sect_place.specs.declared.layout.Layout.{Layout}
-use Rattle.image_make.specs.Addresses.{target_goal}
 use Rattle.image_make.specs.Made.{ImageInputs}
 use Rattle.image_make.specs.Rows.{goals_at}
 use Rattle.image_read.specs.Denotes.{Denotes}
@@ -47,27 +42,6 @@ use Rattle.loader_laws.proofs.Typed.{zerofill_there}
 use Rattle.link_files.specs.Linked.{AreOrdered, making}
 
 -- ---- goals by their targets
-
-numbered : (n : ℕ) (xs : List Symbol) (k : ℕ) → slice_get (enumerate_from n xs) k ≡ option_map (λ (x : Symbol). let p : ℕ × Symbol = (n + k, x) in p) (slice_get xs k)
-numbered n [] k = refl
-numbered n (x ∷ xs) zero = let here : n ≡ n + 0 = omega arith in ap (λ (m : ℕ). let p : ℕ × Symbol = (m, x) in Some p) here
-numbered n (x ∷ xs) (suc k) =
-    let same : n + 1 + k ≡ n + suc k = omega arith in
-    numbered (n + 1) xs k ∙ ap (λ (m : ℕ). option_map (λ (y : Symbol). let p : ℕ × Symbol = (m, y) in p) (slice_get xs k)) same
-
-pub leads_same : (files : List LoadedFile) (libs : LibraryGraph) (command : Command) (file : LoadedFile) (target : Target) → target_goal (representatives_of files) (goals_of_symbols files libs command file) target ≡ goal_of files libs command file target
-unfolding goal_of goals_of_symbols
-leads_same files libs command file (Name index) =
-    ap (λ (o : Option Goal). unwrap_or o Nobody) (slice_get-map goal (enumerate_from 0 file.object.symbols) index ∙ ap (option_map goal) (numbered 0 file.object.symbols index))
-    ∙ by (slice_get file.object.symbols index)
-  where
-    goal : ℕ × Symbol → Goal
-    goal p = goal_of_symbol files libs command file p
-
-    by : (o : Option Symbol) → unwrap_or (option_map goal (option_map (λ (x : Symbol). let p : ℕ × Symbol = (0 + index, x) in p) o)) Nobody ≡ option_map_or (λ (symbol : Symbol). goal (index, symbol)) o Nobody
-    by None = refl
-    by (Some symbol) = let same : 0 + index ≡ index = omega arith in ap (λ (n : ℕ). goal (n, symbol)) same
-leads_same files libs command file (Local atom offset) = refl
 
 minus_same : (files : List LoadedFile) (libs : LibraryGraph) (command : Command) (file : LoadedFile) (minus : Option Target) → option_map (target_goal (representatives_of files) (goals_of_symbols files libs command file)) minus ≡ option_map (goal_of files libs command file) minus
 minus_same files libs command file None = refl

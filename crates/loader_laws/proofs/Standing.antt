@@ -37,14 +37,13 @@ use Rattle.mo_types.specs.Loaded.{IsWholeFile}
 use Rattle.sect_list.proofs.Homes.{start, starts}
 use Rattle.command_line.specs.declared.command.Command.{Command}
 use Rattle.liveness.specs.Edges.{goal_atom, edge_from, edge_to, edges, edges_at, edges_by, file_edges, ref_edges, target_atom, unwind_edges}
-use Rattle.resolve.specs.Goals.{goal_of_name, goal_of_symbol, goal_table, goals_of_symbols}
+use Rattle.resolve.specs.Goals.{goal_of_name, goal_of_symbol, goal_table, goals_of_symbols, target_goal}
 use Rattle.literal_merge.specs.Standing.{stands_for}
 use Rattle.literal_merge.specs.Representatives.{representatives_of}
 use Rattle.literal_merge.proofs.RepresentativeLemmas.{atoms_of_file}
 use Rattle.sect_place.specs.Layout.{base_of}
 use Rattle.sect_list.specs.OutSections.{Home, common_home, home_in, home_of}
 use Rattle.sect_place.specs.declared.layout.Layout.{Layout}
-use Rattle.image_make.specs.Addresses.{target_goal}
 use Rattle.image_make.specs.Atoms.{kept_as, kept_atoms, kept_in, raised}
 use Rattle.image_make.specs.Rows.{goals_at}
 use Rattle.patch.specs.declared.range.PlacedWork.{PlacedWork}

@@ -7,8 +7,8 @@ use Rattle.mo_types.specs.declared.reference.Ref.{Ref}
 use Rattle.mo_types.specs.declared.reference.RefKind.{RefKind}
 use Rattle.mo_types.specs.declared.reference.RefKind.TheVariants.{Diff32, Diff64, Branch, Page, PageOff}
 use Rattle.mo_types.specs.declared.reference.Target.{Target}
+use Rattle.resolve.specs.Goals.{target_goal}
 use Rattle.sect_place.specs.declared.layout.Layout.{Layout}
-use Rattle.image_make.specs.Addresses.{target_goal}
 use Rattle.image_make.specs.Mets.{is_ref_of}
 use Rattle.image_make.specs.Rows.{goals_at}
 use Rattle.patch.specs.declared.range.PlacedWork.{PlacedWork}

@@ -2,9 +2,10 @@
 use Rattle.std.specs.Prelude.{ℕ, ◌≡◌, ◌^◌, List, Option, Some, None, map, nat_lt, if◌then◌else◌}
 use Rattle.mo_types.specs.declared.goal.Goal.{Goal}
 use Rattle.mo_types.specs.declared.reference.Target.{Target}
+use Rattle.resolve.specs.Goals.{target_goal}
 use Rattle.resolve.specs.Table.{goals_in}
 use Rattle.sect_place.specs.declared.layout.Placed.{Placed}
-use Rattle.image_make.specs.Addresses.{Addressing, goal_address, target_goal}
+use Rattle.image_make.specs.Addresses.{Addressing, goal_address}
 use Rattle.image_make.specs.declared.addresses.Addressing as code
 
 -- an address, if it has 64 bits
