@@ -4,10 +4,11 @@ use anyhow::{Result, bail};
 use image_join::{PlacedAtoms, fill};
 use mo_outside::FreeGate;
 use mo_types::{Bytes, OutOfMemory, RefKind};
-use patch::{Meeting, Met, PlacedWork, work_stands};
+use patch::{Meeting, Met, PlacedWork};
 use std::alloc::Global;
 use std::thread::Threads;
 use std::time::Instant;
+use test_work::are_work;
 
 // The bytes of an atom.
 const ATOM_SIZE: u64 = 48;
@@ -89,10 +90,11 @@ fn filled<T: Threads + Sync>(
     image: &mut [u8],
 ) -> Result<()> {
     let (work, mets) = (input.work.as_slice(), input.mets.as_slice());
-    if !work_stands(work, input.loaded.files.as_slice(), 0, image.len()) {
-        bail!("the atoms aren't in order");
-    }
     let branches = Branches { mets };
+    let files = input.loaded.files.as_slice();
+    if !are_work(rt.alloc(), work, files, &branches, 0, image.len())? {
+        bail!("the atoms or their fields aren't in order");
+    }
     let start = Instant::now(rt)?;
     let atoms = PlacedAtoms {
         work,

@@ -5,9 +5,10 @@ use crate::objects::{BASE, Input, code_of, met_at, part_of, work_at};
 use crate::once::{copy_atoms, write_once};
 use anyhow::{Result, bail};
 use mo_types::{Bytes, OutOfMemory, RefKind};
-use patch::{Meeting, Met, PlacedWork, patch_range, work_stands};
+use patch::{Meeting, Met, PlacedWork, patch_range};
 use std::alloc::Global;
 use std::time::Instant;
+use test_work::are_work;
 
 // The bytes of an atom.
 const ATOM: u64 = 200;
@@ -102,10 +103,10 @@ fn timed(rt: &HostRuntime, input: &Input, image: &mut [u8], other: &mut [u8]) ->
     let start = Instant::now(rt)?;
     copy_atoms(image, files, work);
     let copied = start.elapsed(rt)?.as_micros();
-    if !work_stands(work, files, 0, image.len()) {
-        bail!("the atoms aren't in order");
-    }
     let fields = Fields { mets };
+    if !are_work(rt.alloc(), work, files, &fields, 0, image.len())? {
+        bail!("the atoms or their fields aren't in order");
+    }
     let start = Instant::now(rt)?;
     let fault = patch_range(rt.alloc(), image, 0, work, &input.loaded, &fields).is_err();
     let patched = start.elapsed(rt)?.as_micros();
