@@ -16,7 +16,7 @@ blank_image-requires-clause-small g c =
     (front_room m c.in_ok-layout.layout (laid_by m c.in_ok-kept.kept c.in_ok-layout.layout c.in_ok-kept.ensures c.in_ok-layout.ensures.layout_of c.in_ok-layout.ensures.small)).1
 
 pub fill_image-requires-clause-work : goal.fill_image-requires-clause-work
-fill_image-requires-clause-work g c =
+fill_image-requires-clause-work g c κs within =
     let m = inputs_of c.args.inputs.now in
     let laid = laid_by m c.in_ok-kept.kept c.in_ok-layout.layout c.in_ok-kept.ensures c.in_ok-layout.ensures.layout_of c.in_ok-layout.ensures.small in
     laid_work m c.in_ok-layout.layout c.in_ok-kept.kept c.base_of.result _ c.as_slice.result.now c.in_ok-front.front c.in_ok-blank.blank.items
