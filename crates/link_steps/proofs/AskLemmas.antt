@@ -2,8 +2,9 @@
 use Rattle.std.proofs.Common.{◌≡◌, ◌↔◌, inl, inr, Option, Some, None, Result, Ok, Err, IsErrAnd, refl, sym, ap, ◌∙◌, subst}
 use Rattle.std.proofs.lemmas.Result.{err_from_is_err_and}
 use Rattle.link_steps.specs.Asking.{Acts, Cause, IsLawful, IsOne, IsSome, Reply, Stops, asked, asks, gives, last, never, refuses, stands, tries, unless}
-use Rattle.link_steps.specs.Steps.{Agree, Answer, OnStop, Yields}
+use Rattle.link_steps.specs.Steps.{Agree, Answer, IsToldBy, OnStop, Yields}
 use Rattle.link_steps.specs.Steps.{IsSome as IsSomeAnswer}
+use Rattle.link_steps.proofs.StepLemmas.{told_one, told_stop, told_there, told_value}
 use Rattle.link_steps.specs.declared.fault.StepFault.{StepFault}
 use Rattle.link_steps.specs.declared.fault.StepFault.TheVariants as fault
 
@@ -27,6 +28,13 @@ tries_case {S = S} {A = A} Is P old given new C is ends goes =
     gives_case is.gave P old given new C is.follows
     (λ why e. ends why (subst Is e is.is))
     (λ x e. goes x (subst Is e is.is))
+
+pub told_case : {W S A B : Type 0} (r : Result A (StepFault S)) (P : A → Reply W S B) (old : W) (given : Result B S) (new : W) (C : Type 0) → tries (IsToldBy r) P old given new
+    → ((why : S) → r ≡ Err (fault.Stop why) → given ≡ Err why → new ≡ old → C) → ((x : A) → r ≡ Ok x → P x old given new → C) → C
+told_case r P old given new C is ends goes =
+    tries_case (IsToldBy r) P old given new C is
+    (λ why e. ends why ((told_stop r why).0 e))
+    (λ x e. goes x ((told_value r x).0 e))
 
 pub asks_case : {W S A B : Type 0} (Is : Reply W S A) (P : A → Reply W S B) (old : W) (given : Result B S) (new : W) (C : Type 0) → asks Is P old given new
     → ((why : S) → Is old (Err why) new → given ≡ Err why → C) → ((x : A) (then : W) → Is old (Ok x) then → P x then given new → C) → C
@@ -64,6 +72,12 @@ tries_on Is P x old given new is follows = record { gave = Ok x; is = is; follow
 pub tries_ends : {W S A B : Type 0} (Is : Answer S A) (P : A → Reply W S B) (why : S) (old : W) (given : Result B S) (new : W) → Is (Err why) → given ≡ Err why → new ≡ old → tries Is P old given new
 unfolding gives
 tries_ends Is P why old given new is stop same = record { gave = Err why; is = is; follows = (stop, same) }
+
+pub told_on : {W S A B : Type 0} (r : Result A (StepFault S)) (P : A → Reply W S B) (x : A) (old : W) (given : Result B S) (new : W) → r ≡ Ok x → P x old given new → tries (IsToldBy r) P old given new
+told_on r P x old given new e follows = tries_on (IsToldBy r) P x old given new ((told_value r x).1 e) follows
+
+pub told_ends : {W S A B : Type 0} (r : Result A (StepFault S)) (P : A → Reply W S B) (why : S) (old : W) (given : Result B S) (new : W) → r ≡ Err (fault.Stop why) → given ≡ Err why → new ≡ old → tries (IsToldBy r) P old given new
+told_ends r P why old given new e stop same = tries_ends (IsToldBy r) P why old given new ((told_stop r why).1 e) stop same
 
 pub asks_on : {W S A B : Type 0} (Is : Reply W S A) (P : A → Reply W S B) (x : A) (old then : W) (given : Result B S) (new : W) → Is old (Ok x) then → P x then given new → asks Is P old given new
 unfolding gives
@@ -163,6 +177,30 @@ tries_law {W = W} {S = S} {A = A} {B = B} {Is = Is} P {C = C} D one ends next = 
     from old why new (inl c) = tries_ends Is P why old (Err why) new ((ends why).1 c.0) refl c.1
     from old why new (inr d) = tries_on Is P d.0 old (Err why) new d.1 (((next d.0 d.1).stops old why new).1 d.2)
 
+pub told_law : {W S A B : Type 0} {r : Result A (StepFault S)} (P : A → Reply W S B) {C : S → Type 0} {Gave : A → Type 0} (D : A → Cause W S) → ((why : S) → (r ≡ Err (fault.Stop why)) ↔ C why) → ((x : A) → (r ≡ Ok x) ↔ Gave x)
+    → ((x : A) → r ≡ Ok x → IsLawful (P x) (D x)) → IsLawful (tries (IsToldBy r) P) (stands C Gave D)
+told_law {W = W} {S = S} {A = A} {B = B} {r = r} P {C = C} {Gave = Gave} D ends goes next = record {
+  one = law.one;
+  stops = λ old why new. (
+    λ p. to old why new ((law.stops old why new).0 p),
+    λ d. (law.stops old why new).1 (from old why new d),
+  );
+}
+  where
+    law : IsLawful (tries (IsToldBy r) P) (stands C (λ x. IsToldBy r (Ok x)) D)
+    law =
+        tries_law P D (told_one r)
+        (λ why. (λ e. (ends why).0 ((told_stop r why).0 e), λ c. (told_stop r why).1 ((ends why).1 c)))
+        (λ x e. next x ((told_value r x).0 e))
+
+    to : (old : W) (why : S) (new : W) → stands C (λ x. IsToldBy r (Ok x)) D old why new → stands C Gave D old why new
+    to old why new (inl c) = inl c
+    to old why new (inr d) = inr (d.0, (goes d.0).0 ((told_value r d.0).0 d.1), d.2)
+
+    from : (old : W) (why : S) (new : W) → stands C Gave D old why new → stands C (λ x. IsToldBy r (Ok x)) D old why new
+    from old why new (inl c) = inl c
+    from old why new (inr d) = inr (d.0, (told_value r d.0).1 ((goes d.0).1 d.1), d.2)
+
 pub asks_law : {W S A B : Type 0} {Is : Reply W S A} (P : A → Reply W S B) {C : Cause W S} (D : A → Cause W S) → IsOne Is → Stops Is C
     → ((x : A) (old then : W) → Is old (Ok x) then → IsLawful (P x) (D x)) → IsLawful (asks Is P) (asked C (λ x old then. Is old (Ok x) then) D)
 asks_law {W = W} {S = S} {A = A} {B = B} {Is = Is} P {C = C} D one ends next = record {
@@ -214,6 +252,9 @@ tries_some {W = W} {S = S} {A = A} {B = B} Is P one next old = by one.0 one.1
     by : (t : Result A S) → Is t → (given : Result B S) × (new : W) × tries Is P old given new
     by (Ok x) is = let then = next x is old in (then.0, then.1, record { gave = Ok x; is = is; follows = then.2 })
     by (Err why) is = (Err why, old, record { gave = Err why; is = is; follows = (refl, refl) })
+
+pub told_some : {W S A B : Type 0} (r : Result A (StepFault S)) (P : A → Reply W S B) → (r ≡ Err fault.OutOfMemory → ⊥) → ((x : A) → r ≡ Ok x → IsSome (P x)) → IsSome (tries (IsToldBy r) P)
+told_some r P real next = tries_some (IsToldBy r) P (told_there r real) (λ x e. next x ((told_value r x).0 e))
 
 pub asks_some : {W S A B : Type 0} (Is : Reply W S A) (P : A → Reply W S B) → IsSome Is → ((x : A) (before then : W) → Is before (Ok x) then → IsSome (P x)) → IsSome (asks Is P)
 unfolding gives
@@ -268,6 +309,12 @@ tries_goes Is P x old returned new is acts = leads (P x) (tries Is P) old old re
 
 pub tries_stops : {W S A B : Type 0} (Is : Answer S A) (P : A → Reply W S B) (end : StepFault S) (old : W) (returned : Result B (StepFault S)) → OnStop end (λ why. Is (Err why)) → IsErrAnd returned (λ passed. passed ≡ end) → Acts (tries Is P) old returned old
 tries_stops Is P end old returned is passes = ends (tries Is P) end old returned old passes (on_stop end (λ why. Is (Err why)) (λ why. tries Is P old (Err why) old) (λ why e. tries_ends Is P why old (Err why) old e refl refl) is)
+
+pub told_goes : {W S A B : Type 0} (r : Result A (StepFault S)) (P : A → Reply W S B) (x : A) (old : W) (returned : Result B (StepFault S)) (new : W) → r ≡ Ok x → Acts (P x) old returned new → Acts (tries (IsToldBy r) P) old returned new
+told_goes r P x old returned new e acts = leads (P x) (tries (IsToldBy r) P) old old returned new (λ given p. told_on r P x old given new e p) acts
+
+pub told_stops : {W S A B : Type 0} (r : Result A (StepFault S)) (P : A → Reply W S B) (end : StepFault S) (old : W) (returned : Result B (StepFault S)) → OnStop end (λ why. r ≡ Err (fault.Stop why)) → IsErrAnd returned (λ passed. passed ≡ end) → Acts (tries (IsToldBy r) P) old returned old
+told_stops r P end old returned is passes = ends (tries (IsToldBy r) P) end old returned old passes (on_stop end (λ why. r ≡ Err (fault.Stop why)) (λ why. tries (IsToldBy r) P old (Err why) old) (λ why e. told_ends r P why old (Err why) old e refl refl) is)
 
 pub last_goes : {W S B : Type 0} (answer : Result B S) (old : W) (returned : Result B (StepFault S)) → Yields answer returned → Acts (last answer) old returned old
 last_goes answer old (Ok x) is = last_is answer old (Ok x) (sym is)

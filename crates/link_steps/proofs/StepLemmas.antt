@@ -3,7 +3,35 @@ use Rattle.std.proofs.Common.{◌≡◌, ◌↔◌, ◌⊎◌, inl, inr, Option,
 use Rattle.std.proofs.lemmas.Result.{err_from_is_err_and}
 use Rattle.link_steps.specs.declared.fault.StepFault.{StepFault}
 use Rattle.link_steps.specs.declared.fault.StepFault.TheVariants as fault
-use Rattle.link_steps.specs.Steps.{Agree, Answer, Cause, IsLawful, IsSome, Meets, OnStop, Stops, always, checks, gives, last, passes, refuses, some, stands, taken, tries, unless}
+use Rattle.link_steps.specs.Steps.{Agree, Answer, Cause, IsLawful, IsSome, IsToldBy, Meets, OnStop, Stops, always, checks, gives, last, map_err, passes, refuses, some, stands, taken, tries, unless}
+
+-- ---- what the definition of a layer below tells
+
+pub told_one : {S A : Type 0} (r : Result A (StepFault S)) → Agree (IsToldBy r) (IsToldBy r)
+told_one (Ok x) a b p q = p ∙ sym q
+told_one (Err (fault.Stop why)) a b p q = p ∙ sym q
+told_one (Err fault.OutOfMemory) a b p q = absurd p
+
+pub told_value : {S A : Type 0} (r : Result A (StepFault S)) (x : A) → IsToldBy r (Ok x) ↔ (r ≡ Ok x)
+told_value (Ok y) x = ((λ e. let same : y ≡ x = cc in ap Ok same), (λ e. let same : x ≡ y = cc in ap Ok same))
+told_value (Err (fault.Stop why)) x = ((λ e. absurd cc), (λ e. absurd cc))
+told_value (Err fault.OutOfMemory) x = ((λ e. absurd e), (λ e. absurd cc))
+
+pub told_stop : {S A : Type 0} (r : Result A (StepFault S)) (why : S) → IsToldBy r (Err why) ↔ (r ≡ Err (fault.Stop why))
+told_stop (Ok x) why = ((λ e. absurd cc), (λ e. absurd cc))
+told_stop (Err (fault.Stop other)) why = ((λ e. let same : other ≡ why = cc in ap (λ w. Err (fault.Stop w)) same), (λ e. let same : why ≡ other = cc in ap Err same))
+told_stop (Err fault.OutOfMemory) why = ((λ e. absurd e), (λ e. absurd cc))
+
+-- there is one where the end isn't want of memory
+pub told_there : {S A : Type 0} (r : Result A (StepFault S)) → (r ≡ Err fault.OutOfMemory → ⊥) → IsSome (IsToldBy r)
+told_there (Ok x) real = (Ok x, refl)
+told_there (Err (fault.Stop why)) real = (Err why, refl)
+told_there (Err fault.OutOfMemory) real = absurd (real refl)
+
+-- a fault that is turned into another is none of a value
+pub mapped_value : {A E F : Type 0} (turn : E → F) (r : Result A E) (x : A) → (map_err turn r ≡ Ok x) ↔ (r ≡ Ok x)
+mapped_value turn (Ok y) x = ((λ e. let same : y ≡ x = cc in ap Ok same), (λ e. let same : y ≡ x = cc in ap Ok same))
+mapped_value turn (Err why) x = ((λ e. absurd cc), (λ e. absurd cc))
 
 -- ---- one answer at most
 

@@ -42,6 +42,17 @@ pub record tries {S A B : Type 0} (Is : Answer S A) (next : A → Answer S B) (g
   pub is : Is gave
   pub follows : gives gave next given
 
+-- What the definition of a layer below answers, as a step's answer. No definition lacks memory: that tells nothing.
+abbrev pub IsToldBy : {S A : Type 0} → Result A (StepFault S) → Answer S A
+IsToldBy (Ok x) given = given ≡ Ok x
+IsToldBy (Err (fault.Stop why)) given = given ≡ Err why
+IsToldBy (Err fault.OutOfMemory) given = ⊥
+
+-- an answer with its fault turned into another
+abbrev pub map_err : {A E F : Type 0} → (E → F) → Result A E → Result A F
+map_err turn (Ok x) = Ok x
+map_err turn (Err why) = Err (turn why)
+
 -- a step that stops or doesn't, in any way of which this holds
 pub record checks {S B : Type 0} (Is : Option S → Type 0) (next : Answer S B) (given : Result B S) : Type 0 where
   pub found : Option S
@@ -119,6 +130,16 @@ Yields answer (Err end) = OnStop end (λ why. answer ≡ Err why)
 abbrev pub Shows : {S A B : Type 0} → (A → B) → Result B S → Result A (StepFault S) → Type 0
 Shows view answer (Ok x) = answer ≡ Ok (view x)
 Shows view answer (Err end) = OnStop end (λ why. answer ≡ Err why)
+
+-- what a call returned is what the definition of a layer below answers
+abbrev pub Returns : {S A : Type 0} → Result A (StepFault S) → Result A (StepFault S) → Type 0
+Returns answer (Ok x) = answer ≡ Ok x
+Returns answer (Err end) = OnStop end (λ why. answer ≡ Err (fault.Stop why))
+
+-- it is, as definitions see it
+abbrev pub ReturnsAs : {S A B : Type 0} → (A → B) → Result B (StepFault S) → Result A (StepFault S) → Type 0
+ReturnsAs view answer (Ok x) = answer ≡ Ok (view x)
+ReturnsAs view answer (Err end) = OnStop end (λ why. answer ≡ Err (fault.Stop why))
 
 -- a call found this stop, or that there is none
 abbrev pub Finds : {S A : Type 0} → Option S → Result A (StepFault S) → Type 0
