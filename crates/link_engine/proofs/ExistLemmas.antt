@@ -19,8 +19,9 @@ use Rattle.link_files.specs.Linked.{AreLinkable, IsLinked}
 use Rattle.link_files.specs.Names.{wanted}
 use Rattle.link_files.proofs.ExistLemmas.{link_exists}
 use Rattle.link_steps.specs.Asking.{IsSome}
-use Rattle.link_steps.specs.Steps.{IsSome as IsSomeAnswer}
-use Rattle.link_steps.proofs.AskLemmas.{asks_some, gives_some, last_some, tries_some, unless_some}
+use Rattle.link_steps.specs.Steps.{IsSome as IsSomeAnswer, map_err}
+use Rattle.link_steps.proofs.AskLemmas.{asks_some, last_some, told_some, tries_some, unless_some}
+use Rattle.link_steps.proofs.StepLemmas.{mapped_value, told_there, told_value}
 use Rattle.member_rounds.specs.Rounds.{loaded_of}
 use Rattle.member_rounds.proofs.RiseLemmas.{loaded_rises}
 use Rattle.command_line.specs.declared.command.Command.{Command}
@@ -33,23 +34,24 @@ use Rattle.link_engine.specs.Command.{commanded, crowd_stop}
 use Rattle.link_engine.specs.Fetched.{FetchedBy}
 use Rattle.link_engine.specs.Input.{inputs_with}
 use Rattle.link_engine.specs.Lines.{after_command, after_few, after_inputs, after_libraries, from_libraries}
-use Rattle.link_engine.specs.Stop.{bind_fault_for, fetch_fault_for, load_fault_for, stopped}
+use Rattle.link_engine.specs.Stop.{bind_fault_for, fetch_fault_for, load_fault_for}
 use Rattle.link_engine.specs.Verdict.{IsImage, IsVerdict, IsVerdictAfter, contents_with, files_for, plan_by, plan_of}
 use Rattle.link_engine.specs.declared.plan.Plan.{Plan}
 use Rattle.link_engine.specs.declared.stop.Stop.{Stop}
 use Rattle.link_engine.specs.declared.stop.Stop.TheVariants.{Refused}
 use Rattle.link_engine.proofs.FetchedLemmas.{fetched_bytes, inputs_bytes, map_bytes}
 use Rattle.link_engine.proofs.InputLemmas.{inputs_rise, made_below}
-use Rattle.link_engine.proofs.LawLemmas.{stopped_value}
 use Rattle.link_engine.proofs.LoadedLemmas.{loaded_bytes, loaded_low, loaded_whole}
 use Rattle.link_engine.proofs.PartLemmas.{contents_bytes}
+use Rattle.link_engine.proofs.RealLemmas.{inputs_end, libraries_end, opening_ends, rounds_end, words_end}
 
 -- ---- the steps that ask
 
 fetched_some : (look : List ℕ → File) (command : Command) → IsSome (FetchedBy look command)
 fetched_some look command old =
     let fetched = contents_of (places_of command) look in
-    (stopped fetch_fault_for fetched.end, old ++ fetched.tried, record { told = refl; tries = refl })
+    let is = told_there (map_err fetch_fault_for fetched.end) (inputs_end look command) in
+    (is.0, old ++ fetched.tried, record { told = is.1; tries = refl })
 
 bound_some : (told : List Exchange) (command : Command) (stubs : List NamedStub) → are_named (length command.inputs) 0 stubs ≡ true → IsSome (BoundBy (file_told told) command stubs)
 bound_some told command stubs named old = let last = finite_last told command stubs in by last.0 (bound_after command stubs last.0 look).end refl last.1
@@ -73,26 +75,27 @@ bound_some told command stubs named old = let last = finite_last told command st
             tries = refl;
           },
         )
-    by count (Err why) e last = (
-      stopped bind_fault_for (Err why),
-      old ++ (bound_after command stubs count look).tried,
-      record {
-        count = count;
-        last = subst (IsLast count) (sym e) last;
-        bound = Err why;
-        is = subst (Shows count (Err why)) (sym e) refl;
-        whole = tt;
-        told = refl;
-        tries = refl;
-      },
-    )
+    by count (Err why) e last =
+        let is = told_there {A = LibraryGraph} (map_err bind_fault_for (Err why)) (libraries_end {A = LibraryGraph} look command stubs count why e) in (
+          is.0,
+          old ++ (bound_after command stubs count look).tried,
+          record {
+            count = count;
+            last = subst (IsLast count) (sym e) last;
+            bound = Err why;
+            is = subst (Shows count (Err why)) (sym e) refl;
+            whole = tt;
+            told = is.1;
+            tries = refl;
+          },
+        )
 
 -- ---- what the inputs are
 
 module _ (told : List Exchange) (bytes : AreOfBytes told) (command : Command) (found : List Content) (before then : List (List ℕ))
     (fetched : FetchedBy (file_told told) command before (Ok found) then) (contents : Contents) (are : contents_with command found ≡ Ok contents) where
   opened_are : opened.contents_of (inputs_with command found) ≡ Ok contents
-  opened_are = (stopped_value load_fault_for (opened.contents_of (inputs_with command found)) contents).0 are
+  opened_are = (mapped_value load_fault_for (opened.contents_of (inputs_with command found)) contents).0 are
 
   order : AreInOrder contents.inputs
   order = keeps_order (inputs_with command found) contents (inputs_rise command found) opened_are
@@ -105,8 +108,9 @@ module _ (told : List Exchange) (bytes : AreOfBytes told) (command : Command) (f
   -- what they load is linkable
   linkable : (libs : LibraryGraph) (loaded : Loaded) → files_for command contents.inputs libs ≡ Ok loaded → AreLinkable loaded.files
   linkable libs loaded is =
-      let read = (stopped_value load_fault_for (loaded_of contents.inputs libs (wanted command)) loaded).0 is in
-      let there = (stopped_value fetch_fault_for (contents_of (places_of command) (file_told told)).end found).0 (sym fetched.told) in
+      let read = (mapped_value load_fault_for (loaded_of contents.inputs libs (wanted command)) loaded).0 is in
+      let end = (contents_of (places_of command) (file_told told)).end in
+      let there = (mapped_value fetch_fault_for end found).0 ((told_value (map_err fetch_fault_for end) found).0 fetched.told) in
       let inputs = inputs_bytes command.all_load 0 command.inputs found (fetched_bytes (file_told told) (places_of command) found (map_bytes told bytes) there) in
       let held = contents_bytes (inputs_with command found) contents inputs opened_are in
       record {
@@ -129,13 +133,13 @@ image_some command libs files are = by (link_exists command libs files are)
 
 plan_some : (words : List (List ℕ)) (told : List Exchange) → AreOfBytes told → IsSome (plan_by (file_told told) words)
 plan_some words told bytes =
-    gives_some (commanded words) (after_command look) (λ command commands.
+    told_some (commanded words) (after_command look) (words_end words) (λ command commands.
     unless_some (crowd_stop command) (after_few look command) (λ few.
     asks_some (FetchedBy look command) (after_inputs look command) (fetched_some look command) (λ found before then fetched.
-    gives_some (contents_with command found) (from_libraries look command) (λ contents are.
+    told_some (contents_with command found) (from_libraries look command) (opening_ends command found) (λ contents are.
     asks_some (BoundBy look command contents.stubs) (after_libraries command contents.inputs)
     (bound_some told command contents.stubs (named told bytes command found before then fetched contents are)) (λ libs old new bound.
-    gives_some (files_for command contents.inputs libs) _ (λ loaded is.
+    told_some (files_for command contents.inputs libs) _ (rounds_end command contents.inputs libs) (λ loaded is.
     tries_some (IsImage command libs loaded.files) _
     (image_some command libs loaded.files (linkable told bytes command found before then fetched contents are libs loaded is)) (λ image made.
     last_some (Ok (plan_of command image)))))))))

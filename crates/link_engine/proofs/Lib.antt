@@ -9,6 +9,7 @@ pub mod LoadedLemmas
 pub mod PartLemmas
 pub mod RanLemmas
 pub mod ReadLemmas
+pub mod RealLemmas
 pub mod SaysLemmas
 pub mod ValueLemmas
 pub mod WordLemmas

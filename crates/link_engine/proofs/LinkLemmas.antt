@@ -3,13 +3,16 @@ use Rattle.std.proofs.Common.{◌≡◌, ℕ, ◌⊎◌, inl, inr, List, [], ◌
 use Rattle.file_cache.proofs.RunLemmas.{files_gave, told_gave}
 use Rattle.file_cache.specs.Kept.{FilesSeen}
 use Rattle.file_cache.specs.Program.{File}
-use Rattle.file_cache.specs.Runs.{FilesTold, AllAgree, AllRead, AreNew, Gave, file_in, file_told, fresh, paths_in}
+use Rattle.file_cache.specs.Runs.{AllAgree, AllRead, AreNew, Gave, file_in, file_told, fresh, paths_in}
 use Rattle.lib_bind.specs.declared.bind_fault.BindFault.{BindFault}
 use Rattle.lib_bind.specs.declared.bind_fault.BindFault.TheVariants as bind
-use Rattle.link_steps.proofs.AskLemmas.{gives_case, unless_case}
-use Rattle.link_steps.specs.Steps.{Meets}
+use Rattle.link_steps.proofs.AskLemmas.{told_case}
+use Rattle.link_steps.specs.Steps.{Meets, map_err}
 use Rattle.link_steps.specs.declared.fault.StepFault.{StepFault}
 use Rattle.link_steps.specs.declared.fault.StepFault.TheVariants as fault
+use Rattle.command_line.specs.declared.command.Command.{Command}
+use Rattle.mo_cmd.specs.Command.{command_by}
+use Rattle.mo_cmd.specs.declared.usage_fault.UsageFault.TheVariants as usage
 use Rattle.mo_outside.specs.Answers.{Answer, Exchange}
 use Rattle.mo_outside.specs.Faults.{Rises}
 use Rattle.mo_outside.specs.Files.{FileMap}
@@ -22,15 +25,14 @@ use Rattle.link_engine.specs.declared.stop.Stop.{Stop}
 use Rattle.link_engine.specs.declared.stop.Stop.TheVariants as stop
 use Rattle.link_engine.specs.Answered.{Answered, Ran}
 use Rattle.link_engine.specs.Causes.{StopCause}
-use Rattle.link_engine.specs.Command.{command_of, commanded, crowd_stop}
+use Rattle.link_engine.specs.Command.{commanded, linked_rows}
 use Rattle.link_engine.specs.Kept.{IsReadWell, IsStop}
 use Rattle.link_engine.specs.Settles.{Carries, CarriesPart, ExactlyWhere, IsComplete, OutputSeen, Settles, Stopped}
-use Rattle.link_engine.specs.Stop.{bind_fault_for, status_for, status_of, stop_in}
+use Rattle.link_engine.specs.Stop.{bind_fault_for, status_for, status_of, usage_fault_for}
 use Rattle.link_engine.specs.Verdict.{IsVerdict, IsVerdictAfter, plan_by}
 use Rattle.link_engine.proofs.LawLemmas.{one_verdict, stop_causes}
 use Rattle.link_engine.proofs.RanLemmas.{met_too}
 use Rattle.link_engine.proofs.ReadLemmas.{tried_read, unread_told, verdict_names, verdict_read}
-use Rattle.link_engine.proofs.WordLemmas.{command_crowded, command_misused, command_read}
 
 -- An answer before anything is written, against the verdict.
 
@@ -173,23 +175,28 @@ read_well_no_fault status path well same = subst IsReadWell same well
 -- ---- what the words are
 
 -- words that aren't a command have no other verdict
-misused_verdict : (words : List (List ℕ)) (look : List ℕ → File) (given : Result Plan Stop) (why : Stop) → IsVerdict words look given → command_of words ≡ Err why → given ≡ Err why
+misused_verdict : (words : List (List ℕ)) (look : List ℕ → File) (given : Result Plan Stop) (word : ℕ) (rule : UsageRule) → IsVerdict words look given → command_by linked_rows words ≡ Err (usage.At word rule)
+    → given ≡ Err (stop.Usage word rule)
 unfolding IsVerdictAfter
-misused_verdict words look given why (tried, is) misused =
-    gives_case (commanded words) _ [] given tried (given ≡ Err why) is
-    (λ other e stop same. stop ∙ ap Err (same_fault (sym (command_misused words other e) ∙ misused)))
-    (λ command read first. unless_case (crowd_stop command) _ [] given tried (given ≡ Err why) first
-    (λ other e stop same. stop ∙ ap Err (same_fault (sym (command_crowded words command other read e) ∙ misused)))
-    (λ few second. absurd (no_plan (sym misused ∙ command_read words command read few))))
+misused_verdict words look given word rule (tried, is) misused =
+    told_case (commanded words) _ [] given tried (given ≡ Err (stop.Usage word rule)) is
+    (λ other e stop same. stop ∙ ap Err (same_stop (sym e ∙ ap (map_err usage_fault_for) misused)))
+    (λ command read first. absurd (no_command (sym (ap (map_err usage_fault_for) misused) ∙ read)))
+  where
+    same_stop : {x y : Stop} → ◌≡◌ {A = Result Command (StepFault Stop)} (Err (fault.Stop x)) (Err (fault.Stop y)) → x ≡ y
+    same_stop e = cc
 
-usage_cause : (words : List (List ℕ)) (look : List ℕ → File) (word : ℕ) (rule : UsageRule) (tried : List (List ℕ)) → StopCause words look (stop.Usage word rule) tried → command_of words ≡ Err (stop.Usage word rule)
-usage_cause words look word rule tried (inl misused) = command_misused words (stop.Usage word rule) misused.0
+    no_command : {x : StepFault Stop} {y : Command} → ◌≡◌ {A = Result Command (StepFault Stop)} (Err x) (Ok y) → ⊥
+    no_command e = absurd cc
+
+usage_cause : (words : List (List ℕ)) (look : List ℕ → File) (word : ℕ) (rule : UsageRule) (tried : List (List ℕ)) → StopCause words look (stop.Usage word rule) tried → command_by linked_rows words ≡ Err (usage.At word rule)
+usage_cause words look word rule tried (inl misused) = misused.0
 usage_cause words look word rule tried (inr (command, read, inl many)) = absurd (let e = many.0.1 in cc)
 usage_cause words look word rule tried (inr (command, read, inr (few, inl unfound))) = absurd unfound.ends
 usage_cause words look word rule tried (inr (command, read, inr (few, inr (found, then, there, inl faulty)))) = absurd faulty.0
 usage_cause words look word rule tried (inr (command, read, inr (few, inr (found, then, there, inr (contents, are, inl unbound))))) = absurd (by unbound.end unbound.is)
   where
-    by : (end : BindFault) → stop.Usage word rule ≡ stop_in (bind_fault_for end) → ⊥
+    by : (end : BindFault) → bind_fault_for end ≡ fault.Stop (stop.Usage word rule) → ⊥
     by (bind.ReadFault path) e = absurd cc
     by (bind.Refused why) e = absurd cc
     by bind.OutOfMemory e = absurd cc
@@ -198,18 +205,18 @@ usage_cause words look word rule tried (inr (command, read, inr (few, inr (found
 usage_cause words look word rule tried (inr (command, read, inr (few, inr (found, then, there, inr (contents, are, inr (libs, later, bound, inr (loaded, e, inr (image, is, none)))))))) = absurd none
 
 -- the answer tells the fault of the words just where they have it
-usage_settled : (words : List (List ℕ)) (look : List ℕ → File) (status : Status) (old new : OutputSeen) (word : ℕ) (rule : UsageRule) → Settles (IsVerdict words look) status old new → ExactlyWhere (command_of words ≡ Err (stop.Usage word rule)) (answer.Usage word rule) status
+usage_settled : (words : List (List ℕ)) (look : List ℕ → File) (status : Status) (old new : OutputSeen) (word : ℕ) (rule : UsageRule) → Settles (IsVerdict words look) status old new → ExactlyWhere (command_by linked_rows words ≡ Err (usage.At word rule)) (answer.Usage word rule) status
 usage_settled words look status old new word rule so = record {
   only = λ same. let verdict = (so.stops (stop.Usage word rule)).only same in usage_cause words look word rule verdict.0 ((stop_causes words look (stop.Usage word rule) verdict.0).0 verdict.1);
   always = λ misused. by status so misused;
 }
   where
-    by : (status : Status) → Settles (IsVerdict words look) status old new → command_of words ≡ Err (stop.Usage word rule) → (status ≡ answer.Usage word rule) ⊎ (status ≡ OutOfMemory)
-    by Done so misused = let d = so.done refl in absurd (no_plan (sym (misused_verdict words look (Ok d.0) (stop.Usage word rule) d.1 misused)))
-    by WriteFault so misused = let d = so.part refl in absurd (no_plan (sym (misused_verdict words look (Ok d.0) (stop.Usage word rule) d.1 misused)))
-    by (answer.Usage other more) so misused = inl (ap status_of (same_fault (misused_verdict words look (Err (stop.Usage other more)) (stop.Usage word rule) ((so.stops (stop.Usage other more)).only refl) misused)))
-    by (answer.Refused refusal) so misused = absurd (let e : stop.Refused refusal ≡ stop.Usage word rule = same_fault (misused_verdict words look (Err (stop.Refused refusal)) (stop.Usage word rule) ((so.stops (stop.Refused refusal)).only refl) misused) in cc)
-    by (ReadFault path) so misused = absurd (let e : stop.ReadFault path ≡ stop.Usage word rule = same_fault (misused_verdict words look (Err (stop.ReadFault path)) (stop.Usage word rule) ((so.stops (stop.ReadFault path)).only refl) misused) in cc)
+    by : (status : Status) → Settles (IsVerdict words look) status old new → command_by linked_rows words ≡ Err (usage.At word rule) → (status ≡ answer.Usage word rule) ⊎ (status ≡ OutOfMemory)
+    by Done so misused = let d = so.done refl in absurd (no_plan (sym (misused_verdict words look (Ok d.0) word rule d.1 misused)))
+    by WriteFault so misused = let d = so.part refl in absurd (no_plan (sym (misused_verdict words look (Ok d.0) word rule d.1 misused)))
+    by (answer.Usage other more) so misused = inl (ap status_of (same_fault (misused_verdict words look (Err (stop.Usage other more)) word rule ((so.stops (stop.Usage other more)).only refl) misused)))
+    by (answer.Refused refusal) so misused = absurd (let e : stop.Refused refusal ≡ stop.Usage word rule = same_fault (misused_verdict words look (Err (stop.Refused refusal)) word rule ((so.stops (stop.Refused refusal)).only refl) misused) in cc)
+    by (ReadFault path) so misused = absurd (let e : stop.ReadFault path ≡ stop.Usage word rule = same_fault (misused_verdict words look (Err (stop.ReadFault path)) word rule ((so.stops (stop.ReadFault path)).only refl) misused) in cc)
     by OutOfMemory so misused = inr refl
 
 -- its verdict isn't that a path couldn't be read
@@ -297,7 +304,7 @@ module _ {S : Type 0} (fetches : S → List ℕ → Answer → S → Type 0) (wo
       by None agree = tt
       by (Some files) agree = λ well. given.settles (file_in files) (files_gave files given.told agree (all_read none well given))
 
-  pub usage_told : old.kept ≡ [] → (word : ℕ) (rule : UsageRule) → Told → ExactlyWhere (command_of words ≡ Err (stop.Usage word rule)) (answer.Usage word rule) status
+  pub usage_told : old.kept ≡ [] → (word : ℕ) (rule : UsageRule) → Told → ExactlyWhere (command_by linked_rows words ≡ Err (usage.At word rule)) (answer.Usage word rule) status
   usage_told none word rule given = usage_settled words (alone given) status seen_old seen_new word rule (given.settles (alone given) (gave_alone none given))
 
 -- ---- answers

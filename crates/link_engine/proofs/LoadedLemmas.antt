@@ -1,5 +1,5 @@
--- Each file that is loaded is cut into its pieces, has the form and atoms of low alignment, and is whole and has bytes where it
--- is read of bytes.
+-- Each file that is loaded is cut into its pieces, has its references, the form and atoms of low alignment, and is whole and has
+-- bytes where it is read of bytes.
 use Rattle.std.proofs.Common.{◌≡◌, ℕ, ◌<◌, ◌^◌, false, true, Bool, nat_lt, List, All, length, Result, Ok, Err, refl, sym, subst}
 use Rattle.std.specs.Result.{IfErr}
 use Rattle.std.proofs.lemmas.Bool.{ltb-true}
@@ -38,7 +38,7 @@ use Rattle.member_rounds.proofs.WorkLemmas.{from_all}
 use Rattle.link_files.proofs.KeptLemmas.{IsCut}
 use Rattle.link_engine.proofs.ValueLemmas.{no_value, same_value}
 use Rattle.link_engine.proofs.PartLemmas.{HaveBytes, content_bytes}
-use Rattle.link_files.specs.Linked.{AreCut, AreLow}
+use Rattle.link_files.specs.Linked.{AreCut, AreLow, AreReferred}
 use Rattle.image_make.specs.Whole.{AreBytesIn}
 
 -- ---- an object
@@ -92,6 +92,10 @@ file_bytes inputs id file bytes is =
     subst HasByteSections (sym of.is) (All-weaker (λ (section : Section). AreBytes section.bytes) (λ (section : Section). All (λ byte. byte < 256) section.bytes)
     (λ section are k d within. subst (λ (n : ℕ). n < 256) (get_or_default section.bytes k 0 d within) (are k)) of.object.sections read.contents)
 
+-- a file has the references of its object
+abbrev IsReferred : LoadedFile → Type 0
+IsReferred file = file.refs ≡ refs_or_none (refs_of file.object file.id)
+
 -- ---- what is loaded
 
 module _ (inputs : List Input) (libs : LibraryGraph) (wanted : List (List ℕ)) (loaded : Loaded) (is : loaded_of inputs libs wanted ≡ Ok loaded) where
@@ -104,6 +108,9 @@ module _ (inputs : List Input) (libs : LibraryGraph) (wanted : List (List ℕ)) 
 
   pub loaded_cut : AreCut loaded.files
   loaded_cut = each_loaded IsCut (λ id file among read. subst IsCut (sym (object_at inputs id file read).is) refl)
+
+  pub loaded_referred : AreReferred loaded.files
+  loaded_referred = each_loaded IsReferred (λ id file among read. subst IsReferred (sym (object_at inputs id file read).is) refl)
 
   pub loaded_formed : All (λ (file : LoadedFile). is_later file ≡ false) loaded.files
   loaded_formed = each_loaded (λ (file : LoadedFile). is_later file ≡ false) (λ id file among read. file_formed inputs id file read)

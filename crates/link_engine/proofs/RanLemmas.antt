@@ -1,6 +1,6 @@
 -- A link's line of steps that was gone: what files told, and what the line gives by it.
 use Rattle.std.specs.Prelude.{IfOk}
-use Rattle.std.proofs.Common.{◌≡◌, ◌≤◌, ◌+◌, ◌-◌, inl, inr, ℕ, zero, suc, List, [], ◌∷◌, ◌++◌, length, min, take, Option, Some, None, Result, Ok, Err, IsErrAnd, refl, sym, ap, ◌∙◌, subst, append_assoc, arith}
+use Rattle.std.proofs.Common.{◌≡◌, ◌+◌, ◌-◌, inl, inr, ℕ, zero, suc, List, [], ◌∷◌, ◌++◌, length, min, take, Option, Some, None, Result, Ok, Err, IsErrAnd, refl, sym, ap, ◌∙◌, subst, append_assoc, arith}
 use Rattle.std.proofs.lemmas.List.{append-nil, append_cancel_left, take_all}
 use Rattle.std.proofs.lemmas.Bool.{cases_lt}
 use Rattle.std.proofs.lemmas.Result.{err_from_is_err_and}
@@ -20,9 +20,10 @@ use Rattle.lib_bind.specs.declared.bind_fault.BindFault.{BindFault}
 use Rattle.lib_bind.specs.declared.bind_fault.BindFault.TheVariants as bind
 use Rattle.lib_bind.specs.declared.library.LibraryGraph.{LibraryGraph}
 use Rattle.lib_bind.specs.declared.named.NamedStub.{NamedStub}
-use Rattle.link_steps.proofs.AskLemmas.{asks_case, asks_ends, asks_on, gives_case, gives_on, unless_case, unless_on}
-use Rattle.link_steps.specs.Asking.{Acts, Reply, asks, gives, unless}
-use Rattle.link_steps.specs.Steps.{Meets, OnStop}
+use Rattle.link_steps.proofs.AskLemmas.{asks_case, asks_ends, asks_on, told_case, told_on, unless_case, unless_on}
+use Rattle.link_steps.proofs.StepLemmas.{told_stop, told_value}
+use Rattle.link_steps.specs.Asking.{Acts, Reply, asks, tries, unless}
+use Rattle.link_steps.specs.Steps.{IsToldBy, Meets, OnStop, map_err}
 use Rattle.link_steps.specs.declared.fault.StepFault.{StepFault}
 use Rattle.link_steps.specs.declared.fault.StepFault.TheVariants as fault
 use Rattle.command_line.specs.declared.command.Command.{Command}
@@ -32,7 +33,7 @@ use Rattle.link_engine.specs.Answered.{Ran}
 use Rattle.link_engine.specs.Asks.{BindsLibraries, FetchesInputs, IsTold}
 use Rattle.link_engine.specs.Bound.{BoundBy}
 use Rattle.link_engine.specs.Fetched.{FetchedBy}
-use Rattle.link_engine.specs.Stop.{bind_fault_for, fetch_fault_for, stop_in, stopped}
+use Rattle.link_engine.specs.Stop.{bind_fault_for, fetch_fault_for}
 use Rattle.link_engine.specs.declared.stop.Stop.{Stop}
 
 abbrev Paths : Type 0
@@ -89,15 +90,15 @@ quiet_ran {A = A} fetches line result seen acts = record {
 
 -- ---- steps that ask for nothing
 
-pub gives_ran : {S A B : Type 0} (fetches : S → List ℕ → Answer → S → Type 0) (r : Result A Stop) (line : A → Line B) (x : A) (result : Result B (StepFault Stop)) (old new : FilesSeen S) → r ≡ Ok x
-    → Ran fetches (line x) result old new → Ran fetches (λ look. gives r (λ y. line y look)) result old new
-gives_ran {B = B} fetches r line x result old new e ran = record {
+pub told_ran : {S A B : Type 0} (fetches : S → List ℕ → Answer → S → Type 0) (r : Result A (StepFault Stop)) (line : A → Line B) (x : A) (result : Result B (StepFault Stop)) (old new : FilesSeen S) → r ≡ Ok x
+    → Ran fetches (line x) result old new → Ran fetches (λ look. tries (IsToldBy r) (λ y. line y look)) result old new
+told_ran {A = A} fetches r line x result old new e ran = record {
   told = ran.told;
   files = ran.files;
-  gives = λ look gave start. met_too (Reached (line x) ran.told old look start) (Reached (λ l. gives r (λ y. line y l)) ran.told old look start) result (λ given p. (p.0, gives_on r (λ y. line y look) x start given (start ++ p.0) e p.1, p.2)) (ran.gives look gave start);
+  gives = λ look gave start. met_too (Reached (line x) ran.told old look start) (Reached (λ l. tries (IsToldBy r) (λ y. line y l)) ran.told old look start) result (λ given p. (p.0, told_on r (λ y. line y look) x start given (start ++ p.0) e p.1, p.2)) (ran.gives look gave start);
   some = λ look gave start tried given is.
-      gives_case r (λ y. line y look) start given (start ++ tried) _ is
-      (λ why stop same more. absurd (let h : ◌≡◌ {A = Result _ Stop} (Err why) (Ok x) = sym stop ∙ e in cc))
+      told_case r (λ y. line y look) start given (start ++ tried) _ is
+      (λ why stop same more. absurd (let h : ◌≡◌ {A = Result A (StepFault Stop)} (Err (fault.Stop why)) (Ok x) = sym stop ∙ e in cc))
       (λ y also follows. ran.some look gave start tried given (subst (λ z. line z look start given (start ++ tried)) (same_value (sym also ∙ e)) follows));
 }
 
@@ -123,8 +124,21 @@ fault_told : {A E : Type 0} (f : E → StepFault Stop) (end : Result A E) (why :
 fault_told f (Ok y) why is = absurd cc
 fault_told {A = A} f (Err fault) why is = (fault, refl, sym (same_fault {A = A} is))
 
-stopped_one : {A E : Type 0} (f : E → StepFault Stop) (x y : A) → ◌≡◌ {A = Result A Stop} (Ok x) (stopped f (Ok y)) → x ≡ y
-stopped_one f x y is = same_value is
+-- a value that is told is the end's
+end_told : {A E : Type 0} (f : E → StepFault Stop) (end : Result A E) (x : A) → end ≡ Ok x → IsToldBy (map_err f end) (Ok x)
+end_told f end x is = (told_value (map_err f end) x).1 (ap (map_err f) is)
+
+one_told : {A E : Type 0} (f : E → StepFault Stop) (end : Result A E) (x y : A) → end ≡ Ok y → IsToldBy (map_err f end) (Ok x) → x ≡ y
+one_told f end x y is told = sym (same_value (sym (ap (map_err f) is) ∙ (told_value (map_err f end) x).0 told))
+
+none_told : {A E : Type 0} (f : E → StepFault Stop) (end : Result A E) (x : A) (why : Stop) → end ≡ Ok x → IsToldBy (map_err f end) (Err why) → ⊥
+none_told {A = A} f end x why is told =
+    let h : ◌≡◌ {A = Result A (StepFault Stop)} (Ok x) (Err (fault.Stop why)) = sym (ap (map_err f) is) ∙ (told_stop (map_err f end) why).0 told in
+    absurd cc
+
+-- so is a stop
+stop_told : {A E : Type 0} (f : E → StepFault Stop) (end : Result A E) (fault_is : E) (why : Stop) → end ≡ Err fault_is → f fault_is ≡ fault.Stop why → IsToldBy (map_err f end) (Err why)
+stop_told f end fault_is why is same = (told_stop (map_err f end) why).1 (ap (map_err f) is ∙ ap (λ w. Err w) same)
 
 module _ {S B : Type 0} (fetches : S → List ℕ → Answer → S → Type 0) (command : Command) (rest : List Content → Line B) where
   abbrev Fetching : Line B
@@ -158,16 +172,16 @@ module _ {S B : Type 0} (fetches : S → List ℕ → Answer → S → Type 0) (
             let tried : Paths = input_paths look in (
               tried ++ p.0,
               asks_on (FetchedBy look command) (λ x. rest x look) found start (start ++ tried) given (start ++ (tried ++ p.0))
-                  (record { told = sym (ap (stopped fetch_fault_for) (runs.gives look (before look gave))); tries = refl })
+                  (record { told = end_told fetch_fault_for (contents_of (places_of command) look).end found (runs.gives look (before look gave)); tries = refl })
                   (subst (rest found look (start ++ tried) given) (append_assoc start tried p.0) p.1),
               paths_both old.kept mid.kept a b tried p.0 runs.kept (runs.whole tt look (before look gave)) p.2,
             ))
             (ran.gives look (after look gave) (start ++ input_paths look));
         some = λ look gave start tried given is.
             asks_case (FetchedBy look command) (λ x. rest x look) start given (start ++ tried) _ is
-            (λ why by stop. absurd (let h : ◌≡◌ {A = Result (List Content) Stop} (Err why) (Ok found) = by.told ∙ ap (stopped fetch_fault_for) (runs.gives look (before look gave)) in cc))
+            (λ why by stop. absurd (none_told fetch_fault_for (contents_of (places_of command) look).end found why (runs.gives look (before look gave)) by.told))
             (λ x then by follows.
-            let same : x ≡ found = stopped_one fetch_fault_for x found (by.told ∙ ap (stopped fetch_fault_for) (runs.gives look (before look gave))) in
+            let same : x ≡ found = one_told fetch_fault_for (contents_of (places_of command) look).end x found (runs.gives look (before look gave)) by.told in
             let more = tried_then look start then tried given x (extends look) by.tries follows in
             let here : rest found look (start ++ input_paths look) given ((start ++ input_paths look) ++ more.0) =
             subst (λ (f : List Content). rest f look (start ++ input_paths look) given ((start ++ input_paths look) ++ more.0)) same
@@ -211,12 +225,12 @@ module _ {S B : Type 0} (fetches : S → List ℕ → Answer → S → Type 0) (
               → OnStop (fetch_fault_for why) (λ stop. (tried : Paths) × Fetching look start (Err stop) (start ++ tried) × (paths_in runs.asked ≡ fresh (paths_in old.kept) tried))
           at (fetch.ReadFault path) runs look gave = (
             input_paths look,
-            asks_ends (FetchedBy look command) (λ x. rest x look) _ start _ (start ++ input_paths look) (record { told = sym (ap (stopped fetch_fault_for) (runs.gives look gave tt)); tries = refl }) refl,
+            asks_ends (FetchedBy look command) (λ x. rest x look) _ start _ (start ++ input_paths look) (record { told = stop_told fetch_fault_for (contents_of (places_of command) look).end _ _ (runs.gives look gave tt) refl; tries = refl }) refl,
             runs.whole tt look gave,
           )
           at (fetch.Missing path) runs look gave = (
             input_paths look,
-            asks_ends (FetchedBy look command) (λ x. rest x look) _ start _ (start ++ input_paths look) (record { told = sym (ap (stopped fetch_fault_for) (runs.gives look gave tt)); tries = refl }) refl,
+            asks_ends (FetchedBy look command) (λ x. rest x look) _ start _ (start ++ input_paths look) (record { told = stop_told fetch_fault_for (contents_of (places_of command) look).end _ _ (runs.gives look gave tt) refl; tries = refl }) refl,
             runs.whole tt look gave,
           )
           at fetch.OutOfMemory runs look gave = tt
@@ -346,9 +360,6 @@ module _ {S B : Type 0} (fetches : S → List ℕ → Answer → S → Type 0) (
       asked : List Exchange
       asked = binds.closes.runs.asked
 
-      one : (why : BindFault) (stop : Stop) → bind_fault_for why ≡ fault.Stop stop → stop_in (bind_fault_for why) ≡ stop
-      one why stop e = ap stop_in e
-
       stops : (why : BindFault) (stop : Stop) (look : List ℕ → File) (start : Paths) → bind_fault_for why ≡ fault.Stop stop → (bound_after command stubs binds.closes.count look).end ≡ Err why
           → paths_in asked ≡ fresh (paths_in old.kept) (bound_after command stubs binds.closes.count look).tried → (tried : Paths) × Binding look start (Err stop) (start ++ tried) × (paths_in asked ≡ fresh (paths_in old.kept) tried)
       stops why stop look start e ends paths = (
@@ -360,7 +371,7 @@ module _ {S B : Type 0} (fetches : S → List ℕ → Answer → S → Type 0) (
               bound = Err why;
               is = subst (Shows binds.closes.count (Err why)) (sym ends) refl;
               whole = tt;
-              told = sym (ap Err (one why stop e));
+              told = stop_told {A = LibraryGraph} bind_fault_for (Err why) why stop refl e;
               tries = refl;
             }) refl,
         paths,

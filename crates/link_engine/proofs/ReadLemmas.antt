@@ -37,7 +37,10 @@ use Rattle.input_read.specs.Opened as opened
 use Rattle.lib_bind.specs.Closure.{Shows}
 use Rattle.lib_bind.specs.declared.library.LibraryGraph.{LibraryGraph}
 use Rattle.link_files.specs.Names.{wanted}
-use Rattle.link_steps.proofs.AskLemmas.{asks_case, gives_case, last_case, tries_case, unless_case}
+use Rattle.link_steps.proofs.AskLemmas.{asks_case, last_case, told_case, tries_case, unless_case}
+use Rattle.link_steps.specs.Steps.{IsToldBy, map_err}
+use Rattle.link_steps.specs.declared.fault.StepFault.{StepFault}
+use Rattle.link_steps.specs.declared.fault.StepFault.TheVariants as fault
 use Rattle.member_rounds.specs.Rounds.{loaded_of}
 use Rattle.mo_cmd.specs.Command.{command_by}
 use Rattle.mo_cmd.specs.declared.usage_fault.UsageFault.{UsageFault}
@@ -45,11 +48,11 @@ use Rattle.mo_cmd.specs.declared.usage_fault.UsageFault.TheVariants as usage
 use Rattle.mo_types.specs.declared.cause.Which.TheVariants.{Inputs}
 use Rattle.mo_types.specs.declared.loaded.LoadedFile.{LoadedFile}
 use Rattle.link_engine.specs.Bound.{BoundBy}
-use Rattle.link_engine.specs.Command.{commanded, crowd_stop, linked_rows, told}
+use Rattle.link_engine.specs.Command.{commanded, crowd_stop, linked_rows}
 use Rattle.link_engine.specs.Fetched.{FetchedBy}
 use Rattle.link_engine.specs.Input.{inputs_with}
 use Rattle.link_engine.specs.Kept.{IsNotUnread}
-use Rattle.link_engine.specs.Stop.{bind_fault_for, fetch_fault_for, load_fault_for, stopped}
+use Rattle.link_engine.specs.Stop.{bind_fault_for, fetch_fault_for, load_fault_for, usage_fault_for}
 use Rattle.link_engine.specs.Unread.{AreReadable, EndsUnread}
 use Rattle.link_engine.specs.Verdict.{IsImage, IsVerdictAfter, contents_with, files_for, plan_of}
 use Rattle.link_engine.specs.declared.plan.Plan.{Plan}
@@ -249,6 +252,10 @@ Reads look given tried = (AreReadable look tried × ((path : List ℕ) → given
 same_fault : {A E : Type 0} {x y : E} → ◌≡◌ {A = Result A E} (Err x) (Err y) → x ≡ y
 same_fault e = cc
 
+-- what is told
+reads_as : {A : Type 0} (look : List ℕ → File) (answer given : Result A Stop) (tried : List (List ℕ)) → given ≡ answer → Reads look answer tried → Reads look given tried
+reads_as {A = A} look answer given tried is reads = subst (λ (r : Result A Stop). Reads look r tried) (sym is) reads
+
 -- a stop is handed on
 reads_stop : {A B : Type 0} (look : List ℕ → File) (why : Stop) (given : Result B Stop) (tried : List (List ℕ)) → given ≡ Err why → Reads {A = A} look (Err why) tried → Reads look given tried
 reads_stop {A = A} {B = B} look why given tried is (inl (read, fine)) = inl (read, λ path e. fine path (ap (λ w. Err w) (same_fault {A = B} (sym is ∙ e))))
@@ -266,64 +273,67 @@ reads_more look given old tried new read is (inr (path, told, ends)) = inr (path
 
 fetch_reads : (look : List ℕ → File) (command : Command) (old new : List (List ℕ)) (given : Result (List Content) Stop) → AreReadable look old → FetchedBy look command old given new → Reads look given new
 fetch_reads look command old new given read by =
-    reads_more look given old (contents_of (places_of command) look).tried new read by.tries
-    (subst (λ (r : Result (List Content) Stop). Reads look r (contents_of (places_of command) look).tried) (sym by.told) (at (contents_of (places_of command) look).end refl))
+    reads_more look given old (contents_of (places_of command) look).tried new read by.tries (at (contents_of (places_of command) look).end refl by.told)
   where
     careful : IsCareful fetch.ReadFault (contents_of (places_of command))
     careful = contents_careful (places_of command)
 
-    at : (end : Result (List Content) FetchStop) → (contents_of (places_of command) look).end ≡ end → Reads look (stopped fetch_fault_for end) (contents_of (places_of command) look).tried
-    at (Ok found) is = inl (careful.read look (λ path e. ok_err (sym is ∙ e)), λ path e. absurd cc)
+    tried : List (List ℕ)
+    tried = (contents_of (places_of command) look).tried
+
+    at : (end : Result (List Content) FetchStop) → (contents_of (places_of command) look).end ≡ end → IsToldBy (map_err fetch_fault_for end) given → Reads look given tried
+    at (Ok found) is told = reads_as look (Ok found) given tried told (inl (careful.read look (λ path e. ok_err (sym is ∙ e)), λ path e. absurd cc))
       where
         ok_err : {path : List ℕ} → ◌≡◌ {A = Result (List Content) FetchStop} (Ok found) (Err (fetch.ReadFault path)) → ⊥
         ok_err h = absurd cc
-    at (Err (fetch.ReadFault path)) is = inr (path, refl, careful.names look path is)
-    at (Err (fetch.Missing path)) is = inl (careful.read look (λ other e. apart other (sym is ∙ e)), λ other e. absurd cc)
+    at (Err (fetch.ReadFault path)) is told = inr (path, told, careful.names look path is)
+    at (Err (fetch.Missing path)) is told = reads_as look (Err (stop.Refused (refusal.Missing path))) given tried told (inl (careful.read look (λ other e. apart other (sym is ∙ e)), λ other e. absurd cc))
       where
         apart : (other : List ℕ) → ◌≡◌ {A = Result (List Content) FetchStop} (Err (fetch.Missing path)) (Err (fetch.ReadFault other)) → ⊥
         apart other h = absurd cc
-    at (Err fetch.OutOfMemory) is = inl (careful.read look (λ other e. apart other (sym is ∙ e)), λ other e. absurd cc)
-      where
-        apart : (other : List ℕ) → ◌≡◌ {A = Result (List Content) FetchStop} (Err fetch.OutOfMemory) (Err (fetch.ReadFault other)) → ⊥
-        apart other h = absurd cc
+    at (Err fetch.OutOfMemory) is told = absurd told
 
 bind_reads : (look : List ℕ → File) (command : Command) (stubs : List NamedStub) (old new : List (List ℕ)) (given : Result LibraryGraph Stop) → AreReadable look old → BoundBy look command stubs old given new → Reads look given new
 bind_reads look command stubs old new given read by =
-    reads_more look given old (bound_after command stubs by.count look).tried new read by.tries
-    (subst (λ (r : Result LibraryGraph Stop). Reads look r (bound_after command stubs by.count look).tried) (sym by.told) (at by.bound (bound_after command stubs by.count look).end refl by.is))
+    reads_more look given old (bound_after command stubs by.count look).tried new read by.tries (at by.bound (bound_after command stubs by.count look).end refl by.is by.told)
   where
     careful : IsCareful bind.ReadFault (bound_after command stubs by.count)
     careful = bound_careful command stubs by.count
 
-    at : (bound : Result LibraryGraph BindFault) (end : Result Bound BindFault) → (bound_after command stubs by.count look).end ≡ end → Shows by.count bound end → Reads look (stopped bind_fault_for bound) (bound_after command stubs by.count look).tried
-    at (Ok libs) (Ok bound) is shows = inl (careful.read look (λ path e. ok_err (sym is ∙ e)), λ path e. absurd cc)
+    tried : List (List ℕ)
+    tried = (bound_after command stubs by.count look).tried
+
+    at : (bound : Result LibraryGraph BindFault) (end : Result Bound BindFault) → (bound_after command stubs by.count look).end ≡ end → Shows by.count bound end → IsToldBy (map_err bind_fault_for bound) given → Reads look given tried
+    at (Ok libs) (Ok bound) is shows told = reads_as look (Ok libs) given tried told (inl (careful.read look (λ path e. ok_err (sym is ∙ e)), λ path e. absurd cc))
       where
         ok_err : {path : List ℕ} → ◌≡◌ {A = Result Bound BindFault} (Ok bound) (Err (bind.ReadFault path)) → ⊥
         ok_err h = absurd cc
-    at (Ok libs) (Err why) is shows = absurd shows
-    at (Err why) (Ok bound) is shows = absurd shows
-    at (Err (bind.ReadFault path)) (Err why) is shows = inr (path, refl, careful.names look path (is ∙ ap (λ w. Err w) (sym shows)))
-    at (Err (bind.Refused refused)) (Err why) is shows = inl (careful.read look (λ other e. apart other (shows ∙ same_fault {A = Bound} (sym is ∙ e))), λ other e. absurd cc)
+    at (Ok libs) (Err why) is shows told = absurd shows
+    at (Err why) (Ok bound) is shows told = absurd shows
+    at (Err (bind.ReadFault path)) (Err why) is shows told = inr (path, told, careful.names look path (is ∙ ap (λ w. Err w) (sym shows)))
+    at (Err (bind.Refused refused)) (Err why) is shows told =
+        reads_as look (Err (stop.Refused refused)) given tried told (inl (careful.read look (λ other e. apart other (shows ∙ same_fault {A = Bound} (sym is ∙ e))), λ other e. absurd cc))
       where
         apart : (other : List ℕ) → bind.Refused refused ≡ bind.ReadFault other → ⊥
         apart other h = absurd cc
-    at (Err bind.OutOfMemory) (Err why) is shows = inl (careful.read look (λ other e. apart other (shows ∙ same_fault {A = Bound} (sym is ∙ e))), λ other e. absurd cc)
-      where
-        apart : (other : List ℕ) → bind.OutOfMemory ≡ bind.ReadFault other → ⊥
-        apart other h = absurd cc
+    at (Err bind.OutOfMemory) (Err why) is shows told = absurd told
 
 -- what follows a value whose paths could be read
 reads_on : {A : Type 0} (look : List ℕ → File) (x : A) (tried : List (List ℕ)) (C : Type 0) → Reads {A = A} look (Ok x) tried → (AreReadable look tried → C) → C
 reads_on look x tried C (inl (read, fine)) next = next read
 reads_on look x tried C (inr (path, is, last)) next = absurd cc
 
-misused_fine : (words : List (List ℕ)) (why : Stop) → commanded words ≡ Err why → IsNotUnread why
+-- a stop that a layer below tells
+same_stop : {A : Type 0} {x y : Stop} → ◌≡◌ {A = Result A (StepFault Stop)} (Err (fault.Stop x)) (Err (fault.Stop y)) → x ≡ y
+same_stop e = cc
+
+misused_fine : (words : List (List ℕ)) (why : Stop) → commanded words ≡ Err (fault.Stop why) → IsNotUnread why
 misused_fine words why e = by (command_by linked_rows words) e
   where
-    by : (r : Result Command UsageFault) → told r ≡ Err why → IsNotUnread why
+    by : (r : Result Command UsageFault) → map_err usage_fault_for r ≡ Err (fault.Stop why) → IsNotUnread why
     by (Ok command) e = absurd cc
-    by (Err (usage.At word rule)) e = subst IsNotUnread (same_fault {A = Command} e) tt
-    by (Err usage.OutOfMemory) e = subst IsNotUnread (same_fault {A = Command} e) tt
+    by (Err (usage.At word rule)) e = subst IsNotUnread (same_stop {A = Command} e) tt
+    by (Err usage.OutOfMemory) e = absurd cc
 
 crowded_fine : (command : Command) (why : Stop) → crowd_stop command ≡ Some why → IsNotUnread why
 crowded_fine command why e = by (nat_lt (length command.inputs) (2 ^ 16)) e
@@ -332,10 +342,10 @@ crowded_fine command why e = by (nat_lt (length command.inputs) (2 ^ 16)) e
     by true h = absurd (let s : None ≡ Some why = h in cc)
     by false h = let s : Some (stop.Refused (refusal.Limit Inputs)) ≡ Some why = h in let same : stop.Refused (refusal.Limit Inputs) ≡ why = cc in subst IsNotUnread same tt
 
-round_fine : {A : Type 0} (r : Result A LoadFault) (why : Stop) → stopped load_fault_for r ≡ Err why → IsNotUnread why
+round_fine : {A : Type 0} (r : Result A LoadFault) (why : Stop) → map_err load_fault_for r ≡ Err (fault.Stop why) → IsNotUnread why
 round_fine (Ok x) why e = absurd cc
-round_fine {A = A} (Err (rounds.Refused refused)) why e = subst IsNotUnread (same_fault {A = A} e) tt
-round_fine {A = A} (Err rounds.OutOfMemory) why e = subst IsNotUnread (same_fault {A = A} e) tt
+round_fine {A = A} (Err (rounds.Refused refused)) why e = subst IsNotUnread (same_stop {A = A} e) tt
+round_fine (Err rounds.OutOfMemory) why e = absurd cc
 
 image_fine : (command : Command) (libs : LibraryGraph) (files : List LoadedFile) (why : Stop) → IsImage command libs files (Err why) → IsNotUnread why
 image_fine command libs files (stop.Usage word rule) is = tt
@@ -345,19 +355,19 @@ image_fine command libs files (stop.Refused refused) is = tt
 verdict_reads : (words : List (List ℕ)) (look : List ℕ → File) (given : Result Plan Stop) (tried : List (List ℕ)) → IsVerdictAfter words look given tried → Reads look given tried
 unfolding IsVerdictAfter
 verdict_reads words look given tried is =
-    gives_case (commanded words) _ [] given tried (Reads look given tried) is
+    told_case (commanded words) _ [] given tried (Reads look given tried) is
     (λ why e stop same. reads_quiet look why given [] tried (misused_fine words why e) stop same tt)
     (λ command e first. unless_case (crowd_stop command) _ [] given tried (Reads look given tried) first
     (λ why e stop same. reads_quiet look why given [] tried (crowded_fine command why e) stop same tt)
     (λ e second. asks_case (FetchedBy look command) _ [] given tried (Reads look given tried) second
     (λ why by stop. reads_stop look why given tried stop (fetch_reads look command [] tried (Err why) tt by))
     (λ found middle by third. reads_on look found middle (Reads look given tried) (fetch_reads look command [] middle (Ok found) tt by) (λ there.
-    gives_case (contents_with command found) _ middle given tried (Reads look given tried) third
+    told_case (contents_with command found) _ middle given tried (Reads look given tried) third
     (λ why e stop same. reads_quiet look why given middle tried (round_fine (opened.contents_of (inputs_with command found)) why e) stop same there)
     (λ contents e fourth. asks_case (BoundBy look command contents.stubs) _ middle given tried (Reads look given tried) fourth
     (λ why by stop. reads_stop look why given tried stop (bind_reads look command contents.stubs middle tried (Err why) there by))
     (λ libs later by fifth. reads_on look libs later (Reads look given tried) (bind_reads look command contents.stubs middle later (Ok libs) there by) (λ all.
-    gives_case (files_for command contents.inputs libs) _ later given tried (Reads look given tried) fifth
+    told_case (files_for command contents.inputs libs) _ later given tried (Reads look given tried) fifth
     (λ why e stop same. reads_quiet look why given later tried (round_fine (loaded_of contents.inputs libs (wanted command)) why e) stop same all)
     (λ loaded e sixth. tries_case (IsImage command libs loaded.files) _ later given tried (Reads look given tried) sixth
     (λ why by stop same. reads_quiet look why given later tried (image_fine command libs loaded.files why by) stop same all)

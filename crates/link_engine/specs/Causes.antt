@@ -18,11 +18,13 @@ use Rattle.link_files.specs.Causes.{LinkCause}
 use Rattle.link_files.specs.Names.{wanted}
 use Rattle.link_steps.specs.Asking.{Cause, asked, never, refuses, stands}
 use Rattle.link_steps.specs.Steps.{◌>>=◌, ◌>>◌}
+use Rattle.link_steps.specs.declared.fault.StepFault.TheVariants as fault
 use Rattle.input_files.specs.Files.{all_ids}
 use Rattle.member_rounds.specs.Rounds.{loaded_of, round_fault}
 use Rattle.input_files.specs.declared.fault.LoadFault.TheVariants as rounds
 use Rattle.input_files.specs.declared.input.Input.{Input}
 use Rattle.mo_cmd.specs.Command.{command_by}
+use Rattle.mo_cmd.specs.declared.usage_fault.UsageFault.TheVariants as usage
 use Rattle.command_line.specs.declared.command.Command.{Command}
 use Rattle.mo_types.specs.Scan.{first_some}
 use Rattle.mo_types.specs.declared.answer.Refusal.TheVariants.{Limit, Missing}
@@ -30,17 +32,17 @@ use Rattle.mo_types.specs.declared.cause.Which.TheVariants.{Inputs}
 use Rattle.mo_types.specs.declared.loaded.Loaded.{Loaded}
 use Rattle.mo_types.specs.declared.loaded.LoadedFile.{LoadedFile}
 use Rattle.link_engine.specs.Bound.{BoundBy}
-use Rattle.link_engine.specs.Command.{commanded, linked_rows}
+use Rattle.link_engine.specs.Command.{linked_rows}
 use Rattle.link_engine.specs.Fetched.{FetchedBy}
 use Rattle.link_engine.specs.Input.{inputs_with}
-use Rattle.link_engine.specs.Stop.{bind_fault_for, stop_in}
+use Rattle.link_engine.specs.Stop.{bind_fault_for}
 use Rattle.link_engine.specs.Verdict.{IsImage}
 use Rattle.link_engine.specs.declared.stop.Stop.{Stop}
 use Rattle.link_engine.specs.declared.stop.Stop.TheVariants.{ReadFault, Refused, Usage}
 
 -- the words aren't a command: the least word that has a fault has this one
 abbrev pub IsMisused : List (List ℕ) → Stop → Type 0
-IsMisused words (Usage word rule) = commanded words ≡ Err (Usage word rule)
+IsMisused words (Usage word rule) = command_by linked_rows words ≡ Err (usage.At word rule)
 IsMisused words _ = ⊥
 
 -- they are this command
@@ -81,7 +83,7 @@ pub record IsUnbound (look : List ℕ → File) (command : Command) (stubs : Lis
   pub count : ℕ
   pub end : BindFault
   pub ends : (bound_after command stubs count look).end ≡ Err end
-  pub is : why ≡ stop_in (bind_fault_for end)
+  pub is : bind_fault_for end ≡ fault.Stop why
   pub tries : new ≡ old ++ (bound_after command stubs count look).tried
 
 -- the libraries are these, after these paths

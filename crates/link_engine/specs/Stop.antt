@@ -1,5 +1,4 @@
 -- Why the words and the files have no image, and the answer that tells it.
-use Rattle.std.specs.Prelude.{[], Result, Ok, Err}
 use Rattle.input_fetch.specs.declared.stop.FetchStop.{FetchStop}
 use Rattle.input_fetch.specs.declared.stop.FetchStop.TheVariants as fetch
 use Rattle.lib_bind.specs.declared.bind_fault.BindFault.{BindFault}
@@ -8,11 +7,12 @@ use Rattle.link_steps.specs.declared.fault.StepFault.{StepFault}
 use Rattle.link_steps.specs.declared.fault.StepFault.TheVariants as fault
 use Rattle.input_files.specs.declared.fault.LoadFault.{LoadFault}
 use Rattle.input_files.specs.declared.fault.LoadFault.TheVariants as rounds
+use Rattle.mo_cmd.specs.declared.usage_fault.UsageFault.{UsageFault}
+use Rattle.mo_cmd.specs.declared.usage_fault.UsageFault.TheVariants as usage
 use Rattle.mo_types.specs.declared.answer.Refusal.{Refusal}
 use Rattle.mo_types.specs.declared.answer.Refusal.TheVariants as refusal
 use Rattle.mo_types.specs.declared.answer.Status.{Status}
 use Rattle.mo_types.specs.declared.answer.Status.TheVariants as answer
-use Rattle.mo_types.specs.declared.cause.Rule.TheVariants.{NotAnInput}
 use Rattle.link_engine.specs.declared.stop.Stop.{Stop}
 use Rattle.link_engine.specs.declared.stop.Stop.TheVariants.{Usage, ReadFault, Refused}
 
@@ -28,6 +28,11 @@ status_for (fault.Stop why) = status_of why
 status_for fault.OutOfMemory = answer.OutOfMemory
 
 -- ---- the faults of the layers below as the link's
+
+-- of words that aren't a command
+abbrev pub usage_fault_for : UsageFault → StepFault Stop
+usage_fault_for (usage.At word rule) = fault.Stop (Usage word rule)
+usage_fault_for usage.OutOfMemory = fault.OutOfMemory
 
 -- of inputs that aren't fetched
 abbrev pub fetch_fault_for : FetchStop → StepFault Stop
@@ -50,13 +55,3 @@ bind_fault_for bind.OutOfMemory = fault.OutOfMemory
 abbrev pub refused_for : StepFault Refusal → StepFault Stop
 refused_for (fault.Stop why) = fault.Stop (Refused why)
 refused_for fault.OutOfMemory = fault.OutOfMemory
-
--- The stop that a fault tells. No definition lacks memory: that row only makes the table whole.
-abbrev pub stop_in : StepFault Stop → Stop
-stop_in (fault.Stop why) = why
-stop_in fault.OutOfMemory = Refused (refusal.Malformed [] 0 NotAnInput)
-
--- an answer of a layer below, with its fault as the link's stop
-abbrev pub stopped : {A E : Type 0} → (E → StepFault Stop) → Result A E → Result A Stop
-stopped fault (Ok x) = Ok x
-stopped fault (Err why) = Err (stop_in (fault why))

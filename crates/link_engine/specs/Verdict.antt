@@ -7,8 +7,9 @@ use Rattle.input_read.specs.Opened as opened
 use Rattle.lib_bind.specs.declared.library.LibraryGraph.{LibraryGraph}
 use Rattle.link_files.specs.Linked.{IsLinked}
 use Rattle.link_files.specs.Names.{wanted}
-use Rattle.link_steps.specs.Asking.{Reply, asks, gives, last, tries, unless}
-use Rattle.link_steps.specs.Steps.{Answer, ◌>>=◌, ◌>>◌}
+use Rattle.link_steps.specs.Asking.{Reply, asks, last, tries, unless}
+use Rattle.link_steps.specs.Steps.{Answer, IsToldBy, map_err, ◌>>=◌, ◌>>◌}
+use Rattle.link_steps.specs.declared.fault.StepFault.{StepFault}
 use Rattle.member_rounds.specs.Rounds.{loaded_of}
 use Rattle.input_files.specs.declared.input.Input.{Input}
 use Rattle.command_line.specs.declared.command.Command.{Command}
@@ -21,17 +22,17 @@ use Rattle.link_engine.specs.Bound.{BoundBy}
 use Rattle.link_engine.specs.Command.{commanded, crowd_stop}
 use Rattle.link_engine.specs.Fetched.{FetchedBy}
 use Rattle.link_engine.specs.Input.{inputs_with}
-use Rattle.link_engine.specs.Stop.{load_fault_for, stopped}
+use Rattle.link_engine.specs.Stop.{load_fault_for}
 
 -- ---- the steps
 
 -- what the inputs are, or the refusal of the first that has one
-abbrev pub contents_with : Command → List Content → Result Contents Stop
-contents_with command found = stopped load_fault_for (opened.contents_of (inputs_with command found))
+abbrev pub contents_with : Command → List Content → Result Contents (StepFault Stop)
+contents_with command found = map_err load_fault_for (opened.contents_of (inputs_with command found))
 
 -- the files that are loaded round by round
-abbrev pub files_for : Command → List Input → LibraryGraph → Result Loaded Stop
-files_for command inputs libs = stopped load_fault_for (loaded_of inputs libs (wanted command))
+abbrev pub files_for : Command → List Input → LibraryGraph → Result Loaded (StepFault Stop)
+files_for command inputs libs = map_err load_fault_for (loaded_of inputs libs (wanted command))
 
 -- the image to which they link, or its refusal
 abbrev pub IsImage : Command → LibraryGraph → List LoadedFile → Answer Stop (List ℕ)
@@ -49,12 +50,12 @@ plan_of command image = record { files = (command.output, image) ∷ []; line = 
 -- those before.
 abbrev pub plan_by : (List ℕ → File) → List (List ℕ) → Reply (List (List ℕ)) Stop Plan
 plan_by look words = do
-  command ← gives (commanded words)
+  command ← tries (IsToldBy (commanded words))
   unless (crowd_stop command)
   found ← asks (FetchedBy look command)
-  contents ← gives (contents_with command found)
+  contents ← tries (IsToldBy (contents_with command found))
   libs ← asks (BoundBy look command contents.stubs)
-  loaded ← gives (files_for command contents.inputs libs)
+  loaded ← tries (IsToldBy (files_for command contents.inputs libs))
   image ← tries (IsImage command libs loaded.files)
   last (Ok (plan_of command image))
 

@@ -1,7 +1,7 @@
 //! The files that a link loads, and the image to which they link.
 ghost use Rattle.std.specs.Prelude.{All, IfOk};
 ghost use Rattle.link_engine.specs.Verdict.{IsImage, files_for};
-ghost use Rattle.link_steps.specs.Steps.{Meets, Yields};
+ghost use Rattle.link_steps.specs.Steps.{Meets, Returns};
 ghost use Rattle.input_files.specs.Files.{HasLowAtoms};
 ghost use Rattle.mo_types.specs.Loaded.{IsWholeLoaded};
 
@@ -27,7 +27,7 @@ pub fn load_rounds<R: Threads + Sync, G: Gate + Sync>(
     inputs: Inputs,
     libs: &Libraries,
 ) -> Result<Loaded, StepFault<Stop>>
-    ensures exact { Yields (files_for command.now inputs.inputs libs.now) result }
+    ensures exact { Returns (files_for command.now inputs.inputs libs.now) result }
     ensures whole { IfOk result IsWholeLoaded }
     ensures low { IfOk result (λ loaded. All HasLowAtoms loaded.files) }
 {

@@ -6,7 +6,7 @@ ghost use Rattle.link_engine.specs.Asks.{FetchesInputs};
 ghost use Rattle.link_engine.specs.Input as spec;
 ghost use Rattle.link_engine.specs.Read.{contents_as};
 ghost use Rattle.link_engine.specs.Verdict.{contents_with};
-ghost use Rattle.link_steps.specs.Steps.{Shows};
+ghost use Rattle.link_steps.specs.Steps.{ReturnsAs};
 ghost use Rattle.input_files.specs.Sources.{AreInOrder};
 
 use crate::stop::{Stop, fetch_fault, load_fault};
@@ -85,7 +85,7 @@ pub fn read<R: Threads + Sync, G: Gate + Sync>(
 ) -> Result<(Inputs, StubFileList), StepFault<Stop>>
     requires size { length found ≡ length command.now.inputs }
     requires few { length command.now.inputs < 2 ^ 16 }
-    ensures exact { Shows contents_as (contents_with command.now found) result }
+    ensures exact { ReturnsAs contents_as (contents_with command.now found) result }
     ensures named { IfOk result (λ read. are_named (length command.now.inputs) 0 read.1 ≡ true) }
 {
     let inputs = inputs_with(alloc, command, found.as_slice())?;

@@ -23,14 +23,15 @@
 ghost use Rattle.std.specs.Prelude.{◌≡◌, ◌≢◌, ◌≤◌, [], ℕ, List, IfSome};
 ghost use Rattle.file_cache.specs.Kept.{seen};
 ghost use Rattle.file_cache.specs.Runs.{file_in};
+ghost use Rattle.mo_cmd.specs.Command.{command_by};
+ghost use Rattle.mo_cmd.specs.declared.usage_fault.UsageFault.TheVariants.{At};
 ghost use Rattle.mo_outside.specs.Faults.{Rises};
 ghost use Rattle.mo_types.specs.declared.answer.Status.TheVariants.{OutOfMemory, ReadFault, Usage, WriteFault};
 ghost use Rattle.mo_types.specs.declared.cause.UsageRule.{UsageRule};
 ghost use Rattle.link_engine.specs.Answered.{Answered};
-ghost use Rattle.link_engine.specs.Command.{command_of};
+ghost use Rattle.link_engine.specs.Command.{linked_rows};
 ghost use Rattle.link_engine.specs.Kept.{IsReadWell};
 ghost use Rattle.link_engine.specs.Settles.{ExactlyWhere, Settles, output_seen};
-ghost use Rattle.link_engine.specs.declared.stop.Stop.TheVariants as stop;
 ghost use Rattle.link_engine.specs.Verdict.{IsVerdict};
 
 mod bind;
@@ -83,7 +84,7 @@ pub fn link<R: Threads + Sync, F: Files, O: Out, D: Diag, G: Gate + Sync>(
     ensures told { IfSome (F.holds files.old) (λ held. IsReadWell result → Settles (IsVerdict words.now (file_in held)) result
         (output_seen O.files O.calls O.faults D.lines D.faults out.old diag.old) (output_seen O.files O.calls O.faults D.lines D.faults out.new diag.new)) }
     ensures usage { (word : ℕ) (rule : UsageRule)
-        → ExactlyWhere (command_of words.now ≡ Err (stop.Usage word rule)) (Usage word rule) result }
+        → ExactlyWhere (command_by linked_rows words.now ≡ Err (At word rule)) (Usage word rule) result }
 
     // The faults.
     ensures read_fault { (path : List ℕ) → result ≡ ReadFault path → Rises (F.faults files.old) (F.faults files.new) }

@@ -1,7 +1,7 @@
 //! The command line of the words.
 ghost use Rattle.std.specs.Prelude.{◌≡◌, ◌<◌, ◌^◌, length, IfOk};
 ghost use Rattle.link_engine.specs.Command.{command_of_line, commanded, crowd_stop, linked_rows};
-ghost use Rattle.link_steps.specs.Steps.{Finds, Shows};
+ghost use Rattle.link_steps.specs.Steps.{Finds, ReturnsAs};
 ghost use Rattle.mo_cmd.specs.Command.{workers_by};
 
 use crate::stop::Stop;
@@ -19,7 +19,7 @@ const INPUTS: usize = 1 << 16;
 
 /// The command of the words of a command line after the program's name, and how many workers they name.
 pub fn line_of(alloc: Global, words: &ArgList) -> Result<CommandLine, StepFault<Stop>>
-    ensures command { Shows command_of_line (commanded words.now) result }
+    ensures command { ReturnsAs command_of_line (commanded words.now) result }
     ensures workers { IfOk result (λ line. line.threads ≡ workers_by linked_rows words.now) }
 {
     match read_words(alloc, LINKED, words) {
