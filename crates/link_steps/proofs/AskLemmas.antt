@@ -49,14 +49,6 @@ last_case answer old given new C is ends = ends is.0 is.1
 
 -- ---- what such a step may answer
 
-pub gives_on : {W S A B : Type 0} (r : Result A S) (P : A → Reply W S B) (x : A) (old : W) (given : Result B S) (new : W) → r ≡ Ok x → P x old given new → gives r P old given new
-unfolding gives
-gives_on r P x old given new e follows = rw e follows
-
-pub gives_ends : {W S A B : Type 0} (r : Result A S) (P : A → Reply W S B) (why : S) (old : W) (given : Result B S) (new : W) → r ≡ Err why → given ≡ Err why → new ≡ old → gives r P old given new
-unfolding gives
-gives_ends r P why old given new e stop same = rw e (stop, same)
-
 pub unless_on : {W S B : Type 0} (r : Option S) (P : Reply W S B) (old : W) (given : Result B S) (new : W) → r ≡ None → P old given new → unless r P old given new
 unfolding unless
 unless_on r P old given new e follows = rw e follows
@@ -101,29 +93,6 @@ same_value e = cc
 
 no_stop : {S A : Type 0} {why : S} {x : A} → ◌≡◌ {A = Result A S} (Err why) (Ok x) → ⊥
 no_stop e = absurd cc
-
-pub gives_law : {W S A B : Type 0} {r : Result A S} (P : A → Reply W S B) {C : S → Type 0} {Gave : A → Type 0} (D : A → Cause W S) → ((why : S) → (r ≡ Err why) ↔ C why) → ((x : A) → (r ≡ Ok x) ↔ Gave x)
-    → ((x : A) → r ≡ Ok x → IsLawful (P x) (D x)) → IsLawful (gives r P) (stands C Gave D)
-gives_law {W = W} {S = S} {A = A} {B = B} {r = r} P {C = C} {Gave = Gave} D ends goes next = record {
-  one = λ a b old new older newer p q.
-      gives_case r P old a new (a ≡ b) p
-      (λ why e stop same. gives_case r P older b newer (a ≡ b) q
-      (λ other f also still. stop ∙ ap Err (same_stop (sym e ∙ f)) ∙ sym also)
-      (λ x f follows. absurd (no_stop (sym e ∙ f))))
-      (λ x e follows. gives_case r P older b newer (a ≡ b) q
-      (λ other f also still. absurd (no_stop (sym f ∙ e)))
-      (λ y f more. (next x e).one a b old new older newer follows (subst (λ (z : A). P z older b newer) (same_value (sym f ∙ e)) more)));
-  stops = λ old why new. (
-    λ p. gives_case r P old (Err why) new (stands C Gave D old why new) p
-        (λ other e stop same. inl ((ends why).0 (e ∙ ap Err (sym (same_stop stop))), same))
-        (λ x e follows. inr (x, (goes x).0 e, ((next x e).stops old why new).0 follows)),
-    λ d. from old why new d,
-  );
-}
-  where
-    from : (old : W) (why : S) (new : W) → stands C Gave D old why new → gives r P old (Err why) new
-    from old why new (inl c) = gives_ends r P why old (Err why) new ((ends why).1 c.0) refl c.1
-    from old why new (inr d) = let e : r ≡ Ok d.0 = (goes d.0).1 d.1 in gives_on r P d.0 old (Err why) new e (((next d.0 e).stops old why new).1 d.2)
 
 pub unless_law : {W S B : Type 0} {r : Option S} (P : Reply W S B) {C : S → Type 0} (D : Cause W S) → ((why : S) → (r ≡ Some why) ↔ C why) → (r ≡ None → IsLawful P D) → IsLawful (unless r P) (refuses C D)
 unless_law {W = W} {S = S} {B = B} {r = r} P {C = C} D ends next = record {
@@ -235,11 +204,6 @@ last_law {W = W} {S = S} {B = B} x = record {
 
 -- ---- there is an answer
 
-pub gives_some : {W S A B : Type 0} (r : Result A S) (P : A → Reply W S B) → ((x : A) → r ≡ Ok x → IsSome (P x)) → IsSome (gives r P)
-unfolding gives
-gives_some (Ok x) P next old = next x refl old
-gives_some (Err why) P next old = (Err why, old, (refl, refl))
-
 pub unless_some : {W S B : Type 0} (r : Option S) (P : Reply W S B) → (r ≡ None → IsSome P) → IsSome (unless r P)
 unfolding unless
 unless_some (Some why) P next old = (Err why, old, (refl, refl))
@@ -285,12 +249,6 @@ ends {S = S} {B = B} may end old returned new passes is =
 on_stop : {S : Type 0} (end : StepFault S) (P Q : S → Type 0) → ((why : S) → P why → Q why) → OnStop end P → OnStop end Q
 on_stop (fault.Stop why) P Q on p = on why p
 on_stop fault.OutOfMemory P Q on p = tt
-
-pub gives_goes : {W S A B : Type 0} (r : Result A S) (P : A → Reply W S B) (x : A) (old : W) (returned : Result B (StepFault S)) (new : W) → r ≡ Ok x → Acts (P x) old returned new → Acts (gives r P) old returned new
-gives_goes r P x old returned new e acts = leads (P x) (gives r P) old old returned new (λ given p. gives_on r P x old given new e p) acts
-
-pub gives_stops : {W S A B : Type 0} (r : Result A S) (P : A → Reply W S B) (end : StepFault S) (old : W) (returned : Result B (StepFault S)) → OnStop end (λ why. r ≡ Err why) → IsErrAnd returned (λ passed. passed ≡ end) → Acts (gives r P) old returned old
-gives_stops r P end old returned is passes = ends (gives r P) end old returned old passes (on_stop end (λ why. r ≡ Err why) (λ why. gives r P old (Err why) old) (λ why e. gives_ends r P why old (Err why) old e refl refl) is)
 
 pub unless_goes : {W S B : Type 0} (r : Option S) (P : Reply W S B) (old : W) (returned : Result B (StepFault S)) (new : W) → r ≡ None → Acts P old returned new → Acts (unless r P) old returned new
 unless_goes r P old returned new e acts = leads P (unless r P) old old returned new (λ given p. unless_on r P old given new e p) acts
