@@ -30,7 +30,8 @@ pub record Answered {S : Type 0} (fetches : S → List ℕ → Answer → S → 
     (settled : (Result Plan Stop → Type 0) → Type 0) (old new : FilesSeen S) : Type 0 where
   pub told : List Exchange
   pub files : FilesTold fetches told old new
-  pub all : ends → (look : List ℕ → File) → Gave look told → (given : Result Plan Stop) × (tried : List (List ℕ)) × IsVerdictAfter words look given tried × (paths_in told ≡ fresh [] tried)
+  pub all : ends → (look : List ℕ → File) → Gave look told
+      → (given : Result Plan Stop) × (tried : List (List ℕ)) × IsVerdictAfter words look given tried × (paths_in told ≡ fresh [] tried)
   pub some : (look : List ℕ → File) → Gave look told → (given : Result Plan Stop) (tried : List (List ℕ)) → IsVerdictAfter words look given tried
       → (count : ℕ) × (paths_in told ≡ fresh [] (take count tried))
   pub settles : (look : List ℕ → File) → Gave look told → settled (IsVerdict words look)

@@ -55,7 +55,8 @@ pub record ArePartCalls (file : List ℕ × List ℕ) (calls : List OutCall) : T
 
 abbrev pub AreFilesCalls : List (List ℕ × List ℕ) → List OutCall → Type 0
 AreFilesCalls [] calls = calls ≡ []
-AreFilesCalls (file ∷ files) calls = (first : List OutCall) × (rest : List OutCall) × AreFileCalls file first × AreFilesCalls files rest × (calls ≡ first ++ rest)
+AreFilesCalls (file ∷ files) calls =
+    (first : List OutCall) × (rest : List OutCall) × AreFileCalls file first × AreFilesCalls files rest × (calls ≡ first ++ rest)
 
 -- the calls that were made are those of a kind
 pub record Hands (are : List OutCall → Type 0) (old new : List OutCall) : Type 0 where
