@@ -4,6 +4,7 @@ pub mod KeptLemmas
 pub mod KeptListLemmas
 pub mod ListLemmas
 pub mod ListedLemmas
+pub mod LowLemmas
 pub mod OrderLemmas
 pub mod ToldLemmas
 pub mod ExistLemmas

@@ -1,5 +1,5 @@
 -- Where the places stand to which references lead.
-use Rattle.std.specs.Prelude.{ℕ, ◌+◌, List}
+use Rattle.std.specs.Prelude.{ℕ, ◌≡◌, ◌+◌, ◌<◌, ◌^◌, List, Some}
 use Rattle.std.specs.Option.{option_map_or}
 use Rattle.mo_types.specs.declared.goal.Goal.{Goal}
 use Rattle.mo_types.specs.declared.goal.Goal.TheVariants.{Def, WeakSelf, Header}
@@ -9,6 +9,10 @@ use Rattle.resolve.specs.Goals.{target_goal}
 use Rattle.literal_merge.specs.declared.representative.Representative.{Representative}
 use Rattle.sect_place.specs.Addresses.{address_in}
 use Rattle.sect_place.specs.declared.layout.Placed.{Placed}
+
+-- each atom stands below 2^33
+abbrev pub AreLowPlaces : List Placed → Type 0
+AreLowPlaces placed = (atom : AtomKey) (address : ℕ) → address_in placed atom ≡ Some address → address < 2 ^ 33
 
 -- a place in an atom
 abbrev pub place_address : List Placed → AtomKey → ℕ → ℕ

@@ -5,5 +5,6 @@ pub mod Atoms
 pub mod AtomReferences
 pub mod Inputs
 pub mod Mets
+pub mod Near
 pub mod Rows
 pub mod Whole

@@ -1,9 +1,11 @@
 //! Where the places stand to which references lead.
-ghost use Rattle.std.specs.Prelude.{◌≡◌, ◌+◌, [], ℕ, IfOk, map};
+ghost use Rattle.std.specs.Prelude.{◌≡◌, ◌+◌, [], ℕ, All, IfOk, map};
 ghost use Rattle.std.specs.Option.{option_map_or};
 ghost use Rattle.resolve.specs.Table.{AreWithin};
 ghost use Rattle.mo_types.specs.declared.reference.Target.TheVariants as target;
 ghost use Rattle.image_make.specs.Addresses as spec;
+ghost use Rattle.image_make.specs.Addresses.{AreLowPlaces};
+ghost use Rattle.image_make.specs.Near.{IsNear, IsNearTarget};
 ghost use Rattle.image_make.specs.inner.Told.{AreTold, goal_told, goals_there, scene_of, target_told, told};
 ghost use Rattle.sect_place.specs.Addresses.{AreOnce, address_in};
 
@@ -14,14 +16,15 @@ use std::alloc::Global;
 use symbol_winners::SymbolTable;
 
 /// What references are met with: what stands for each literal, where the atoms stand, where the image begins, and the
-/// goals of symbols with the address of each goal of their pool, where it has 64 bits.
+/// goals of symbols with the address of each goal of their pool. The pool may have goals to which no symbol leads, and
+/// which lie anywhere: these have their address modulo 2^64.
 #[derive(Clone, Copy)]
 pub(crate) struct Addressing<'a> {
     pub symbols: &'a SymbolTable<'a>,
     pub layout: &'a Layout,
     pub base: u64,
     pub goals: &'a GoalTable,
-    pub addresses: &'a [Option<u64>],
+    pub addresses: &'a [u64],
 }
 
 // The address of an atom.
@@ -40,53 +43,50 @@ pub(crate) fn address_beside(layout: &Layout, near: usize, atom: AtomKey) -> Opt
     address_near(layout, near, atom)
 }
 
-// The address of a place in an atom, or `None` exactly where it is 2^64 or more.
-#[tactic(auto, using(crate::proofs::ToldLemmas::tells))]
-fn place_address(layout: &Layout, atom: AtomKey, offset: u64) -> Option<u64>
+// The address of a place in an atom, modulo 2^64.
+fn place_address(layout: &Layout, atom: AtomKey, offset: u64) -> u64
     requires { AreOnce layout.now.placed }
     ensures { result ≡ told (spec.place_address layout.now.placed atom offset) }
 {
     match address_of(layout, atom) {
-        Some(at) => at.checked_add(offset),
-        None => Some(0),
+        Some(at) => at.wrapping_add(offset),
+        None => 0,
     }
 }
 
-// The address of a goal, or `None` exactly where it is 2^64 or more.
+// The address of a goal, modulo 2^64.
 #[tactic(auto, using(crate::proofs::ToldLemmas::tells), unfolding(crate::specs::inner::Told::goal_told))]
-fn told_address(layout: &Layout, base: u64, goal: &Goal) -> Option<u64>
+fn told_address(layout: &Layout, base: u64, goal: &Goal) -> u64
     requires { AreOnce layout.now.placed }
     ensures { result ≡ goal_told base layout.now.placed goal.now }
 {
     match goal {
         Goal::Def(atom, offset) => place_address(layout, *atom, *offset),
         Goal::WeakSelf(_, atom, offset) => place_address(layout, *atom, *offset),
-        Goal::Header => Some(base),
-        Goal::Import { .. } | Goal::Flat(_) | Goal::Nobody => Some(0),
+        Goal::Header => base,
+        Goal::Import { .. } | Goal::Flat(_) | Goal::Nobody => 0,
     }
 }
 
-/// The address of a goal that stands in the image, which begins at `base`; 0 for one that doesn't. An address of 2^64 or
-/// more is answered as want of memory.
-#[tactic(auto, using(crate::proofs::ToldLemmas::tells), unfolding(crate::specs::inner::Told::goal_told))]
-pub fn goal_address(layout: &Layout, base: u64, goal: &Goal) -> Result<u64, OutOfMemory>
-    requires { AreOnce layout.now.placed }
-    ensures { IfOk result (λ place. place ≡ spec.goal_address base layout.now.placed goal.now) }
+/// The address of a goal that stands in the image, which begins at `base`; 0 for one that doesn't. Atoms are to stand
+/// below 2^33, and a goal within 2^63 bytes of the start of its atom, so that its address has 64 bits.
+pub fn goal_address(layout: &Layout, base: u64, goal: &Goal) -> u64
+    requires once { AreOnce layout.now.placed }
+    requires low { AreLowPlaces layout.now.placed }
+    requires near { IsNear goal.now }
+    ensures { result ≡ spec.goal_address base layout.now.placed goal.now }
 {
-    match told_address(layout, base, goal) {
-        Some(place) => Ok(place),
-        None => Err(OutOfMemory),
-    }
+    told_address(layout, base, goal)
 }
 
-/// The addresses of goals, as far as they have 64 bits.
+/// The addresses of goals, modulo 2^64.
 #[tactic(auto, using(crate::proofs::ToldLemmas::told_all))]
 pub(crate) fn addresses_of(
     alloc: Global,
     layout: &Layout,
     base: u64,
     goals: &[Goal],
-) -> Result<Vec<Option<u64>>, OutOfMemory>
+) -> Result<Vec<u64>, OutOfMemory>
     requires { AreOnce layout.now.placed }
     ensures { IfOk result (λ addresses. addresses.items ≡ map (goal_told base layout.now.placed) goals.now) }
 {
@@ -97,22 +97,23 @@ pub(crate) fn addresses_of(
     Ok(addresses)
 }
 
-// The address to which the symbol of an index leads, by the places that its file's symbols have in the pool of goals.
+// The address to which the symbol of an index leads, by the places that its file's symbols have in the pool of goals,
+// modulo 2^64.
 #[tactic(auto, using(crate::proofs::ToldLemmas::named))]
-fn name_address(setting: &Addressing, places: &[u32], index: u32) -> Option<u64>
+fn name_address(setting: &Addressing, places: &[u32], index: u32) -> u64
     requires told { AreTold setting.now }
     requires within { AreWithin setting.now.goals.now.pool places.now }
     ensures { result ≡ target_told setting.now places.now (target.Name index) }
 {
     match places.get(index as usize) {
         Some(place) => setting.addresses[*place as usize],
-        None => Some(0),
+        None => 0,
     }
 }
 
-// The address to which a target leads, where it has 64 bits.
+// The address to which a target leads, modulo 2^64.
 #[tactic(auto, unfolding(crate::specs::inner::Told::goal_told))]
-fn told_target(setting: &Addressing, places: &[u32], target: &Target) -> Option<u64>
+fn told_target(setting: &Addressing, places: &[u32], target: &Target) -> u64
     requires once { AreOnce setting.now.layout.now.placed }
     requires told { AreTold setting.now }
     requires within { AreWithin setting.now.goals.now.pool places.now }
@@ -126,21 +127,17 @@ fn told_target(setting: &Addressing, places: &[u32], target: &Target) -> Option<
     }
 }
 
-/// The address to which a target leads, by the places that its file's symbols have in the pool of goals. One of 2^64 or
-/// more is answered as want of memory.
-#[tactic(auto, using(crate::proofs::ToldLemmas::tells), unfolding(crate::specs::Addresses::target_address, crate::specs::inner::Told::goal_told))]
-pub(crate) fn target_address(
-    setting: &Addressing,
-    places: &[u32],
-    target: &Target,
-) -> Result<u64, OutOfMemory>
+/// The address to which a target leads, by the places that its file's symbols have in the pool of goals.
+pub(crate) fn target_address(setting: &Addressing, places: &[u32], target: &Target) -> u64
     requires once { AreOnce setting.now.layout.now.placed }
+    requires low { AreLowPlaces setting.now.layout.now.placed }
     requires told { AreTold setting.now }
     requires within { AreWithin setting.now.goals.now.pool places.now }
-    ensures { IfOk result (λ place. place ≡ spec.target_address (scene_of setting.now) (goals_there setting.now places.now) target.now) }
+    requires goals { All IsNear (goals_there setting.now places.now) }
+    requires near { IsNearTarget target.now }
+    ensures { result ≡ spec.target_address (scene_of setting.now) (goals_there setting.now places.now) target.now }
 {
-    match told_target(setting, places, target) {
-        Some(place) => Ok(place),
-        None => Err(OutOfMemory),
-    }
+    // read so that it is known to have 64 bits
+    let _base = setting.base;
+    told_target(setting, places, target)
 }

@@ -1,6 +1,8 @@
 //! The header of an image with its load commands.
 ghost use Rattle.std.specs.Prelude.{◌≡◌, IfOk};
 ghost use Rattle.sect_place.specs.Addresses.{AreOnce};
+ghost use Rattle.image_make.specs.Addresses.{AreLowPlaces};
+ghost use Rattle.image_make.specs.Near.{IsNear};
 ghost use Rattle.load_cmds.specs.Commands.{commands_of};
 ghost use Rattle.sect_place.specs.Layout.{base_of};
 ghost use Rattle.sect_place.specs.Whole.{IsWholeLayout};
@@ -55,11 +57,13 @@ pub(crate) fn front_of(
 ) -> Result<Bytes, OutOfMemory>
     requires whole { IsWholeLayout layout.now }
     requires once { AreOnce layout.now.placed }
+    requires low { AreLowPlaces layout.now.placed }
+    requires near { IsNear entry.now }
     ensures { IfOk result (λ front. front
         ≡ commands_of layout.now (spec.parts_of flags (spec.offset_of command.now layout.now entry.now)) command.now libs.now) }
 {
     let base = base_of(command);
-    let start = goal_address(layout, base, entry)?;
+    let start = goal_address(layout, base, entry);
     let parts = parts_of(flags, start.saturating_sub(base));
     commands(alloc, layout, &parts, command, libs)
 }

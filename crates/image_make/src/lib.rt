@@ -5,12 +5,14 @@
 //! the header with the load commands, and each atom with bytes at its place with the fields of its references. It is
 //! written by as many workers as the command says, in one allocation. A `MakeFault` is that what stands before
 //! `__LINKEDIT` is too large, that a value doesn't fit its field, the first one of the atom with the least key, or
-//! want of memory. Kept atoms are to rise by their keys, files are to be whole, and alignments at most 2^14.
+//! want of memory. Kept atoms are to rise by their keys, files are to be whole, alignments at most 2^14, and what
+//! references lead to within 2^63 bytes of the start of its atom (`specs/Near.antt`).
 //!
 //! `kept_atoms` answers the atoms whose keys are kept, file by file, a literal with the greatest alignment of those
 //! for which it stands (`specs/Atoms.antt`). `work_of` answers those with bytes in the file, in the order of the
 //! image, with their places (`specs/Rows.antt`). `AtomReferences` says what their references mean (`specs/Mets.antt`),
-//! and `goal_address` where one goal stands (`specs/Addresses.antt`). A place of 2^64 or more is want of memory.
+//! and `goal_address` where one goal stands (`specs/Addresses.antt`). These are to be near, so that no address has more
+//! than 64 bits.
 //!
 //! The module `laying` makes the layout, `front` the header, and `filling` puts the atoms into a blank image; `making`
 //! is the line of these three. The laws say that whole files have an image or a fault (`an_image_or_a_fault_exists`),

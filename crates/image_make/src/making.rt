@@ -5,6 +5,7 @@ ghost use Rattle.image_make.specs.Inputs.{inputs_of};
 ghost use Rattle.mo_types.specs.Keys.{compare_keys};
 ghost use Rattle.mo_types.specs.Loaded.{IsWholeLoaded};
 ghost use Rattle.image_make.specs.Made.{IsMade, kept_of};
+ghost use Rattle.image_make.specs.Near.{AreNear};
 
 use crate::fault::MakeFault;
 use crate::filling::{blank_image, fill_image};
@@ -46,7 +47,8 @@ pub struct ImageInputs<'a> {
 
 /// The image of the atoms that are kept: its header with the load commands, and each atom at its place, with the fields of
 /// its references, written by so many workers; or why there is none. Everything stands in one
-/// allocation, in which each byte of an object is written once.
+/// allocation, in which each byte of an object is written once. The entry and what references lead to are to lie within
+/// 2^63 bytes of the start of their atoms: these stand below 2^33 in an image, so that each address has 64 bits.
 pub fn make_image<R: Threads + Sync, G: Gate + Sync>(
     rt: &R,
     alloc: Global,
@@ -58,6 +60,7 @@ pub fn make_image<R: Threads + Sync, G: Gate + Sync>(
     requires keys { IsStrictlySortedBy compare_keys inputs.now.keys.now }
     requires rising { AreRising (kept_of (inputs_of inputs.now)) }
     requires low { AreLow (kept_of (inputs_of inputs.now)) }
+    requires near { AreNear (inputs_of inputs.now) }
     ensures { IsMade (inputs_of inputs.now) result }
 {
     let kept = kept_atoms(alloc, inputs.loaded, inputs.symbols, inputs.keys)?;

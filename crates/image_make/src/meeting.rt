@@ -1,8 +1,10 @@
 //! What the references of an image's atoms mean in it.
-ghost use Rattle.std.specs.Prelude.{◌≡◌, ◌++◌, IfOk, OnOk};
+ghost use Rattle.std.specs.Prelude.{◌≡◌, ◌++◌, All, IfOk, OnOk};
 ghost use Rattle.resolve.specs.Table.{goals_of};
 ghost use Rattle.sect_place.specs.Addresses.{AreOnce};
+ghost use Rattle.image_make.specs.Addresses.{AreLowPlaces};
 ghost use Rattle.image_make.specs.AtomReferences.{IsReady, met_by};
+ghost use Rattle.image_make.specs.Near.{HaveNearEnds, IsNear};
 ghost use Rattle.image_make.specs.Rows.{kept_mets};
 ghost use Rattle.image_make.specs.inner.Orders.{AreOrders};
 ghost use Rattle.image_make.specs.inner.Told.{AreTold, scene_of};
@@ -28,7 +30,7 @@ pub struct AtomReferences<'a> {
     layout: &'a Layout,
     base: u64,
     goals: &'a GoalTable,
-    addresses: Vec<Option<u64>>,
+    addresses: Vec<u64>,
 }
 
 // Puts the references of an atom behind others.
@@ -41,7 +43,10 @@ fn add_kept_mets(
     item: &PlacedWork,
 ) -> Result<(), OutOfMemory>
     requires once { AreOnce setting.now.layout.now.placed }
+    requires low { AreLowPlaces setting.now.layout.now.placed }
     requires told { AreTold setting.now }
+    requires goals { All (All IsNear) (goals_of setting.now.goals.now) }
+    requires refs { HaveNearEnds files.now }
     requires orders { AreOrders files.now orders.now }
     ensures { OnOk result (mets.new.items ≡ mets.old.items ++ kept_mets (scene_of setting.now) files.now (goals_of setting.now.goals.now) item.now) }
 {
@@ -60,7 +65,8 @@ fn add_kept_mets(
 }
 
 impl<'a> AtomReferences<'a> {
-    /// What references mean. It takes memory for the address of each goal of the pool, and for the place of each
+    /// What references mean. Atoms are to stand below 2^33, and what references lead to within 2^63 bytes of the start
+    /// of its atom, so that each address has 64 bits. It takes memory for the address of each goal of the pool, and for the place of each
     /// reference in its file's list.
     pub fn of(
         alloc: Global,
@@ -71,6 +77,9 @@ impl<'a> AtomReferences<'a> {
         base: u64,
     ) -> Result<AtomReferences<'a>, OutOfMemory>
         requires once { AreOnce layout.now.placed }
+        requires low { AreLowPlaces layout.now.placed }
+        requires goals { All (All IsNear) (goals_of goals.now) }
+        requires refs { HaveNearEnds loaded.now.files }
         ensures ready { IfOk result IsReady }
         ensures mets { IfOk result (λ meets. met_by meets
             ≡ kept_mets (record { literals = symbols.entry.now.literals; base = base; placed = layout.entry.now.placed })

@@ -1,10 +1,11 @@
 //! What an atom's references mean in the image.
-ghost use Rattle.std.specs.Prelude.{◌≡◌, ◌++◌, ◌∷◌, [], IfOk, OnOk, slice_get};
+ghost use Rattle.std.specs.Prelude.{◌≡◌, ◌++◌, ◌∷◌, [], All, IfSome, OnOk, slice_get};
 ghost use Rattle.std.specs.List.{flat_map};
 ghost use Rattle.std.specs.Option.{option_map, option_map_or, option_to_list};
 ghost use Rattle.resolve.specs.Table.{AreWithin};
 ghost use Rattle.liveness.specs.Order.{AreInOrder};
-ghost use Rattle.image_make.specs.Addresses.{target_address};
+ghost use Rattle.image_make.specs.Addresses.{AreLowPlaces, target_address};
+ghost use Rattle.image_make.specs.Near.{HasNearEnds, IsNear, IsNearTarget};
 ghost use Rattle.sect_place.specs.Addresses.{AreOnce};
 ghost use Rattle.image_make.specs.Mets as spec;
 ghost use Rattle.image_make.specs.inner.Listed.{mets_at};
@@ -16,40 +17,42 @@ use mo_types::{AtomKey, OutOfMemory, Ref, RefList, Target};
 use patch::Met;
 
 // The address of what is subtracted, or 0.
-fn minus_address(
-    setting: &Addressing,
-    places: &[u32],
-    minus: &Option<Target>,
-) -> Result<u64, OutOfMemory>
+fn minus_address(setting: &Addressing, places: &[u32], minus: &Option<Target>) -> u64
     requires once { AreOnce setting.now.layout.now.placed }
+    requires low { AreLowPlaces setting.now.layout.now.placed }
     requires told { AreTold setting.now }
     requires within { AreWithin setting.now.goals.now.pool places.now }
-    ensures { IfOk result (λ place. place ≡ option_map_or (target_address (scene_of setting.now) (goals_there setting.now places.now)) minus.now 0) }
+    requires goals { All IsNear (goals_there setting.now places.now) }
+    requires near { IfSome minus.now IsNearTarget }
+    ensures { result ≡ option_map_or (target_address (scene_of setting.now) (goals_there setting.now places.now)) minus.now 0 }
 {
     match minus {
         Some(target) => target_address(setting, places, target),
-        None => Ok(0),
+        None => 0,
     }
 }
 
 // A reference with the addresses to which it leads.
 #[tactic(auto, unfolding(crate::specs::Mets::met_of))]
-fn met_of(setting: &Addressing, places: &[u32], reference: &Ref) -> Result<Met, OutOfMemory>
+fn met_of(setting: &Addressing, places: &[u32], reference: &Ref) -> Met
     requires once { AreOnce setting.now.layout.now.placed }
+    requires low { AreLowPlaces setting.now.layout.now.placed }
     requires told { AreTold setting.now }
     requires within { AreWithin setting.now.goals.now.pool places.now }
-    ensures { IfOk result (λ met. met ≡ spec.met_of (scene_of setting.now) (goals_there setting.now places.now) reference.now) }
+    requires goals { All IsNear (goals_there setting.now places.now) }
+    requires near { HasNearEnds reference.now }
+    ensures { result ≡ spec.met_of (scene_of setting.now) (goals_there setting.now places.now) reference.now }
 {
-    let value = target_address(setting, places, &reference.target)?;
-    let minus = minus_address(setting, places, &reference.minus)?;
-    Ok(Met {
+    let value = target_address(setting, places, &reference.target);
+    let minus = minus_address(setting, places, &reference.minus);
+    Met {
         place: reference.place,
         file_place: reference.file_place,
         kind: reference.kind,
         value,
         minus,
         addend: reference.addend,
-    })
+    }
 }
 
 // Puts the reference at an index of a file's list behind others.
@@ -62,12 +65,15 @@ fn add_met(
     index: u32,
 ) -> Result<(), OutOfMemory>
     requires once { AreOnce setting.now.layout.now.placed }
+    requires low { AreLowPlaces setting.now.layout.now.placed }
     requires told { AreTold setting.now }
     requires within { AreWithin setting.now.goals.now.pool places.now }
+    requires goals { All IsNear (goals_there setting.now places.now) }
+    requires refs { All HasNearEnds refs.now }
     ensures { OnOk result (mets.new.items ≡ mets.old.items ++ mets_at (scene_of setting.now) (goals_there setting.now places.now) refs.now index) }
 {
     match refs.get(index as usize) {
-        Some(reference) => mets.push(met_of(setting, places, &reference)?)?,
+        Some(reference) => mets.push(met_of(setting, places, &reference))?,
         None => {}
     }
     Ok(())
@@ -83,8 +89,11 @@ fn add_each(
     indices: &[u32],
 ) -> Result<(), OutOfMemory>
     requires once { AreOnce setting.now.layout.now.placed }
+    requires low { AreLowPlaces setting.now.layout.now.placed }
     requires told { AreTold setting.now }
     requires within { AreWithin setting.now.goals.now.pool places.now }
+    requires goals { All IsNear (goals_there setting.now places.now) }
+    requires refs { All HasNearEnds refs.now }
     ensures { OnOk result (mets.new.items
         ≡ mets.old.items ++ flat_map (mets_at (scene_of setting.now) (goals_there setting.now places.now) refs.now) indices.now) }
 {
@@ -106,8 +115,11 @@ pub(crate) fn add_mets(
     key: AtomKey,
 ) -> Result<(), OutOfMemory>
     requires once { AreOnce setting.now.layout.now.placed }
+    requires low { AreLowPlaces setting.now.layout.now.placed }
     requires told { AreTold setting.now }
     requires within { AreWithin setting.now.goals.now.pool places.now }
+    requires goals { All IsNear (goals_there setting.now places.now) }
+    requires refs { All HasNearEnds refs.now }
     requires order { AreInOrder refs.now order.now }
     ensures { OnOk result (mets.new.items ≡ mets.old.items ++ spec.mets_of (scene_of setting.now) (goals_there setting.now places.now) refs.now key) }
 {

@@ -1,5 +1,5 @@
--- The addresses of goals, as far as they have 64 bits.
-use Rattle.std.specs.Prelude.{ℕ, ◌≡◌, ◌^◌, List, Option, Some, None, map, nat_lt, if◌then◌else◌}
+-- The addresses of goals as a table of 64 bits each tells them.
+use Rattle.std.specs.Prelude.{ℕ, ◌≡◌, ◌^◌, ◌%◌, List, map}
 use Rattle.mo_types.specs.declared.goal.Goal.{Goal}
 use Rattle.mo_types.specs.declared.reference.Target.{Target}
 use Rattle.resolve.specs.Goals.{target_goal}
@@ -8,12 +8,12 @@ use Rattle.sect_place.specs.declared.layout.Placed.{Placed}
 use Rattle.image_make.specs.Addresses.{Addressing, goal_address}
 use Rattle.image_make.specs.declared.addresses.Addressing as code
 
--- an address, if it has 64 bits
-abbrev pub told : ℕ → Option ℕ
-told address = if nat_lt address (2 ^ 64) then Some address else None
+-- an address modulo 2^64
+abbrev pub told : ℕ → ℕ
+told address = address % 2 ^ 64
 
 -- that of a goal
-unfoldable pub goal_told : ℕ → List Placed → Goal → Option ℕ
+unfoldable pub goal_told : ℕ → List Placed → Goal → ℕ
 goal_told base placed goal = told (goal_address base placed goal)
 
 -- what references are met with, as definitions have it
@@ -24,8 +24,8 @@ scene_of setting = record { literals = setting.symbols.now.literals; base = sett
 abbrev pub goals_there : code.Addressing → List ℕ → List Goal
 goals_there setting places = goals_in setting.goals.now.pool places
 
--- the address to which a target leads, if it has 64 bits
-abbrev pub target_told : code.Addressing → List ℕ → Target → Option ℕ
+-- the address to which a target leads, modulo 2^64
+abbrev pub target_told : code.Addressing → List ℕ → Target → ℕ
 target_told setting places target =
     goal_told setting.base setting.layout.now.placed (target_goal setting.symbols.now.literals (goals_there setting places) target)
 
