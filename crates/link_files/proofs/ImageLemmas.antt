@@ -1,10 +1,12 @@
 -- The image of the atoms that are kept.
-use Rattle.std.proofs.Common.{◌≡◌, ℕ, List, [], ◌∷◌, Ok, Err, Contains, refl, ap, subst, ◌∙◌, inl}
+use Rattle.std.proofs.Common.{◌≡◌, ℕ, List, [], ◌∷◌, Ok, Err, Contains, All, refl, sym, ap, subst, ◌∙◌, inl}
 use Rattle.list_lemmas.proofs.Members.{Contains_from_in, in_from_Contains}
 use Rattle.image_make.specs.Made.{IsMade, ImageInputs}
+use Rattle.image_make.specs.Near.{AreNear}
 use Rattle.image_make.specs.declared.fault.MakeFault.{MakeFault}
 use Rattle.lib_bind.specs.declared.library.LibraryGraph.{LibraryGraph}
 use Rattle.command_line.specs.declared.command.Command.{Command}
+use Rattle.mo_types.specs.Loaded.{IsWholeFile}
 use Rattle.mo_types.specs.declared.answer.Refusal.{Refusal}
 use Rattle.mo_types.specs.declared.goal.Goal.{Goal}
 use Rattle.mo_types.specs.declared.key.AtomKey.{AtomKey}
@@ -21,6 +23,7 @@ use Rattle.link_files.specs.Linked.{AsImage, making, no_islands, no_slots}
 use Rattle.link_files.specs.Refusals.{IsToldAs}
 use Rattle.link_files.specs.Resolved.{IsResolved, files_of, table_of}
 use Rattle.link_files.specs.declared.resolved.Resolved.{Resolved}
+use Rattle.link_files.proofs.NearLemmas.{making_near}
 
 -- ---- no needs have no slots
 
@@ -70,6 +73,12 @@ same_scheme : (r : Resolved) (flags : ℕ) (keys : List AtomKey) (slots : Slots)
     → scheme_of r flags keys slots islands ≡ making r.command.now r.libs.now (files_of r) (header_flags r.command.now r.libs.now r.symbols.now keys) keys
 same_scheme r flags keys slots islands is f s i =
     same_making r.command.now r.libs.now (files_of r) flags (header_flags r.command.now r.libs.now r.symbols.now keys) keys (table_of r) r.symbols.now.literals r.entry.now slots islands is.goals is.symbols.literals is.entry f s i
+
+-- what it is made of is near
+pub inputs_near : (r : Resolved) (flags : ℕ) (keys : List AtomKey) (slots : Slots) (islands : IslandPlan) → All IsWholeFile (files_of r) → IsResolved r → flags ≡ header_flags r.command.now r.libs.now r.symbols.now keys → slots ≡ no_slots → islands ≡ no_islands → AreNear (scheme_of r flags keys slots islands)
+inputs_near r flags keys slots islands whole is f s i =
+    subst AreNear (sym (same_scheme r flags keys slots islands is f s i))
+    (making_near r.command.now r.libs.now (files_of r) (header_flags r.command.now r.libs.now r.symbols.now keys) keys whole)
 
 pub image_made : (r : Resolved) (flags : ℕ) (keys : List AtomKey) (slots : Slots) (islands : IslandPlan) (image : List ℕ) → IsResolved r → flags ≡ header_flags r.command.now r.libs.now r.symbols.now keys → slots ≡ no_slots → islands ≡ no_islands
     → IsMade (scheme_of r flags keys slots islands) (Ok image) → AsImage r.command.now r.libs.now (files_of r) r.symbols.now keys (Ok image)

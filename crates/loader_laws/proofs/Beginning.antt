@@ -48,9 +48,10 @@ use Rattle.link_files.specs.Lost.{lost_wanted}
 use Rattle.link_files.specs.Names as names
 use Rattle.loader_laws.specs.Images.{IsImageOf}
 use Rattle.loader_laws.specs.Tellings.{AreInForm, AreWhole}
-use Rattle.loader_laws.proofs.Cuts.{at_place}
-use Rattle.loader_laws.proofs.LinkedGoals.{AreSolid, IsWinnerIn, name_atom, place_in_file, winner_there}
-use Rattle.loader_laws.proofs.Lists.{both_empty, from_then, from_when, in_slice, neither, no_some, none_passes, not_none, not_second, some_is}
+use Rattle.link_files.proofs.Cuts.{at_place}
+use Rattle.loader_laws.proofs.LinkedGoals.{AreSolid, name_atom, place_in_file}
+use Rattle.link_files.proofs.WinnerPlaces.{IsWinnerIn, winner_there}
+use Rattle.link_files.proofs.Lists.{both_empty, from_then, from_when, in_slice, neither, no_some, none_passes, not_none, not_second, some_is}
 use Rattle.loader_laws.proofs.Standing.{AreLinked, goal_stands, in_all, least_none}
 use Rattle.loader_laws.proofs.LinkTelling.{are_solid}
 

@@ -25,7 +25,7 @@ use Rattle.image_read.specs.Mapped.{mapped}
 use Rattle.loader_laws.specs.Means.{AreRising, IsImage}
 use Rattle.image_make.proofs.RoomLemmas.{counts}
 use Rattle.loader_laws.proofs.Begun.{all_places, blank_rest, end_there, is_plan, row_at_place}
-use Rattle.loader_laws.proofs.Lists.{some_is}
+use Rattle.link_files.proofs.Lists.{some_is}
 use Rattle.loader_laws.proofs.Mapping.{few_bytes, section_stored}
 use Rattle.loader_laws.proofs.Planned.{in_turn}
 use Rattle.loader_laws.proofs.Rowed.{IsRowIn, find_mapped, row_in}

@@ -33,7 +33,8 @@ use Rattle.loader_laws.proofs.LinkTelling.{are_solid}
 use Rattle.loader_laws.proofs.LinkedGoals.{AreSolid}
 use Rattle.loader_laws.proofs.Linked.{image_linked}
 use Rattle.loader_laws.proofs.Loading.{from_all}
-use Rattle.loader_laws.proofs.Lowest.{goal_within, name_low}
+use Rattle.link_files.proofs.NearLemmas.{name_near}
+use Rattle.loader_laws.proofs.Lowest.{goal_within}
 use Rattle.loader_laws.proofs.Plain.{nothing_to_fix}
 use Rattle.loader_laws.proofs.PlannedLinks.{image_planned}
 use Rattle.loader_laws.proofs.Referred.{reference_tells}
@@ -56,7 +57,7 @@ entry_begins command libs files image ordered whole form is program =
     record {
       address = there.0;
       stands = there.1;
-      begins = begins_at m is.layout image there.0 is.rising is.is_image program there.1 (goal_within m is.layout image goal there.0 is.rising is.is_image there.1 (name_low files libs command command.entry whole));
+      begins = begins_at m is.layout image there.0 is.rising is.is_image program there.1 (goal_within m is.layout image goal there.0 is.rising is.is_image there.1 (name_near files libs command command.entry whole));
     }
 
 image_links : (command : Command) (libs : LibraryGraph) (files : List LoadedFile) (image : List ℕ) → AreOrdered files → AreWhole files → AreInForm files → IsImageOf command libs files image → IsLinkOf command libs files image

@@ -2,7 +2,6 @@ pub mod Beginning
 pub mod Begun
 pub mod Behind
 pub mod Complete
-pub mod Cuts
 pub mod Entering
 pub mod Fetched
 pub mod FileLinks
@@ -14,7 +13,6 @@ pub mod Linked
 pub mod LinkedGoals
 pub mod LinkTelling
 pub mod Listed
-pub mod Lists
 pub mod Loading
 pub mod Lowest
 pub mod Mapping
@@ -24,7 +22,6 @@ pub mod Planned
 pub mod PlannedLinks
 pub mod Referred
 pub mod Referring
-pub mod Refs
 pub mod Rowed
 pub mod Seated
 pub mod Seek

@@ -45,10 +45,10 @@ use Rattle.mo_types.specs.Candidates.{is_common}
 use Rattle.link_files.specs.Linked.{AreOrdered, making}
 use Rattle.loader_laws.specs.Images.{IsImageOf}
 use Rattle.loader_laws.specs.Tellings.{AreInForm, AreWhole, made_of}
-use Rattle.loader_laws.proofs.Cuts.{IsPiece, is_piece, key_at}
+use Rattle.link_files.proofs.Cuts.{IsPiece, is_piece, key_at}
 use Rattle.loader_laws.proofs.LinkedGoals.{AreSolid}
-use Rattle.loader_laws.proofs.Lists.{from_numbered, in_slice, neither, none_passes, some_is}
-use Rattle.loader_laws.proofs.Refs.{HasMinusBy, IsRead, IsTargetOf, is_read}
+use Rattle.link_files.proofs.Lists.{from_numbered, in_slice, neither, none_passes, some_is}
+use Rattle.link_files.proofs.Refs.{HasMinusBy, IsRead, IsTargetOf, is_read}
 use Rattle.loader_laws.proofs.Standing.{AreLinked, IsInside, target_inside}
 
 -- ---- the files
@@ -187,7 +187,7 @@ ref_direct command libs files flags keys layout image row file r linked whole fo
     second : (minus : Option Target) (target : Target) → r.minus ≡ minus → minus ≡ Some target → In target (targets_of r.target r.minus)
     second minus target e f = subst (λ (o : Option Target). In target (targets_of r.target o)) (sym (e ∙ f)) (inr (inl refl))
 
-    subtracted : (minus : Option Target) → r.minus ≡ minus → Rattle.loader_laws.proofs.Refs.HasMinus file.object file.id minus → StandsFrom image (addresses_of layout.placed) (option_map (goal_of m row) minus)
+    subtracted : (minus : Option Target) → r.minus ≡ minus → Rattle.link_files.proofs.Refs.HasMinus file.object file.id minus → StandsFrom image (addresses_of layout.placed) (option_map (goal_of m row) minus)
     subtracted None e has = absurd has
     subtracted (Some target) e has = (inside target (second (Some target) target e refl) has).stands
 

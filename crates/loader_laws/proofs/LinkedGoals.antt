@@ -1,16 +1,14 @@
 -- The goals of symbols and targets: a place in an atom of the files, where the image has it.
-use Rattle.std.proofs.Common.{◌≡◌, ℕ, zero, suc, ◌+◌, ◌==◌, ◌&&◌, Bool, true, false, List, [], ◌∷◌, filter, Option, Some, None, inl, refl, sym, ap, ◌∙◌, subst, arith, if◌then◌else◌}
+use Rattle.std.proofs.Common.{◌≡◌, ℕ, zero, suc, ◌+◌, ◌&&◌, Bool, true, false, List, [], ◌∷◌, filter, Option, Some, None, inl, refl, sym, ap, ◌∙◌, subst, arith, if◌then◌else◌}
 use Rattle.std.specs.Prelude.{slice_get}
 use Rattle.std.specs.List.{enumerate_from}
 use Rattle.std.specs.Option.{option_map, option_map_or}
 use Rattle.std.specs.Ordering.{is_eq}
-use Rattle.std.specs.Str.{bytes_eq}
-use Rattle.std.proofs.lemmas.Bool.{and_parts, false≢true}
+use Rattle.std.proofs.lemmas.Bool.{false≢true}
 use Rattle.std.proofs.lemmas.Option.{slice_get-map}
-use Rattle.std.proofs.lemmas.Slice.Eq.{bytes_eq-Decides}
 use Rattle.list_lemmas.proofs.Members.{In, find_some, from_filter, from_map, from_filter_map, from_flat}
 use Rattle.mo_types.specs.Atoms.{atoms_of, cut_of}
-use Rattle.mo_types.specs.Candidates.{has_place, is_candidate, least, word_of, is_common}
+use Rattle.mo_types.specs.Candidates.{is_common}
 use Rattle.mo_types.specs.Keys.{compare_keys}
 use Rattle.mo_types.specs.RelocationRules.{section_numbered}
 use Rattle.mo_types.specs.Whole.{is_dropped}
@@ -28,18 +26,18 @@ use Rattle.lib_bind.specs.Provides.{provider_of}
 use Rattle.lib_bind.specs.declared.library.LibraryGraph.{LibraryGraph}
 use Rattle.lib_bind.specs.declared.provider.Provider.{Provider}
 use Rattle.command_line.specs.declared.command.Command.{Command}
-use Rattle.symbol_winners.specs.Found.{FileCandidate, found, found_at, found_for, found_in}
 use Rattle.resolve.specs.Goals.{goal_at, goal_of_name, goal_of_symbol, goals_of_symbols, is_flat, is_header_symbol, local_goal, name_goal, outer_goal, winner_goal}
 use Rattle.literal_merge.specs.Standing.{literal_at, stands_for}
 use Rattle.symbol_winners.specs.SymbolTable.{is_weak}
 use Rattle.symbol_winners.specs.Places.{place_at, place_in, place_of}
 use Rattle.literal_merge.specs.Representatives.{Literal, is_literal, is_same, literal_at as as_literal, literals, literals_in, representative_among, representative_of, representatives_of}
-use Rattle.symbol_winners.specs.Winners.{found_word, winner_from, winner_of, winning}
+use Rattle.symbol_winners.specs.Winners.{winner_of}
 use Rattle.symbol_winners.specs.declared.places.Place.{Place}
 use Rattle.literal_merge.specs.declared.representative.Representative.{Representative}
 use Rattle.symbol_winners.specs.declared.winner.Winner.{Winner}
-use Rattle.loader_laws.proofs.Cuts.{HasKey, atom_there, key_at}
-use Rattle.loader_laws.proofs.Lists.{from_mapped, from_numbered, from_then, from_when, in_slice, no_some, some_is}
+use Rattle.link_files.proofs.Cuts.{HasKey, atom_there, key_at}
+use Rattle.link_files.proofs.Lists.{from_then, from_when, in_slice, no_some, some_is}
+use Rattle.link_files.proofs.WinnerPlaces.{winner_there}
 
 -- an atom of one of the files has the key
 pub record IsAtomIn (files : List LoadedFile) (key : AtomKey) : Type 0 where
@@ -142,50 +140,6 @@ winner_atom_in files winner is = by (winner.weak && winner.exported)
     by : (b : Bool) → HasAtom files (if b then WeakSelf winner.name (stands_for (representatives_of files) winner.atom) winner.offset else goal_at (representatives_of files) winner.atom winner.offset)
     by true = stand_in files winner.atom is
     by false = at_atom files winner.atom winner.offset is
-
--- the winner of a name is an external symbol of a file
-pub record IsWinnerIn (files : List LoadedFile) (name : List ℕ) (winner : Winner) : Type 0 where
-  pub file : LoadedFile
-  pub among : In file files
-  pub index : ℕ
-  pub symbol : Symbol
-  pub numbered : slice_get file.object.symbols index ≡ Some symbol
-  pub external : symbol.external ≡ true
-  pub named : name ≡ symbol.name
-  pub place : Place
-  pub stands : place_of file index symbol.kind ≡ Some place
-  pub atom : place.atom ≡ winner.atom
-  pub offset : place.offset ≡ winner.offset
-  pub word : word_of file.id index symbol ≡ winner.word
-
-pub winner_there : (command : Command) (files : List LoadedFile) (name : List ℕ) (winner : Winner) → winner_of command files name ≡ Some winner → IsWinnerIn files name winner
-unfolding winner_of winning found_for found found_in found_at is_candidate
-winner_there command files name winner e =
-    let one = from_then (winner_from command (found_for files name)) (winning files name) winner e in
-    let f : FileCandidate = one.0 in
-    let among = (find_some (λ (g : FileCandidate). found_word g == least files name) (found_for files name) f one.1).0 in
-    let chosen = from_filter (λ (g : FileCandidate). bytes_eq name g.symbol.name) (found files) f among in
-    let of = from_flat found_in files f chosen.0 in
-    let p = from_filter_map (found_at of.0) (enumerate_from 0 of.0.object.symbols) f of.2 in
-    let candidate = from_when (is_candidate of.0.object.sections p.0.1) _ f p.2 in
-    let numbered = from_numbered 0 of.0.object.symbols p.0 p.1 in
-    let first : numbered.0 ≡ 0 + numbered.0 = omega arith in
-    let index : numbered.0 ≡ p.0.0 = first ∙ numbered.1 in
-    let place = from_mapped _ (place_of f.file f.index f.symbol.kind) winner one.2 in
-    record {
-      file = of.0;
-      among = of.1;
-      index = numbered.0;
-      symbol = p.0.1;
-      numbered = numbered.2;
-      external = (and_parts p.0.1.external (has_place of.0.object.sections p.0.1.kind) candidate.0).0;
-      named = (bytes_eq-Decides name f.symbol.name).0 chosen.1 ∙ sym (ap (λ (g : FileCandidate). g.symbol.name) candidate.1);
-      place = place.0;
-      stands = ap (λ (i : ℕ). place_of of.0 i p.0.1.kind) index ∙ ap (λ (g : FileCandidate). place_of g.file g.index g.symbol.kind) candidate.1 ∙ place.1;
-      atom = ap (λ (w : Winner). w.atom) place.2;
-      offset = ap (λ (w : Winner). w.offset) place.2;
-      word = ap (λ (i : ℕ). word_of of.0.id i p.0.1) index ∙ ap (λ (g : FileCandidate). found_word g) candidate.1 ∙ ap (λ (w : Winner). w.word) place.2;
-    }
 
 winner_in : (command : Command) (files : List LoadedFile) (name : List ℕ) (winner : Winner) → AreSolid files → winner_of command files name ≡ Some winner → IsAtomIn files winner.atom
 winner_in command files name winner solid e =

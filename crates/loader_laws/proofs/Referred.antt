@@ -31,11 +31,11 @@ use Rattle.loader_laws.specs.LinkOf.{TellsItsGoal, places_of, template_atoms, te
 use Rattle.loader_laws.specs.Means.{IsWritten, IsZerofill, addresses_of}
 use Rattle.loader_laws.specs.References.{IsReferenceOf, TellsGoal}
 use Rattle.loader_laws.specs.Tellings.{AreInForm, AreWhole, made_of}
-use Rattle.loader_laws.proofs.Cuts.{HasKey, atom_there, key_at}
+use Rattle.link_files.proofs.Cuts.{HasKey, atom_there, key_at}
 use Rattle.loader_laws.proofs.Goals.{address_found}
 use Rattle.loader_laws.proofs.LinkTelling.{are_solid, references_told}
 use Rattle.loader_laws.proofs.Loading.{from_all}
-use Rattle.loader_laws.proofs.Refs.{IsRead, is_read}
+use Rattle.link_files.proofs.Refs.{IsRead, is_read}
 use Rattle.loader_laws.proofs.Seated.{written_address}
 use Rattle.loader_laws.proofs.Standing.{AreLinked, IsSeat, files_made, goals_are, kept_key, one_of, seat_of}
 use Rattle.loader_laws.proofs.Typed.{zerofill_there}

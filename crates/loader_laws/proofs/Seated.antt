@@ -51,7 +51,7 @@ use Rattle.loader_laws.proofs.Behind.{zero_behind}
 use Rattle.loader_laws.proofs.Goals.{address_found}
 use Rattle.loader_laws.proofs.LinkTelling.{ref_key, row_kept}
 use Rattle.loader_laws.proofs.LinkedGoals.{AreSolid}
-use Rattle.loader_laws.proofs.Lists.{from_numbered, in_slice, no_some}
+use Rattle.link_files.proofs.Lists.{from_numbered, in_slice, no_some}
 use Rattle.loader_laws.proofs.Loading.{all_outside, from_all}
 use Rattle.loader_laws.proofs.Rowed.{kept_found, row_in}
 use Rattle.loader_laws.proofs.Spread.{IsSpread, spread_of, stands_aligned}

@@ -1,22 +1,16 @@
--- The kept atoms of an image stand apart, and none behind its end.
+-- The kept atoms of an image stand apart.
 use Rattle.std.proofs.Common.{◌≡◌, ◌≢◌, ℕ, ◌+◌, ◌*◌, ◌<◌, ◌≤◌, ◌^◌, ◌⊎◌, inl, inr, List, [], ◌∷◌, length, get_or, map, Some, Contains, sym, ap, ◌∙◌, arith, subst}
-use Rattle.std.specs.List.{AllByRecursion, AllPairs, find}
-use Rattle.std.specs.Ordering.{is_eq}
+use Rattle.std.specs.List.{AllPairs}
 use Rattle.std.proofs.lemmas.Bool.{cases_order}
-use Rattle.std.proofs.lemmas.List.Sorted.{Contains-permutation, IsPermutation-sym}
-use Rattle.list_lemmas.proofs.Members.{Contains_from_in, In, all_in, all_map, find_some, from_filter_map, from_map, in_either, in_from_Contains}
-use Rattle.mo_types.specs.Keys.{compare_keys}
+use Rattle.list_lemmas.proofs.Members.{Contains_from_in, In, from_filter_map, from_map, in_either}
 use Rattle.mo_types.specs.declared.atom.Atom.{Atom}
 use Rattle.mo_types.specs.declared.key.AtomKey.{AtomKey}
-use Rattle.atom_index.proofs.Keys.{same_key}
 use Rattle.patch.proofs.LeastLemmas.{element_at}
 use Rattle.patch.specs.declared.range.PlacedWork.{PlacedWork}
-use Rattle.tlv_plan.specs.Template.{aligned, atoms_of, end_of, stand}
-use Rattle.tlv_plan.proofs.Walk.{after_end}
+use Rattle.tlv_plan.specs.Template.{atoms_of, stand}
 use Rattle.sect_place.specs.Addresses.{address_in}
-use Rattle.sect_place.specs.Layout.{Plan, end_of_image, image_places, image_stand, plan_of}
-use Rattle.sect_place.specs.Layout as layouts
-use Rattle.sect_place.specs.Places.{area_unit, group_end, groups_end, groups_places, groups_stand, page_up, part_end, part_from, parts_end, parts_places, parts_stand, places, spaced, with_area}
+use Rattle.sect_place.specs.Layout.{Plan, image_stand, plan_of}
+use Rattle.sect_place.specs.Places.{area_unit, group_end, groups_stand, page_up, part_end, part_from, parts_stand, places, spaced, with_area}
 use Rattle.sect_place.specs.declared.island.IslandArea.{IslandArea}
 use Rattle.sect_place.specs.declared.layout.Layout.{Layout}
 use Rattle.sect_place.specs.declared.layout.Placed.{Placed}
@@ -24,21 +18,17 @@ use Rattle.sect_place.specs.declared.part.Group.{Group}
 use Rattle.sect_place.specs.declared.part.Part.{Part}
 use Rattle.sect_place.proofs.Meaning.{image_apart, image_multiples, image_same}
 use Rattle.sect_place.proofs.Positions.{finds, found_atom}
-use Rattle.sect_place.proofs.Spread.{group_bounds, groups_after, parts_after}
 use Rattle.sect_list.specs.OutSections.{out_sections}
 use Rattle.image_make.specs.Atoms.{atom_of, kept_at}
 use Rattle.image_make.specs.Made.{IsLaid, ImageInputs, kept_of, plan_for, plan_with, rows_of}
 use Rattle.image_make.specs.declared.kept.KeptAtom.{KeptAtom}
 use Rattle.loader_laws.specs.Means.{AreRising}
-use Rattle.loader_laws.proofs.Begun.{is_plan}
 use Rattle.loader_laws.proofs.Complete.{stand_from}
-use Rattle.loader_laws.proofs.Lists.{from_mapped, some_is}
+use Rattle.link_files.proofs.Lists.{some_is}
 use Rattle.loader_laws.proofs.Loading.{from_all}
-use Rattle.image_make.proofs.RoomLemmas.{base_small}
+use Rattle.image_make.proofs.LowLemmas.{in_layout, placed_found}
 use Rattle.loader_laws.proofs.Rowed.{find_mapped, row_in}
 use Rattle.loader_laws.proofs.Spots.{spot}
-use Rattle.loader_laws.proofs.Standing.{equal_is}
-use Rattle.loader_laws.proofs.Turned.{appended}
 
 -- ---- members of a list whose elements stand in pairs
 
@@ -112,17 +102,6 @@ pub record IsSpread (m : ImageInputs) (key : AtomKey) (kept : Atom) (address : �
   pub room : kept.size ≤ place.0.size
   pub align : kept.align ≡ place.0.align
 
-placed_found : (placed : List Placed) (key : AtomKey) (address : ℕ) → address_in placed key ≡ Some address → (p : Placed) × In p placed × (p.atom ≡ key) × (p.address ≡ address)
-unfolding address_in
-placed_found placed key address e =
-    let found = from_mapped (λ (p : Placed). p.address) (find (λ (p : Placed). is_eq (compare_keys p.atom key)) placed) address e in
-    let passes = find_some (λ (p : Placed). is_eq (compare_keys p.atom key)) placed found.0 found.1 in
-    (found.0, passes.0, same_key found.0.atom key (equal_is (compare_keys found.0.atom key) passes.1), found.2)
-
-in_layout : (m : ImageInputs) (layout : Layout) (p : Placed) → IsLaid m layout → In p layout.placed → In p (image_places (plan_for m))
-in_layout m layout p laid h =
-    in_from_Contains (image_places (plan_for m)) p (Contains-permutation layout.placed (image_places (plan_for m)) p (IsPermutation-sym (image_places (plan_for m)) layout.placed laid.layout_of.places) (Contains_from_in layout.placed p h))
-
 pub spread_of : (m : ImageInputs) (layout : Layout) (key : AtomKey) (kept : KeptAtom) (address : ℕ) → IsLaid m layout → kept_at (kept_of m) key ≡ Some kept → address_in layout.placed key ≡ Some address → IsSpread m key kept.atom address
 unfolding plan_with plan_of
 spread_of m layout key kept address laid known stood =
@@ -169,51 +148,3 @@ row_spread m layout row rising laid h =
     let named : one.kept.atom.key ≡ one.key = (found_atom (map atom_of (kept_of m)) one.key one.kept.atom (find_mapped (kept_of m) one.key one.kept one.known)).0 in
     let key : one.key ≡ row.atom.key = sym named ∙ ap (λ (a : Atom). a.key) atom in
     subst (λ (a : Atom). IsSpread m row.atom.key a row.address) atom (spread_of m layout row.atom.key one.kept row.address laid (subst (λ (k : AtomKey). kept_at (kept_of m) k ≡ Some one.kept) key one.known) one.stood)
-
--- ---- none stands behind the image
-
-abbrev IsBelow : ℕ → Placed → Type 0
-IsBelow high p = p.address ≤ high
-
-stand_below : (high at : ℕ) (atoms : List Atom) → end_of at atoms ≤ high → AllByRecursion (λ (p : Atom × ℕ). p.1 ≤ high) (stand at atoms)
-unfolding stand end_of
-stand_below high at [] below = tt
-stand_below high at (atom ∷ atoms) below =
-    let after = after_end (aligned atom.align at + atom.size) atoms in
-    (omega arith, stand_below high (aligned atom.align at + atom.size) atoms below)
-
-parts_below : (atoms : List AtomKey → List Atom) (high at : ℕ) (parts : List Part) → parts_end atoms at parts ≤ high → AllByRecursion (IsBelow high) (parts_places atoms at parts)
-unfolding parts_places parts_end part_end
-parts_below atoms high at [] below = tt
-parts_below atoms high at (part ∷ parts) below =
-    let next = end_of (part_from at part) (atoms part.section.atoms) + part.fixed in
-    let after = parts_after atoms next parts in
-    appended (IsBelow high) (places (stand (part_from at part) (atoms part.section.atoms))) (parts_places atoms next parts)
-    (all_map (λ (p : Atom × ℕ). spot p.0 p.1) (IsBelow high) (stand (part_from at part) (atoms part.section.atoms)) (stand_below high (part_from at part) (atoms part.section.atoms) (omega arith)))
-    (parts_below atoms high next parts below)
-
-groups_below : (atoms : List AtomKey → List Atom) (high at lead : ℕ) (groups : List Group) → groups_end atoms at lead groups ≤ high → AllByRecursion (IsBelow high) (groups_places atoms at lead groups)
-unfolding groups_places groups_end
-groups_below atoms high at lead [] below = tt
-groups_below atoms high at lead (group ∷ groups) below =
-    let bounds = group_bounds atoms at lead group.parts in
-    let next = page_up (group_end atoms at lead group) in
-    let after = groups_after atoms next 0 groups in
-    appended (IsBelow high) (parts_places atoms (at + lead) group.parts) (groups_places atoms next 0 groups)
-    (parts_below atoms high (at + lead) group.parts (omega (arith, bounds.3)))
-    (groups_below atoms high next 0 groups below)
-
-all_below : (plan : Plan) → AllByRecursion (λ (p : Placed). p.address ≤ end_of_image plan) (image_places plan)
-unfolding image_places
-all_below plan = groups_below plan.atoms (end_of_image plan) plan.base plan.lead plan.groups (omega arith)
-
-pub address_low : (m : ImageInputs) (layout : Layout) (key : AtomKey) (address : ℕ) → IsLaid m layout → address_in layout.placed key ≡ Some address → address < 2 ^ 33
-address_low m layout key address laid stood =
-    let plan = plan_for m in
-    let found = placed_found layout.placed key address stood in
-    let below = all_in (λ (p : Placed). p.address ≤ end_of_image plan) (image_places plan) found.0 (all_below plan) (in_layout m layout found.0 laid found.1) in
-    let base : plan.base ≡ layouts.base_of m.command = (is_plan m layout laid).base in
-    let small = base_small m.command.dylib in
-    let few = laid.small in
-    let at : found.0.address ≡ address = found.3 in
-    omega arith

@@ -58,10 +58,10 @@ use Rattle.link_files.specs.Causes.{AreInside}
 use Rattle.link_files.specs.Later.{is_kept_later, is_later_ref, is_later_target, is_looked_up, is_outer, later_at, later_entry, later_file, later_in}
 use Rattle.link_files.specs.Linked.{AreOrdered, making}
 use Rattle.link_files.specs.Lost.{lost_wanted}
-use Rattle.loader_laws.proofs.Cuts.{is_piece}
+use Rattle.link_files.proofs.Cuts.{is_piece}
 use Rattle.loader_laws.proofs.LinkedGoals.{AreSolid, HasAtom, IsAtomIn, cut_in, goal_there, stand_in, symbol_atom}
-use Rattle.loader_laws.proofs.Lists.{in_numbered, in_slice, no_some, none_first, none_passes, not_none, not_first, some_is, both_empty}
-use Rattle.loader_laws.proofs.Refs.{IsTargetOf}
+use Rattle.link_files.proofs.Lists.{in_numbered, in_slice, no_some, none_first, none_passes, not_none, not_first, some_is, both_empty}
+use Rattle.link_files.proofs.Refs.{IsTargetOf}
 
 -- ---- files by their ids
 
@@ -353,8 +353,8 @@ target_inside command libs files flags keys layout image at file r (Name index) 
     let same : unwrap_or (slice_get (goals_at (goal_table files libs command) at) index) Nobody ≡ goal =
     ap (λ (gs : List Goal). unwrap_or (slice_get gs index) Nobody) (goals_are files libs command at file is) ∙ ap (λ (o : Option Goal). unwrap_or o Nobody) found in
     subst (IsInside image layout) (sym same) inside
-target_inside command libs files flags keys layout image at file r (Local atom offset) linked is h kept among (number, section, from, numbered, solid, same) =
-    let there : IsAtomIn files atom = subst (IsAtomIn files) (sym same) (cut_in files file number section from linked.solid (in_slice files at file is) numbered solid) in
+target_inside command libs files flags keys layout image at file r (Local atom offset) linked is h kept among place =
+    let there : IsAtomIn files atom = subst (IsAtomIn files) (sym place.named) (cut_in files file place.number place.section place.at linked.solid (in_slice files at file is) place.numbered place.linked) in
     let key : AtomKey = stands_for (representatives_of files) atom in
     goal_inside command libs files flags keys layout image (Def key offset) linked (stand_in files atom there)
     (λ other to. subst (λ (k : AtomKey). has keys k ≡ true) (some_is key other to) (target_kept command libs files flags keys at file r (Local atom offset) key linked.inside is h kept among refl)) refl refl

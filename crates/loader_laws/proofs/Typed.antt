@@ -30,8 +30,8 @@ use Rattle.sect_place.specs.declared.part.Made.TheVariants.{Stubs, UnwindInfo, G
 use Rattle.sect_place.specs.declared.part.Part.{Part}
 use Rattle.image_make.specs.Atoms.{atom_of}
 use Rattle.image_make.specs.Made.{IsLaid, ImageInputs, kept_of, plan_for, plan_with, sizes_of}
-use Rattle.loader_laws.proofs.Cuts.{at_place}
-use Rattle.loader_laws.proofs.Lists.{from_mapped, some_is}
+use Rattle.link_files.proofs.Cuts.{at_place}
+use Rattle.link_files.proofs.Lists.{from_mapped, some_is}
 use Rattle.loader_laws.proofs.Standing.{file_found}
 use Rattle.loader_laws.proofs.Turned.{appended}
 use Rattle.link_files.specs.Linked.{AreOrdered}

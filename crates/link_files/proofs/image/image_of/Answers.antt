@@ -1,5 +1,5 @@
 use Rattle.link_files.specs.Resolved.{files_of}
-use Rattle.link_files.proofs.ImageLemmas.{fault_made, image_made}
+use Rattle.link_files.proofs.ImageLemmas.{fault_made, image_made, inputs_near}
 use Rattle.link_files.proofs.KeptLemmas.{are_cut, kept_low, kept_rise}
 use Rattle.link_files.proofs.image.image_of.Goals as goal
 
@@ -10,6 +10,11 @@ make_image-requires-clause-rising g c κs within =
 
 pub make_image-requires-clause-low : goal.make_image-requires-clause-low
 make_image-requires-clause-low g c κs within = let r = c.args.resolved.now in kept_low r.symbols.now.literals c.args.keys.now (files_of r) c.requires.low c.requires.resolved.symbols.literals
+
+pub make_image-requires-clause-near : goal.make_image-requires-clause-near
+make_image-requires-clause-near g c κs within =
+    inputs_near c.args.resolved.now c.header_flags.result c.args.keys.now c.in_ok-slots.slots c.no_islands-islands.result c.requires.whole.files
+    c.requires.resolved (rw c.as_slice.ensures at c.header_flags.ensures) c.in_ok-slots.ensures c.no_islands-islands.ensures
 
 pub returns-in-Ok : goal.returns-in-Ok
 returns-in-Ok g c =

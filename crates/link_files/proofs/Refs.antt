@@ -1,15 +1,16 @@
 -- The references of an object: the atom that has each, and that its targets are there.
-use Rattle.std.proofs.Common.{◌≡◌, ℕ, zero, suc, ◌+◌, ◌-◌, ◌*◌, ◌<◌, ◌^◌, ◌%◌, ◌==◌, ◌&&◌, ◌||◌, not, Bool, true, false, nat_lt, List, [], ◌∷◌, length, Option, Some, None, Result, Ok, inl, inr, refl, sym, ap, ◌∙◌, subst, arith, if◌then◌else◌}
-use Rattle.std.specs.Prelude.{is_none, slice_get}
+use Rattle.std.proofs.Common.{◌≡◌, ℕ, zero, suc, ◌+◌, ◌-◌, ◌*◌, ◌<◌, ◌≤◌, ◌^◌, ◌%◌, ◌==◌, ◌&&◌, ◌||◌, not, Bool, true, false, nat_lt, List, [], ◌∷◌, length, Option, Some, None, Result, Ok, Err, inl, inr, refl, sym, ap, ◌∙◌, subst, arith, if◌then◌else◌}
+use Rattle.std.specs.Prelude.{IfSome, is_none, nat_le, slice_get}
 use Rattle.std.specs.List.{range_with_len}
 use Rattle.std.specs.Option.{option_map, option_map_or}
-use Rattle.std.proofs.lemmas.Bool.{false≢true, ltb-true, ne_eqb}
+use Rattle.std.proofs.lemmas.Bool.{false≢true, leb-true, ltb-true, ne_eqb}
 use Rattle.list_lemmas.proofs.Members.{In, from_filter_map, in_either}
 use Rattle.mo_types.specs.Atoms.{cut_of}
 use Rattle.mo_types.specs.Refs.{or_fault, or_unsupported, has_absolute, has_authenticated, minus_of, place_of, reference_at, refs_from, refs_of, section_refs, target_of}
 use Rattle.mo_types.specs.RelocationRules.{RelocationRule, faults_from, faults_in, field_at, field_number, first_fault, has_fields, is_bad_field, is_bad_target, is_in_one_atom, is_misplaced, is_outside, is_unnameable, is_within, least, overlaps_another, pair_fault, place_fault, row_start, section_numbered, shape_fault, target_fault}
 use Rattle.mo_types.specs.Rows.{field_size, first_before, is_distance, is_instruction, is_subtractor, is_value, kind_alone, kind_at, kind_of, last_at, when}
 use Rattle.mo_types.specs.Whole.{is_dropped, is_strings, is_zerofill, literal_size}
+use Rattle.mo_types.specs.declared.key.AtomKey.{AtomKey}
 use Rattle.mo_types.specs.declared.key.FileId.{FileId}
 use Rattle.mo_types.specs.declared.object.Object.{Object}
 use Rattle.mo_types.specs.declared.object.RawReloc.{RawReloc}
@@ -24,11 +25,17 @@ use Rattle.mo_types.specs.declared.reference.Target.TheVariants.{Name, Local}
 use Rattle.mo_types.specs.declared.reference_fault.RefFault.{RefFault}
 use Rattle.mo_types.specs.declared.reference_fault.RefFault.TheVariants.{BadPair, BadShape, BadPlace, BadTarget}
 use Rattle.atom_cut.proofs.TileLemmas.{greatest_cut}
-use Rattle.loader_laws.proofs.Cuts.{key_at}
-use Rattle.link_engine.proofs.ValueLemmas.{no_value, same_value}
-use Rattle.loader_laws.proofs.Lists.{both_empty, from_mapped, from_then, from_when, neither, no_some, none_chosen, not_none, not_second, not_when, some_is}
+use Rattle.patch.proofs.ChosenLemmas.{both, not_false}
+use Rattle.link_files.proofs.Cuts.{key_at}
+use Rattle.link_files.proofs.Lists.{both_empty, from_mapped, from_then, from_when, neither, no_some, none_chosen, not_none, not_second, not_when, some_is}
 
 -- ---- what the rules leave
+
+no_value : {Y : Type 0} (fault : RefFault) (refs : List Ref) → ◌≡◌ {A = Result (List Ref) RefFault} (Err fault) (Ok refs) → Y
+no_value fault refs e = absurd cc
+
+same_value : (all refs : List Ref) → ◌≡◌ {A = Result (List Ref) RefFault} (Ok all) (Ok refs) → all ≡ refs
+same_value all refs e = cc
 
 no_fault : (fault : ℕ → RefFault) (found : Option ℕ) (rest : Result (List Ref) RefFault) (refs : List Ref) → or_fault fault found rest ≡ Ok refs → (found ≡ None) × (rest ≡ Ok refs)
 no_fault fault None rest refs e = (refl, e)
@@ -99,11 +106,21 @@ from_sections object file number (section ∷ sections) r h = elim (in_either (s
       record { k = suc k; section = rest.section; there = rest.there; among = subst (λ (n : ℕ). In r (section_refs object file n rest.section)) same rest.among }
 ]
 
+-- a place in an atom of a linked section, at an offset from the section's start
+pub record IsPlaceOf (object : Object) (file : FileId) (atom : AtomKey) (offset : ℕ) : Type 0 where
+  pub number : ℕ
+  pub section : Section
+  pub at : ℕ
+  pub numbered : section_numbered object.sections number ≡ Some section
+  pub linked : is_dropped section ≡ false
+  pub named : atom ≡ key_at file number (cut_of object number section at)
+  pub within : at ≤ section.size
+  pub from_cut : offset ≡ at - cut_of object number section at
+
 -- a target that is there
 abbrev pub IsTargetOf : Object → FileId → Target → Type 0
 IsTargetOf object file (Name index) = (symbol : Symbol) × (slice_get object.symbols index ≡ Some symbol)
-IsTargetOf object file (Local atom offset) =
-    (number : ℕ) × (section : Section) × (at : ℕ) × (section_numbered object.sections number ≡ Some section) × (is_dropped section ≡ false) × (atom ≡ key_at file number (cut_of object number section at))
+IsTargetOf object file (Local atom offset) = IsPlaceOf object file atom offset
 
 good_symbol : (object : Object) (index : ℕ) → option_map_or (is_unnameable object.sections) (slice_get object.symbols index) true ≡ false → (symbol : Symbol) × (slice_get object.symbols index ≡ Some symbol)
 good_symbol object index e = by (slice_get object.symbols index) refl
@@ -112,8 +129,14 @@ good_symbol object index e = by (slice_get object.symbols index) refl
     by None f = absurd (false≢true (sym (rw f at e)))
     by (Some symbol) f = (symbol, f)
 
-good_section : (sections : List Section) (number address : ℕ) (section : Section) → is_outside sections number address ≡ false → section_numbered sections number ≡ Some section → is_dropped section ≡ false
-good_section sections number address section e f = (neither (is_dropped section) (not (is_within section address)) (rw f at e)).0
+good_section : (sections : List Section) (number address : ℕ) (section : Section) → is_outside sections number address ≡ false → section_numbered sections number ≡ Some section → (is_dropped section ≡ false) × (not (is_within section address) ≡ false)
+good_section sections number address section e f = neither (is_dropped section) (not (is_within section address)) (rw f at e)
+
+-- how far an address of a section is from its start
+far : (section : Section) (address : ℕ) → not (is_within section address) ≡ false → address - section.address ≤ section.size
+far section address e =
+    let high = leb-true address (section.address + section.size) (both (nat_le section.address address) (nat_le address (section.address + section.size)) (not_false (is_within section address) e)).1 in
+    omega (arith, high)
 
 good_target : (object : Object) (file : FileId) (bytes : List ℕ) (field : FieldRange) (reloc : RawReloc) (target : Target) → is_bad_target object bytes field reloc ≡ false → target_of object file bytes field reloc ≡ Some target → IsTargetOf object file target
 good_target object file bytes field reloc target good is = by reloc.external refl
@@ -125,7 +148,31 @@ good_target object file bytes field reloc target good is = by reloc.external ref
     by false e =
         let address : ℕ = field_number bytes field in
         let found = from_mapped (place_of object file reloc.number address) (section_numbered object.sections reloc.number) target (rw e at is) in
-        subst (IsTargetOf object file) found.2 (reloc.number, found.0, address - found.0.address, found.1, good_section object.sections reloc.number address found.0 (rw e at good) found.1, refl)
+        let both_pass = good_section object.sections reloc.number address found.0 (rw e at good) found.1 in
+        subst (IsTargetOf object file) found.2 (record {
+          number = reloc.number;
+          section = found.0;
+          at = address - found.0.address;
+          numbered = found.1;
+          linked = both_pass.0;
+          named = refl;
+          within = far found.0 address both_pass.1;
+          from_cut = refl;
+        })
+
+-- a symbol
+abbrev pub IsName : Target → Type 0
+IsName (Name index) = Unit {0}
+IsName (Local atom offset) = ⊥
+
+-- nothing but symbols is subtracted
+minus_named : (first : Option RawReloc) → IfSome (minus_of first) IsName
+minus_named None = tt
+minus_named (Some first) = by (is_subtractor first)
+  where
+    by : (b : Bool) → IfSome (if b then Some (Name first.number) else None) IsName
+    by true = tt
+    by false = tt
 
 -- what is subtracted is there, where the kind is that of a difference
 abbrev pub HasMinus : Object → FileId → Option Target → Type 0
@@ -209,6 +256,7 @@ pub record IsRead (object : Object) (file : FileId) (r : Ref) : Type 0 where
   pub low : offset < 2 ^ 31
   pub target : IsTargetOf object file r.target
   pub minus : HasMinusBy r.kind object file r.minus
+  pub subtracted : IfSome r.minus IsName
 
 low_field : (relocs : List RawReloc) (at : ℕ) (field : FieldRange) → field_at relocs at ≡ Some field → field.offset < 2 ^ 31
 unfolding field_at
@@ -283,6 +331,7 @@ read_at object file number section at r numbered linked e placed good =
           low = low;
           target = good_target object file section.bytes field reloc target tests.1 is_target;
           minus = has_minus object file section.bytes field (first_before section.relocs at) reloc kind kinds tests.0;
+          subtracted = minus_named (first_before section.relocs at);
         })
 
 pub is_read : (object : Object) (file : FileId) (refs : List Ref) (r : Ref) → refs_of object file ≡ Ok refs → In r refs → IsRead object file r

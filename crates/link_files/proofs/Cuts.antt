@@ -15,8 +15,8 @@ use Rattle.mo_types.specs.declared.object.Section.{Section}
 use Rattle.atom_cut.specs.Laws.{HasItsBytes}
 use Rattle.atom_cut.proofs.OwnBytes.{atoms_have_bytes}
 use Rattle.atom_cut.proofs.TileLemmas.{greatest_cut}
-use Rattle.loader_laws.proofs.Loading.{from_all}
-use Rattle.loader_laws.proofs.Lists.{in_range, in_slice, no_some, some_is}
+use Rattle.input_files.proofs.EachLemmas.{all_has}
+use Rattle.link_files.proofs.Lists.{in_range, in_slice, no_some, some_is}
 
 abbrev pub key_at : FileId → ℕ → ℕ → AtomKey
 key_at file number offset = record { file = file; section = number; offset = offset }
@@ -84,9 +84,9 @@ pub record IsPiece (object : Object) (atom : Atom) : Type 0 where
 
 pub is_piece : (object : Object) (file : FileId) (atom : Atom) → IsWhole object → In atom (atoms_of object file) → IsPiece object atom
 is_piece object file atom whole h =
-    let has : HasItsBytes object atom = from_all (HasItsBytes object) (atoms_of object file) atom (atoms_have_bytes object file whole) h in
+    let has : HasItsBytes object atom = all_has (HasItsBytes object) (atoms_of object file) atom (atoms_have_bytes object file whole) h in
     let place = at_place object.sections atom.key.section has.section has.numbered in
-    let one : IsWholeSection has.section = from_all IsWholeSection object.sections has.section whole.sections (in_slice object.sections place.0 has.section place.2) in
+    let one : IsWholeSection has.section = all_has IsWholeSection object.sections has.section whole.sections (in_slice object.sections place.0 has.section place.2) in
     let within = has.within in
     let small = one.addresses in
     record { section = has.section; numbered = has.numbered; low = omega (arith, within, small) }

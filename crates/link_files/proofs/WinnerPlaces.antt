@@ -1,0 +1,62 @@
+-- Where the winner of a name stands.
+use Rattle.std.proofs.Common.{◌≡◌, ℕ, ◌+◌, ◌==◌, true, List, Some, ap, sym, ◌∙◌, arith}
+use Rattle.std.specs.Prelude.{slice_get}
+use Rattle.std.specs.List.{enumerate_from}
+use Rattle.std.specs.Str.{bytes_eq}
+use Rattle.std.proofs.lemmas.Bool.{and_parts}
+use Rattle.std.proofs.lemmas.Slice.Eq.{bytes_eq-Decides}
+use Rattle.list_lemmas.proofs.Members.{In, find_some, from_filter, from_filter_map, from_flat}
+use Rattle.mo_types.specs.Candidates.{has_place, is_candidate, least, word_of}
+use Rattle.mo_types.specs.declared.loaded.LoadedFile.{LoadedFile}
+use Rattle.mo_types.specs.declared.object.Symbol.{Symbol}
+use Rattle.command_line.specs.declared.command.Command.{Command}
+use Rattle.symbol_winners.specs.Found.{FileCandidate, found, found_at, found_for, found_in}
+use Rattle.symbol_winners.specs.Places.{place_of}
+use Rattle.symbol_winners.specs.Winners.{found_word, winner_from, winner_of, winning}
+use Rattle.symbol_winners.specs.declared.places.Place.{Place}
+use Rattle.symbol_winners.specs.declared.winner.Winner.{Winner}
+use Rattle.link_files.proofs.Lists.{from_mapped, from_numbered, from_then, from_when}
+
+-- the winner of a name is an external symbol of a file
+pub record IsWinnerIn (files : List LoadedFile) (name : List ℕ) (winner : Winner) : Type 0 where
+  pub file : LoadedFile
+  pub among : In file files
+  pub index : ℕ
+  pub symbol : Symbol
+  pub numbered : slice_get file.object.symbols index ≡ Some symbol
+  pub external : symbol.external ≡ true
+  pub named : name ≡ symbol.name
+  pub place : Place
+  pub stands : place_of file index symbol.kind ≡ Some place
+  pub atom : place.atom ≡ winner.atom
+  pub offset : place.offset ≡ winner.offset
+  pub word : word_of file.id index symbol ≡ winner.word
+
+pub winner_there : (command : Command) (files : List LoadedFile) (name : List ℕ) (winner : Winner) → winner_of command files name ≡ Some winner → IsWinnerIn files name winner
+unfolding winner_of winning found_for found found_in found_at is_candidate
+winner_there command files name winner e =
+    let one = from_then (winner_from command (found_for files name)) (winning files name) winner e in
+    let f : FileCandidate = one.0 in
+    let among = (find_some (λ (g : FileCandidate). found_word g == least files name) (found_for files name) f one.1).0 in
+    let chosen = from_filter (λ (g : FileCandidate). bytes_eq name g.symbol.name) (found files) f among in
+    let of = from_flat found_in files f chosen.0 in
+    let p = from_filter_map (found_at of.0) (enumerate_from 0 of.0.object.symbols) f of.2 in
+    let candidate = from_when (is_candidate of.0.object.sections p.0.1) _ f p.2 in
+    let numbered = from_numbered 0 of.0.object.symbols p.0 p.1 in
+    let first : numbered.0 ≡ 0 + numbered.0 = omega arith in
+    let index : numbered.0 ≡ p.0.0 = first ∙ numbered.1 in
+    let place = from_mapped _ (place_of f.file f.index f.symbol.kind) winner one.2 in
+    record {
+      file = of.0;
+      among = of.1;
+      index = numbered.0;
+      symbol = p.0.1;
+      numbered = numbered.2;
+      external = (and_parts p.0.1.external (has_place of.0.object.sections p.0.1.kind) candidate.0).0;
+      named = (bytes_eq-Decides name f.symbol.name).0 chosen.1 ∙ sym (ap (λ (g : FileCandidate). g.symbol.name) candidate.1);
+      place = place.0;
+      stands = ap (λ (i : ℕ). place_of of.0 i p.0.1.kind) index ∙ ap (λ (g : FileCandidate). place_of g.file g.index g.symbol.kind) candidate.1 ∙ place.1;
+      atom = ap (λ (w : Winner). w.atom) place.2;
+      offset = ap (λ (w : Winner). w.offset) place.2;
+      word = ap (λ (i : ℕ). word_of of.0.id i p.0.1) index ∙ ap (λ (g : FileCandidate). found_word g) candidate.1 ∙ ap (λ (w : Winner). w.word) place.2;
+    }
