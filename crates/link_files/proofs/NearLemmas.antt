@@ -123,18 +123,18 @@ unfolding goals_of_symbols
 symbols_near files libs command file whole one =
     all_from IsNear (goals_of_symbols files libs command file)
     (λ goal h.
-        let p = from_map (goal_of_symbol files libs command file) (enumerate_from 0 file.object.symbols) goal h in
-        let k = from_numbered 0 file.object.symbols p.0 p.1 in
-        let first : k.0 ≡ 0 + k.0 = omega arith in
-        let numbered : slice_get file.object.symbols p.0.0 ≡ Some p.0.1 = subst (λ (n : ℕ). slice_get file.object.symbols n ≡ Some p.0.1) (first ∙ k.1) k.2 in
-        subst IsNear p.2 (symbol_near files libs command file p.0.0 p.0.1 whole one numbered))
+    let p = from_map (goal_of_symbol files libs command file) (enumerate_from 0 file.object.symbols) goal h in
+    let k = from_numbered 0 file.object.symbols p.0 p.1 in
+    let first : k.0 ≡ 0 + k.0 = omega arith in
+    let numbered : slice_get file.object.symbols p.0.0 ≡ Some p.0.1 = subst (λ (n : ℕ). slice_get file.object.symbols n ≡ Some p.0.1) (first ∙ k.1) k.2 in
+    subst IsNear p.2 (symbol_near files libs command file p.0.0 p.0.1 whole one numbered))
 
 table_near : (files : List LoadedFile) (libs : LibraryGraph) (command : Command) → All IsWholeFile files → All (All IsNear) (goal_table files libs command)
 table_near files libs command whole =
     all_from (All IsNear) (goal_table files libs command)
     (λ goals h.
-        let file = from_map (goals_of_symbols files libs command) files goals h in
-        subst (All IsNear) file.2 (symbols_near files libs command file.0 whole (all_has IsWholeFile files file.0 whole file.1).object))
+    let file = from_map (goals_of_symbols files libs command) files goals h in
+    subst (All IsNear) file.2 (symbols_near files libs command file.0 whole (all_has IsWholeFile files file.0 whole file.1).object))
 
 -- ---- where references lead
 
@@ -159,8 +159,8 @@ refs_near : (files : List LoadedFile) → All IsWholeFile files → HaveNearEnds
 refs_near files whole =
     all_from (λ (file : LoadedFile). All HasNearEnds file.refs) files
     (λ file h.
-        let one : IsWholeFile file = all_has IsWholeFile files file whole h in
-        all_from HasNearEnds file.refs (λ r k. ref_near file.object file.id r one.object (is_read file.object file.id file.refs r one.refs k)))
+    let one : IsWholeFile file = all_has IsWholeFile files file whole h in
+    all_from HasNearEnds file.refs (λ r k. ref_near file.object file.id r one.object (is_read file.object file.id file.refs r one.refs k)))
 
 -- ---- what an image is made of
 
