@@ -5,3 +5,9 @@ pub mod Naming
 pub mod Filed
 pub mod Loops
 pub mod Lines
+pub mod Numbering
+pub mod Seeking
+pub mod Writing
+pub mod Gathering
+pub mod Ranging
+pub mod LawLemmas

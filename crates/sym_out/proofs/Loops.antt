@@ -36,10 +36,10 @@ pub record IsChoosing {X Y : Type 0} (f : X → Option Y) (xs : List X) (old : L
 pub choosing_starts : {X Y : Type 0} (f : X → Option Y) (xs : List X) (old : List Y) → IsChoosing f xs old 0 old
 choosing_starts f xs old = record { rest = refl }
 
-head_some : {X Y : Type 0} (f : X → Option Y) (x : X) (xs : List X) (y : Y) → f x ≡ Some y → filter_map f (x ∷ xs) ≡ y ∷ filter_map f xs
+pub head_some : {X Y : Type 0} (f : X → Option Y) (x : X) (xs : List X) (y : Y) → f x ≡ Some y → filter_map f (x ∷ xs) ≡ y ∷ filter_map f xs
 head_some f x xs y e = rw e refl
 
-head_none : {X Y : Type 0} (f : X → Option Y) (x : X) (xs : List X) → f x ≡ None → filter_map f (x ∷ xs) ≡ filter_map f xs
+pub head_none : {X Y : Type 0} (f : X → Option Y) (x : X) (xs : List X) → f x ≡ None → filter_map f (x ∷ xs) ≡ filter_map f xs
 head_none f x xs e = rw e refl
 
 pub choosing_adds : {X Y : Type 0} (f : X → Option Y) (xs : List X) (old : List Y) (at : ℕ) (now new : List Y) (x : X) (y : Y) → IsChoosing f xs old at now → at < length xs → x ≡ get_or xs at x → f x ≡ Some y → new ≡ now ++ y ∷ [] → IsChoosing f xs old (at + 1) new

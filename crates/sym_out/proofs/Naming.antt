@@ -27,7 +27,7 @@ use Rattle.sym_out.proofs.Filed.{files_all, files_more, files_none, until, until
 
 -- ---- what a symbol changes
 
-not_same : (a b : AtomKey) → b ≢ a → is_eq (compare_keys a b) ≡ false
+pub not_same : (a b : AtomKey) → b ≢ a → is_eq (compare_keys a b) ≡ false
 not_same a b differ = by (is_eq (compare_keys a b)) refl
   where
     by : (t : Bool) → is_eq (compare_keys a b) ≡ t → is_eq (compare_keys a b) ≡ false

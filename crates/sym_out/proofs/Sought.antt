@@ -33,7 +33,7 @@ sorted {R = R} o key xs rises = λ k d low high.
     ap is_lt (o.antisymm (key (get_or xs (k + 1) d)) (key (get_or xs k d)) ∙ ap ordering_reverse (rises k (k + 1) d (omega arith) high))
 
 -- what is below one that has a key is below the key
-below : {K : Type 0} {R : K → K → Ordering} (o : IsTotalOrder R) (a b k : K) → R a b ≡ Less → R b k ≡ Equal → R a k ≡ Less
+pub below : {K : Type 0} {R : K → K → Ordering} (o : IsTotalOrder R) (a b k : K) → R a b ≡ Less → R b k ≡ Equal → R a k ≡ Less
 below {R = R} o a b k less equal =
     o.antisymm a k ∙ ap ordering_reverse (sym (o.congr b k a equal)) ∙ sym (o.antisymm a b) ∙ less
 

@@ -1,3 +1,7 @@
+pub mod Entries
 pub mod Files
+pub mod Laws
 pub mod Map
+pub mod Sites
+pub mod Symbols
 pub mod inner

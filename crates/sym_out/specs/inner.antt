@@ -1,1 +1,4 @@
+pub mod Numbers
+pub mod Ranged
 pub mod Tables
+pub mod Written

@@ -1,0 +1,35 @@
+-- What the symbols of an image mean.
+use Rattle.std.specs.Prelude.{ℕ, ◌+◌, ◌*◌, ◌%◌, ◌^◌, ◌≡◌, ◌<◌, ◌⊎◌, List, length, take, drop, slice_index_or}
+use Rattle.std.specs.List.{flat_map}
+use Rattle.mo_format.specs.Symbol.{nlist_bytes}
+use Rattle.mo_format.specs.declared.loader.TheConstants.{INDIRECT_SYMBOL_LOCAL}
+use Rattle.mo_types.specs.Goals.{name_of}
+use Rattle.mo_types.specs.declared.goal.Goal.{Goal}
+use Rattle.slot_plan.specs.declared.list.Slots.{Slots}
+use Rattle.sym_out.specs.Entries.{Entry, nlist_of, string_of, strings_bytes, symbols_bytes}
+use Rattle.sym_out.specs.Symbols.{Ranges, entries_of, indirect_number, parts_of}
+
+-- 16 bytes a symbol, and 4 a stub or slot
+pub record HaveSizes (slots : Slots) (ranges : Ranges) : Type 0 where
+  pub of_symbols : length (parts_of slots ranges).symbols ≡ 16 * (length ranges.locals + length ranges.exported + length ranges.undefined)
+  pub of_indirect : length (parts_of slots ranges).indirect ≡ 4 * (length slots.stubs + length slots.got + length slots.tlv)
+
+-- where the string of an entry stands: behind one NUL and the strings of those before
+abbrev pub string_place : List Entry → ℕ → ℕ
+string_place entries i = 1 + length (flat_map string_of (take i entries))
+
+-- the 16 bytes of each symbol tell its place among the strings, and there its name stands with the NUL that ends it
+pub record IsNamed (entries : List Entry) (i : ℕ) (entry : Entry) : Type 0 where
+  pub symbol : take 16 (drop (16 * i) (symbols_bytes entries)) ≡ nlist_bytes (nlist_of (string_place entries i) entry)
+  pub string : take (length (string_of entry)) (drop (string_place entries i) (strings_bytes entries)) ≡ string_of entry
+
+-- the number of a symbol that has the goal's name
+pub record IsNumberOf (ranges : Ranges) (goal : Goal) (number : ℕ) : Type 0 where
+  pub at : ℕ
+  pub within : at < length (entries_of ranges)
+  pub named : (d : Entry) → (slice_index_or (entries_of ranges) at d).name ≡ name_of goal
+  pub value : number ≡ at % 2 ^ 32
+
+-- what the indirect table has for a goal: the number of its symbol, or that it has none
+abbrev pub LeadsToSymbol : Ranges → Goal → Type 0
+LeadsToSymbol ranges goal = (indirect_number ranges goal ≡ INDIRECT_SYMBOL_LOCAL) ⊎ IsNumberOf ranges goal (indirect_number ranges goal)

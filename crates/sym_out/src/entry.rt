@@ -1,0 +1,94 @@
+//! Entries of a symbol table, and their strings.
+ghost use Rattle.std.specs.Prelude.{◌≡◌, ◌∷◌, [], ◌++◌, OnOk, length};
+ghost use Rattle.std.specs.List.{AllPairs};
+ghost use Rattle.std.specs.Cmp.Lexicographic.{slice_cmp};
+ghost use Rattle.std.specs.Ordering.{nat_cmp};
+ghost use Rattle.std.specs.declared.cmp.Ordering.TheVariants.{Less};
+ghost use Rattle.mo_format.specs.Symbol.{nlist_bytes};
+ghost use Rattle.sym_out.specs.Entries as spec;
+ghost use Rattle.sym_out.specs.inner.Written.{Puts};
+
+use mo_format::Nlist;
+use mo_types::OutOfMemory;
+use std::marker::Model;
+
+/// A symbol of an image (`nlist.h`: `nlist_64`), with its name in place of where that stands.
+#[derive(Drop)]
+pub(crate) struct Entry<'a> {
+    pub name: &'a [u8],
+    pub n_value: u64,
+    pub n_desc: u16,
+    pub n_type: u8,
+    pub n_sect: u8,
+}
+
+impl<'a> Model for Entry<'a> {
+    ghost use Rattle.sym_out.specs.Entries.{Entry as Spelled};
+
+    ghost Value = { Spelled };
+
+    ghost view = { λ entry. record { name = entry.name.now; n_type = entry.n_type; n_sect = entry.n_sect; n_desc = entry.n_desc; n_value = entry.n_value } };
+}
+
+/// A number in a field of 32 bits.
+pub(crate) fn in_32(number: usize) -> u32
+    ensures { result ≡ spec.in_32 number }
+{
+    (number % (1 << 32)) as u32
+}
+
+/// The place of a name among entries by rising names, or `None` exactly where none has it.
+pub(crate) fn place_named(entries: &[Entry], name: &[u8]) -> Option<usize>
+    requires { AllPairs (λ (a : spec.Entry) (b : spec.Entry). slice_cmp nat_cmp a.name b.name ≡ Less) entries.now }
+    ensures { result ≡ spec.place_named entries.now name.now }
+{
+    match entries.binary_search_by(|entry| entry.name.cmp(name)) {
+        Ok(at) => Some(at),
+        Err(_) => None,
+    }
+}
+
+/// Appends an entry and its string.
+pub(crate) fn put_entry(
+    symbols: &mut Vec<u8>,
+    strings: &mut Vec<u8>,
+    entry: &Entry,
+) -> Result<(), OutOfMemory>
+    ensures symbol { OnOk result (symbols.new.items ≡ symbols.old.items ++ nlist_bytes (spec.nlist_of (length strings.old.items) entry.now)) }
+    ensures string { OnOk result (strings.new.items ≡ strings.old.items ++ spec.string_of entry.now) }
+{
+    let symbol = Nlist {
+        n_strx: in_32(strings.len()),
+        n_type: entry.n_type,
+        n_sect: entry.n_sect,
+        n_desc: entry.n_desc,
+        n_value: entry.n_value,
+    };
+    symbol.write(symbols)?;
+    strings.extend_from_slice(entry.name)?;
+    strings.push(0)?;
+    Ok(())
+}
+
+/// Appends entries and their strings.
+pub(crate) fn put_entries(
+    symbols: &mut Vec<u8>,
+    strings: &mut Vec<u8>,
+    entries: &[Entry],
+) -> Result<(), OutOfMemory>
+    ensures { OnOk result (Puts entries.now symbols.old.items strings.old.items symbols.new.items strings.new.items) }
+{
+    for entry in entries {
+        put_entry(symbols, strings, entry)?;
+    }
+    Ok(())
+}
+
+/// Appends zeros, up to a multiple of eight bytes.
+pub(crate) fn pad(strings: &mut Vec<u8>) -> Result<(), OutOfMemory>
+    ensures { OnOk result (strings.new.items ≡ spec.padded strings.old.items) }
+{
+    let zeros = [0; 8];
+    strings.extend_from_slice(&zeros[..(8 - strings.len() % 8) % 8])?;
+    Ok(())
+}
