@@ -11,3 +11,5 @@ pub mod Writing
 pub mod Gathering
 pub mod Ranging
 pub mod LawLemmas
+pub mod WinnerLaws
+pub mod OneLemmas

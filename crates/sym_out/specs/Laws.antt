@@ -1,13 +1,17 @@
 -- What the symbols of an image mean.
-use Rattle.std.specs.Prelude.{ℕ, ◌+◌, ◌*◌, ◌%◌, ◌^◌, ◌≡◌, ◌<◌, ◌⊎◌, List, length, take, drop, slice_index_or}
+use Rattle.std.specs.Prelude.{Contains, ℕ, ◌+◌, ◌*◌, ◌%◌, ◌^◌, ◌≡◌, ◌<◌, ◌⊎◌, true, List, length, take, drop, slice_index_or, Some}
 use Rattle.std.specs.List.{flat_map}
 use Rattle.mo_format.specs.Symbol.{nlist_bytes}
 use Rattle.mo_format.specs.declared.loader.TheConstants.{INDIRECT_SYMBOL_LOCAL}
 use Rattle.mo_types.specs.Goals.{name_of}
 use Rattle.mo_types.specs.declared.goal.Goal.{Goal}
+use Rattle.mo_types.specs.Candidates.{word_of}
+use Rattle.mo_types.specs.declared.loaded.LoadedFile.{LoadedFile}
 use Rattle.slot_plan.specs.declared.list.Slots.{Slots}
+use Rattle.symbol_winners.specs.declared.winner.Winner.{Winner}
 use Rattle.sym_out.specs.Entries.{Entry, nlist_of, string_of, strings_bytes, symbols_bytes}
-use Rattle.sym_out.specs.Symbols.{Ranges, entries_of, indirect_number, parts_of}
+use Rattle.sym_out.specs.Files.{FileSymbol, stands}
+use Rattle.sym_out.specs.Symbols.{Ranges, entries_of, indirect_number, parts_of, winning_symbol}
 
 -- 16 bytes a symbol, and 4 a stub or slot
 pub record HaveSizes (slots : Slots) (ranges : Ranges) : Type 0 where
@@ -33,3 +37,17 @@ pub record IsNumberOf (ranges : Ranges) (goal : Goal) (number : ℕ) : Type 0 wh
 -- what the indirect table has for a goal: the number of its symbol, or that it has none
 abbrev pub LeadsToSymbol : Ranges → Goal → Type 0
 LeadsToSymbol ranges goal = (indirect_number ranges goal ≡ INDIRECT_SYMBOL_LOCAL) ⊎ IsNumberOf ranges goal (indirect_number ranges goal)
+
+-- the symbol that a winner's word tells is the one that won: it has the winner's name and word, and stands where that does
+pub record IsItsSymbol (files : List LoadedFile) (winner : Winner) : Type 0 where
+  pub symbol : FileSymbol
+  pub told : winning_symbol files winner ≡ Some symbol
+  pub named : symbol.symbol.name ≡ winner.name
+  pub external : symbol.symbol.external ≡ true
+  pub word : word_of symbol.file.id symbol.index symbol.symbol ≡ winner.word
+  pub stands_there : stands symbol ≡ Some (record { atom = winner.atom; offset = winner.offset })
+
+-- an entry stands among some, and no other one of its name does
+pub record IsOne (entries : List Entry) (entry : Entry) : Type 0 where
+  pub there : Contains entries entry
+  pub only : (other : Entry) → Contains entries other → other.name ≡ entry.name → other ≡ entry

@@ -25,8 +25,9 @@
 //! atom twice, winners and bound goals by rising names, and for the map atoms of fewer than 2^32 bytes; the one error is
 //! want of memory.
 //!
-//! The laws say that the sizes of the parts are known by counts, that each symbol leads to its name, and that a stub or
-//! slot leads to a symbol of its goal's name. A body that lists atoms by key, one that takes the last name of an atom, one
+//! The laws say that the sizes of the parts are known by counts, that each symbol leads to its name, that a stub or slot
+//! leads to a symbol of its goal's name, that a bound goal and a winner that other images see have one symbol each, and
+//! that a winner's word tells the symbol that won. A body that lists atoms by key, one that takes the last name of an atom, one
 //! that writes a winner at its own literal, and one that tells no symbol for an import don't meet the contracts.
 #![tactic(auto)]
 
@@ -41,6 +42,9 @@ mod placed;
 mod ranges;
 mod sites;
 
-pub use laws::{sizes_are_counts, slots_lead_to_symbols, symbols_lead_to_their_names};
+pub use laws::{
+    bound_goals_have_one_symbol, exported_winners_have_one_symbol, sizes_are_counts,
+    slots_lead_to_symbols, symbols_lead_to_their_names, winners_lead_to_their_symbols,
+};
 pub use map::write_map;
 pub use parts::{SymbolParts, write_symbols};
