@@ -70,7 +70,8 @@ fn indirect_of(alloc: Global, ranges: &Ranges, slots: &Slots) -> Result<Vec<u8>,
 }
 
 /// The symbols of an image, their strings, and the number of the symbol for each of its stubs and slots. `bound` has the
-/// goals that other images have, by name.
+/// goals that other images have, by name. The layout places no atom twice, and has fewer than 256 sections, since a symbol
+/// has 8 bits for the number of its own.
 pub fn write_symbols(
     alloc: Global,
     layout: &Layout,
