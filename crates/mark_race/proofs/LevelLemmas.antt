@@ -50,6 +50,12 @@ length_le n (y ∷ ys) within =
     let one : 1 ≤ total n (λ x. cond (y == x) 1 0) = total_some n (λ x. cond (y == x) 1 0) y (within y (here_times y ys)) (omega (arith, hit y)) in
     omega (arith, sum, one, length_le n ys (λ x has. within x (omega (arith, has, times_cons x y ys))))
 
+-- behind the table there is no row
+pub row_past : (ends : List (List ℕ)) (atom x : ℕ) → length ends ≤ atom → 0 < times x (row_of ends atom) → ⊥
+row_past [] atom x past has = absurd (omega arith)
+row_past (row ∷ rows) zero x past has = absurd (omega arith)
+row_past (row ∷ rows) (suc atom) x past has = row_past rows atom x (omega arith) has
+
 -- an end of some work is one of an atom of it
 from_ends : (ends : List (List ℕ)) (work : List ℕ) (x : ℕ) → 0 < times x (ends_of ends work) → (i : ℕ) × (0 < times i work) × (0 < times x (row_of ends i))
 from_ends ends [] x has = absurd (omega arith)
@@ -85,7 +91,7 @@ start_below start x = ⊎_elim
     (cases_lt x (length start))
 
 -- an atom that is marked is below the number of atoms
-marked_below : (start : List Bool) (x : ℕ) → at_start start x ≡ true → x < length start
+pub marked_below : (start : List Bool) (x : ℕ) → at_start start x ≡ true → x < length start
 marked_below start x is = ⊎_elim (λ (low : x < length start). low) (λ (past : length start ≤ x). absurd (let e : true ≡ false = sym is ∙ at_past start x past in cc)) (cases_lt x (length start))
 
 -- ---- the numbers of the start

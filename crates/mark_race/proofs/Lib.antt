@@ -6,3 +6,6 @@ pub mod Gathers
 pub mod Teams
 pub mod LevelLemmas
 pub mod Tables
+pub mod FillLemmas
+pub mod NumberLemmas
+pub mod KeepLemmas

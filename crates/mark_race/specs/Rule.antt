@@ -1,5 +1,6 @@
 -- The rule of a race's table: a bit is set where an atom is marked, and each atom that was marked first is gained by one marker.
-use Rattle.std.specs.Prelude.{◌≡◌, ◌≢◌, ℕ, ◌+◌, ◌-◌, ◌/◌, ◌%◌, ◌^◌, ◌==◌, ◌&&◌, ◌||◌, ◌<◌, ◌≤◌, Bool, false, not, List, [], ◌∷◌, ◌++◌, All, cond, length, nat_lt, slice_index, sum_by}
+use Rattle.std.specs.Prelude.{◌≡◌, ◌≢◌, ℕ, ◌+◌, ◌-◌, ◌/◌, ◌%◌, ◌^◌, ◌==◌, ◌&&◌, ◌||◌, ◌<◌, ◌≤◌, Bool, false, not}
+use Rattle.std.specs.Prelude.{List, [], ◌∷◌, ◌++◌, All, cond, length, nat_lt, slice_index, sum_by}
 use Rattle.std.specs.Int.{bit_at}
 use mathlib.Core.Option.{some}
 use lib.ListN.{get_elem?}
@@ -47,7 +48,8 @@ marked_by views atom = sum_by (λ v. times atom v.marks) views
 abbrev pub gained_by : List View → ℕ → ℕ
 gained_by views atom = sum_by (λ v. times atom v.gains) views
 
--- What a marker with passes knows of its race, and that one without passes has no marks and no gains. It marks atoms of the race alone, and marked what it gained.
+-- What a marker with passes knows of its race, and that one without passes has no marks and no gains. It marks atoms of the race
+-- alone, and marked what it gained.
 pub record Fits (terms : Terms) (v : View) : Type 0 where
   pub start : 0 < v.passes → v.start ≡ terms.start.items
   pub all_passes : 0 < v.passes → v.all_passes ≡ terms.passes
@@ -56,10 +58,12 @@ pub record Fits (terms : Terms) (v : View) : Type 0 where
   pub within : (atom : ℕ) → 0 < times atom v.marks → atom < length terms.start.items
   pub marked : (atom : ℕ) → times atom v.gains ≤ times atom v.marks
 
--- The bits are those of the atoms of the start and of the markers' marks. Each marked atom that wasn't at the start is gained once, by one marker, and no other atom is gained. No pass is lost or made.
+-- The bits are those of the atoms of the start and of the markers' marks. Each marked atom that wasn't at the start is gained
+-- once, by one marker, and no other atom is gained. No pass is lost or made.
 pub record IsMarking (terms : Terms) (s : State (Unit {0}) View) : Type 0 where
   pub words : length s.words ≡ length terms.start.items / 64 + 1
-  pub bits : (atom : ℕ) → atom < length terms.start.items → bit_of s.words atom ≡ cond (at_start terms.start.items atom || nat_lt 0 (marked_by s.views atom)) 1 0
+  pub bits : (atom : ℕ) → atom < length terms.start.items
+      → bit_of s.words atom ≡ cond (at_start terms.start.items atom || nat_lt 0 (marked_by s.views atom)) 1 0
   pub gained : (atom : ℕ) → gained_by s.views atom ≡ cond (nat_lt 0 (marked_by s.views atom) && not (at_start terms.start.items atom)) 1 0
   pub passes : sum_by (λ v. v.passes) s.views ≡ terms.passes
   pub views : (seat : ℕ) (v : View) → get_elem? s.views seat ≡ some v → Fits terms v
@@ -67,7 +71,8 @@ pub record IsMarking (terms : Terms) (s : State (Unit {0}) View) : Type 0 where
 -- What a mark of an atom tells: where its bit wasn't set, it wasn't marked at the start, nor by this marker
 abbrev pub Marked : Step (Unit {0}) → Me (Unit {0}) View → ℕ → Me (Unit {0}) View → Type 0
 Marked s me found after = (atom : ℕ) → s.word ≡ atom / 64 → s.first ≡ 2 ^ (atom % 64)
-    → (bit_at found (atom % 64) ≡ 0 → (at_start me.0.start atom || nat_lt 0 (times atom me.0.marks)) ≡ false) × (after ≡ (with_mark me.0 atom found, me.1))
+    → (bit_at found (atom % 64) ≡ 0 → (at_start me.0.start atom || nat_lt 0 (times atom me.0.marks)) ≡ false)
+    × (after ≡ (with_mark me.0 atom found, me.1))
 
 -- What a look tells: each atom was gained once, and is one of the race
 abbrev pub Looked : Step (Unit {0}) → Me (Unit {0}) View → ℕ → Me (Unit {0}) View → Type 0

@@ -1,5 +1,6 @@
 //! Where arrows lead, by the numbers of atoms.
-ghost use Rattle.std.specs.Prelude.{◌≡◌, ◌<◌, ◌++◌, ◌∷◌, [], IfOk, get_or, length};
+ghost use Rattle.std.specs.Prelude.{◌≡◌, ◌<◌, ◌++◌, ◌∷◌, [], All, IfOk, get_or, length};
+ghost use Rattle.mark_race.specs.inner.Rows.{IsWithin, rows};
 
 use mo_types::OutOfMemory;
 use std::alloc::Global;
@@ -56,6 +57,14 @@ impl EndTable {
         let to = ends.len();
         places.push(Places { from, to })?;
         Ok(EndTable { places, ends })
+    }
+
+    /// The table of these ends, by the places of each atom's.
+    pub(crate) fn of_places(places: Vec<Places>, ends: Vec<u32>) -> EndTable
+        requires { All (IsWithin (length ends.items)) places.items }
+        ensures { result ≡ rows ends.items places.items }
+    {
+        EndTable { places, ends }
     }
 
     /// How many atoms there are.
