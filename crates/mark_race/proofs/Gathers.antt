@@ -1,10 +1,10 @@
 -- Workers that are made of markers, and give them back.
-use Rattle.std.proofs.Common.{◌≡◌, ℕ, ◌+◌, ◌<◌, ◌≤◌, Bool, false, List, [], ◌∷◌, ◌++◌, All, length, get_or, map, cond, refl, sym, ◌∙◌, ap, ap₂, subst, arith}
+use Rattle.std.proofs.Common.{◌≡◌, ℕ, ◌+◌, ◌<◌, List, [], ◌∷◌, ◌++◌, All, length, get_or, map, cond, refl, sym, ◌∙◌, ap, ap₂, subst, arith}
 use Rattle.std.specs.Prelude.{sum_by, is_err, Result, Ok}
 use Rattle.mo_types.specs.declared.memory.OutOfMemory.{OutOfMemory}
 use Rattle.std.proofs.lemmas.List.{get_or-map, length-map, map-append}
 use Rattle.std.proofs.lemmas.List.Sums.{sum_by-cons, sum_by-append}
-use Rattle.mark_race.specs.Level.{HaveMarked, marks_by, gains_by}
+use Rattle.mark_race.specs.Level.{HaveMarked}
 use Rattle.mark_race.specs.Marks.{Holding, Race, times}
 use Rattle.mark_race.specs.declared.level.Worker.{Worker}
 use Rattle.mark_race.specs.inner.Working.{AllMarked, AreFresh, AreGathered, lost}

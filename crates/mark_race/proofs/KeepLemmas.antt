@@ -1,12 +1,12 @@
 -- The roots, and the atoms that are marked by numbers, are what is kept.
-use Rattle.std.proofs.Common.{◌≡◌, ◌≢◌, ℕ, zero, suc, ◌+◌, ◌<◌, ◌≤◌, ◌⊎◌, Bool, true, false, List, [], ◌∷◌, ◌++◌, All, Contains, map, length, take, get_or, cond, inl, inr, refl, sym, ◌∙◌, ap, subst, arith, length-append}
+use Rattle.std.proofs.Common.{◌≡◌, ℕ, ◌+◌, ◌<◌, ◌⊎◌, Bool, true, false, List, [], ◌∷◌, ◌++◌, All, map, length, cond, inl, inr, refl, sym, ◌∙◌, ap, subst, arith}
 use Rattle.std.specs.List.{IsDistinct, filter}
 use Rattle.std.specs.List.Sorted.{IsStrictlySortedBy}
 use Rattle.std.proofs.lemmas.Bool.{cases_eq, cases_lt, eqb-true}
 use Rattle.std.proofs.lemmas.List.{append-nil, get_or-map, length-map}
 use Rattle.std.proofs.lemmas.List.Elements.{All-contains, All-from_get_or, All-from_recursion}
 use Rattle.std.proofs.lemmas.Map.Keys.{apart_from_distinct}
-use Rattle.list_lemmas.proofs.Members.{In, Contains_from_in, all_from_in, from_filter, from_last, from_map, in_either, in_filter, in_from_Contains, in_last, in_left, in_map, in_right}
+use Rattle.list_lemmas.proofs.Members.{In, Contains_from_in, all_from_in, from_filter, from_last, from_map, in_either, in_filter, in_last, in_left, in_map, in_right}
 use Rattle.mo_types.specs.Keys.{compare_keys}
 use Rattle.mo_types.specs.declared.edge.Edge.{Edge}
 use Rattle.mo_types.specs.declared.key.AtomKey.{AtomKey}

@@ -1,12 +1,11 @@
 -- Levels of marks, from the atoms of the start to where nothing is new.
-use Rattle.std.proofs.Common.{◌≡◌, ◌≢◌, ℕ, zero, suc, ◌+◌, ◌-◌, ◌*◌, ◌^◌, ◌<◌, ◌≤◌, ◌⊎◌, min, Bool, true, false, List, [], ◌∷◌, ◌++◌, All, length, get_or, cond, inl, inr, refl, sym, ◌∙◌, ap, subst, ⊎_elim, arith}
+use Rattle.std.proofs.Common.{◌≡◌, ◌≢◌, ℕ, zero, suc, ◌+◌, ◌-◌, ◌*◌, ◌^◌, ◌<◌, ◌≤◌, min, Bool, true, false, List, [], ◌∷◌, ◌++◌, All, length, get_or, cond, refl, sym, ◌∙◌, ap, subst, ⊎_elim, arith}
 use Rattle.std.specs.Prelude.{◌==◌, ◌&&◌, ◌||◌, not, nat_lt}
-use Rattle.std.specs.List.{flat_map}
-use Rattle.std.proofs.lemmas.Bool.{cases_Bool, cases_eq, cases_lt}
+use Rattle.std.proofs.lemmas.Bool.{cases_eq, cases_lt}
 use Rattle.std.proofs.lemmas.Bool.Decides.{nat_tests}
 use Rattle.std.proofs.lemmas.List.Concat.{flat_map-append}
 use Rattle.mark_race.specs.Ends.{ends_of, row_of}
-use Rattle.mark_race.specs.Least.{AreLeast, IsClosedFor}
+use Rattle.mark_race.specs.Least.{AreLeast}
 use Rattle.mark_race.specs.Marks.{AreGains, Holding, Race, at_start, is_marked, times}
 use Rattle.mark_race.specs.inner.Team.{ArePlaces, IsAtLevel, IsNext}
 use Rattle.mark_race.proofs.Steps.{gain_le, times-append, times_cons}

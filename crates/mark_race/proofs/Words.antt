@@ -1,9 +1,9 @@
 -- Bits of words, one more set.
-use Rattle.std.proofs.Common.{◌≡◌, ◌≢◌, ℕ, zero, suc, ◌+◌, ◌*◌, ◌/◌, ◌%◌, ◌^◌, ◌<◌, ◌≤◌, ◌⊎◌, Bool, true, false, List, [], ◌∷◌, ◌++◌, length, take, replicate, get_or, set, cond, refl, sym, ◌∙◌, ap, subst, ⊎_elim, arith, get_or-set_same, get_or-set_other}
-use Rattle.std.specs.Prelude.{◌==◌, ◌&&◌, ◌||◌, nat_lt, bit_or, bit_and, nat_eq}
+use Rattle.std.proofs.Common.{◌≡◌, ◌≢◌, ℕ, zero, suc, ◌+◌, ◌*◌, ◌/◌, ◌%◌, ◌^◌, ◌<◌, ◌≤◌, Bool, true, false, List, [], ◌∷◌, ◌++◌, length, take, replicate, get_or, set, cond, refl, sym, ◌∙◌, ap, subst, ⊎_elim, arith, get_or-set_same, get_or-set_other}
+use Rattle.std.specs.Prelude.{◌==◌, ◌&&◌, nat_lt, bit_or, bit_and, nat_eq}
 use Rattle.std.proofs.lemmas.List.{length-set}
 use Rattle.std.specs.Int.{bit_at}
-use Rattle.std.proofs.lemmas.Bool.{cases_eq, cases_lt}
+use Rattle.std.proofs.lemmas.Bool.{cases_eq}
 use Rattle.std.proofs.lemmas.Bool.Decides.{nat_tests}
 use Rattle.std.proofs.lemmas.Nat.{one_shl, pow_pos}
 use native.Mathlib.Nat.{zero-mul, suc-mul}

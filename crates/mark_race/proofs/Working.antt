@@ -1,8 +1,7 @@
 -- What workers mark, one atom after the other.
 use Rattle.std.proofs.Common.{◌≡◌, ℕ, ◌+◌, ◌<◌, ◌≤◌, Bool, true, false, List, [], ◌∷◌, ◌++◌, All, length, get_or, take, map, cond, refl, sym, ◌∙◌, ap, ap₂, subst, arith}
-use Rattle.std.specs.Prelude.{sum_by, count_by, is_err}
+use Rattle.std.specs.Prelude.{sum_by, is_err}
 use Rattle.std.specs.List.{flat_map, range_with_len}
-use Rattle.std.specs.List.Sorted.{IsPermutation}
 use Rattle.std.proofs.lemmas.List.{get_or-map, length-map, take_all, take_more}
 use Rattle.std.proofs.lemmas.List.Concat.{flat_map-append}
 use Rattle.std.proofs.lemmas.List.FromFn.{fill_by_all}
@@ -15,7 +14,7 @@ use Rattle.mark_race.specs.Ends.{ends_of, row_of}
 use Rattle.mark_race.specs.Marks.{Holding, Race, times}
 use Rattle.mark_race.specs.declared.level.Worker.{Worker}
 use Rattle.mark_race.specs.inner.Working.{AllMarked, AreWorkable, HasMarked, lost, row_of_job}
-use Rattle.mark_race.proofs.Steps.{times-append, times_cons}
+use Rattle.mark_race.proofs.Steps.{times-append}
 
 -- ---- one worker
 

@@ -1,6 +1,6 @@
 -- The rule of a race's table: a bit is set where an atom is marked, and each atom that was marked first is gained by one marker.
 use Rattle.std.specs.Prelude.{◌≡◌, ◌≢◌, ℕ, ◌+◌, ◌-◌, ◌/◌, ◌%◌, ◌^◌, ◌==◌, ◌&&◌, ◌||◌, ◌<◌, ◌≤◌, Bool, false, not}
-use Rattle.std.specs.Prelude.{List, [], ◌∷◌, ◌++◌, All, cond, length, nat_lt, slice_index, sum_by}
+use Rattle.std.specs.Prelude.{List, [], ◌∷◌, ◌++◌, cond, length, nat_lt, slice_index, sum_by}
 use Rattle.std.specs.Int.{bit_at}
 use mathlib.Core.Option.{some}
 use lib.ListN.{get_elem?}

@@ -1,5 +1,5 @@
 -- Atoms by numbers, and arrows between them.
-use Rattle.std.specs.Prelude.{◌≡◌, ℕ, ◌+◌, ◌*◌, ◌<◌, ◌≤◌, ◌++◌, ◌==◌, Bool, List, All, length, map, get_or, true, cond}
+use Rattle.std.specs.Prelude.{◌≡◌, ℕ, ◌+◌, ◌*◌, ◌<◌, ◌≤◌, ◌++◌, ◌==◌, Bool, List, All, length, map, get_or, true}
 use Rattle.std.specs.List.{IsDistinct, filter}
 use Rattle.mark_core.specs.Kept.{same_atom}
 use Rattle.mo_types.specs.declared.edge.Edge.{Edge}

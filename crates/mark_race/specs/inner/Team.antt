@@ -1,5 +1,5 @@
 -- Markers that were made of one, levels that were marked, and the work that is left.
-use Rattle.std.specs.Prelude.{◌≡◌, ◌<◌, ◌≤◌, ◌+◌, ◌^◌, ◌&&◌, ℕ, Bool, true, List, All, cond, length, nat_lt, sum_by}
+use Rattle.std.specs.Prelude.{◌≡◌, ◌<◌, ◌≤◌, ◌+◌, ◌&&◌, ℕ, Bool, true, List, All, cond, length, nat_lt, sum_by}
 use Rattle.mark_race.specs.Marks.{Holding, Race, at_start, times}
 use Rattle.mark_race.specs.Ends.{ends_of}
 use Rattle.mark_race.specs.Least.{IsClosedFor}

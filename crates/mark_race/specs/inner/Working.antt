@@ -1,5 +1,5 @@
 -- Markers at work, and what they note of their gains.
-use Rattle.std.specs.Prelude.{◌≡◌, ◌<◌, ◌≤◌, ◌+◌, ℕ, Bool, false, List, All, [], get_or, length, count_by, is_err, map, sum_by}
+use Rattle.std.specs.Prelude.{◌≡◌, ◌<◌, ◌≤◌, ◌+◌, ℕ, false, List, All, [], get_or, length, count_by, is_err, map, sum_by}
 use Rattle.mark_race.specs.Marks.{Holding, times}
 use Rattle.mark_race.specs.Ends.{row_of}
 use Rattle.mark_race.specs.declared.level.Worker.{Worker}

@@ -1,6 +1,6 @@
 use Rattle.std.proofs.Common.{◌<◌, ◌%◌, refl, arith}
 use Rattle.std.proofs.lemmas.Nat.{one_shl}
-use Rattle.mark_race.proofs.Words.{noted_set, noted_not}
+use Rattle.mark_race.proofs.Words.{noted_set}
 use Rattle.mark_race.proofs.bits.note.Goals as goal
 
 pub returns-then-is : goal.returns-then-is

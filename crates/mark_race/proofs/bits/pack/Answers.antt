@@ -1,4 +1,4 @@
-use Rattle.std.proofs.Common.{◌≡◌, ◌≤◌, ◌∙◌, ◌++◌, ℕ, List, drop, length, take, ap, sym, arith}
+use Rattle.std.proofs.Common.{◌≡◌, ◌∙◌, ℕ, List, drop, length, ap, sym, arith}
 use Rattle.mark_race.specs.Rule.{bit_of}
 use Rattle.mark_race.proofs.Words.{front_is, packed_none, packed_end}
 use Rattle.mark_race.proofs.bits.pack.Goals as goal

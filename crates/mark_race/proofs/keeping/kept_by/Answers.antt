@@ -1,6 +1,6 @@
-use Rattle.std.proofs.Common.{◌^◌, ◌++◌, map}
+use Rattle.std.proofs.Common.{◌++◌, map}
 use Rattle.mark_core.specs.inner.Arrows.{reversed}
-use Rattle.mark_race.proofs.KeepLemmas.{arrows_within, kept_of_read, picked_long, start_few, table_fits, table_long}
+use Rattle.mark_race.proofs.KeepLemmas.{kept_of_read, table_fits}
 use Rattle.mark_race.proofs.keeping.kept_by.Goals as goal
 
 pub returns : goal.returns

@@ -1,4 +1,4 @@
-use Rattle.std.proofs.Common.{get_or, refl, sym}
+use Rattle.std.proofs.Common.{refl, sym}
 use Rattle.std.proofs.lemmas.Option.{get_or_from_slice_get}
 use Rattle.mark_core.proofs.KeyLemmas.{no_atom}
 use Rattle.mark_race.proofs.KeepLemmas.{picked_more}

@@ -1,5 +1,4 @@
 use Rattle.mark_race.specs.Ends.{ends_of}
-use Rattle.mark_race.specs.inner.Working.{AreWorkable}
 use Rattle.mark_race.proofs.Gathers.{all_fit, level_is}
 use Rattle.mark_race.proofs.Working.{level_marked}
 use Rattle.std.proofs.Common.{length}

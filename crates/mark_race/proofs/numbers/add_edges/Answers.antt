@@ -1,5 +1,5 @@
 use Rattle.mark_core.proofs.KeyLemmas.{no_atom}
-use Rattle.mark_race.proofs.NumberLemmas.{edge_next, edges_end}
+use Rattle.mark_race.proofs.NumberLemmas.{edge_next}
 use Rattle.mark_race.proofs.numbers.add_edges.Goals as goal
 
 pub loop-edge-preserved : goal.loop-edge-preserved

@@ -1,5 +1,5 @@
 use Rattle.mark_core.proofs.KeyLemmas.{no_atom}
-use Rattle.mark_race.proofs.NumberLemmas.{support_next, supports_end}
+use Rattle.mark_race.proofs.NumberLemmas.{support_next}
 use Rattle.mark_race.proofs.numbers.add_supports.Goals as goal
 
 pub loop-support-preserved : goal.loop-support-preserved
