@@ -1,9 +1,11 @@
 //! Tests of marks that are raced for, outside of their crate: marks that were counted by hand, two workers that meet, long
-//! chains, wide stars and rings, and graphs beside a plain search.
+//! chains, wide stars and rings, and graphs beside a plain search. And what workers keep, beside what one thread keeps.
 #![tactic(auto)]
 
 #[cfg(test)]
 mod graphs;
+#[cfg(test)]
+mod keeping;
 #[cfg(test)]
 mod marks;
 #[cfg(test)]

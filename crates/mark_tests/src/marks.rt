@@ -3,6 +3,9 @@ ghost use Rattle.std.specs.Prelude.{◌<◌};
 
 use crate::first_wrong;
 use crate::graphs::{marked, row_fits, searched, table_fits};
+use crate::keeping::{
+    chain_is_kept, graphs_are_kept, keeping_meets, ring_is_kept, star_is_kept, support_is_kept,
+};
 use crate::tables::{chain, rings, scattered, star};
 use mark_race::{EndTable, MarkRace, mark_level};
 use mo_outside::{FreeGate, MeetGate};
@@ -135,5 +138,33 @@ fn marks_and_levels(rt: HostRuntime) -> Result<(), Fail> {
         ("graphs", graphs_are_searched(&rt, alloc)?),
     ]);
     assert!(rt; wrong.is_empty(), "{wrong}");
+    Ok(())
+}
+
+// Kept atoms, by several numbers of workers.
+#[test]
+fn kept_by_workers(rt: HostRuntime) -> Result<(), Fail> {
+    let alloc = rt.alloc();
+    let wrong = first_wrong(&[
+        ("meets", keeping_meets(&rt, alloc)?),
+        ("support", support_is_kept(&rt, alloc)?),
+        ("ring", ring_is_kept(&rt, alloc)?),
+        ("graphs", graphs_are_kept(&rt, alloc)?),
+    ]);
+    assert!(rt; wrong.is_empty(), "{wrong}");
+    Ok(())
+}
+
+// A chain whose atoms workers keep, each in a level of its own.
+#[test]
+fn chain_kept_by_workers(rt: HostRuntime) -> Result<(), Fail> {
+    assert!(rt; chain_is_kept(&rt, rt.alloc())?);
+    Ok(())
+}
+
+// Many atoms that workers keep in one level.
+#[test]
+fn star_kept_by_workers(rt: HostRuntime) -> Result<(), Fail> {
+    assert!(rt; star_is_kept(&rt, rt.alloc())?);
     Ok(())
 }

@@ -39,8 +39,8 @@ pub(crate) fn rings(alloc: Global, count: u32) -> Result<EndTable, OutOfMemory> 
     Ok(table)
 }
 
-// The next of some numbers without a pattern.
-fn next(number: u32) -> u32 {
+/// The next of some numbers without a pattern.
+pub(crate) fn next(number: u32) -> u32 {
     let mut next = number;
     next ^= next.wrapping_shl(13);
     next ^= next.wrapping_shr(17);
