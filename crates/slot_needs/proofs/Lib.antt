@@ -1,0 +1,4 @@
+pub mod FileLemmas
+pub mod GatheringLemmas
+pub mod SlotLemmas
+pub mod WalkLemmas
