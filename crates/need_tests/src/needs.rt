@@ -1,5 +1,5 @@
 //! Each kind of reference to each kind of goal, and what it needs (`mach-o/arm64/reloc.h`).
-ghost use Rattle.std.specs.Prelude.{◌≡◌, [], ◌∷◌, ℕ, IfOk};
+ghost use Rattle.std.specs.Prelude.{IfOk};
 ghost use Rattle.std.specs.List.Sorted.{IsStrictlySortedBy};
 ghost use Rattle.mo_types.specs.Keys.{compare_keys};
 
@@ -8,13 +8,221 @@ use mark_core::kept;
 use mo_cmd::read_all_words;
 use mo_types::{
     Arg, ArgList, Bytes, EdgeList, Goal, Items, KeyList, Loaded, LoadedFile, LoadedList, NameList,
-    ObjectList, OutOfMemory, Ref, RefKind, SectionList, SymbolList, Target,
+    OutOfMemory, Ref, RefKind, SectionList, SymbolList, Target,
 };
 use name_ids::gather;
 use resolve::{GoalTable, PlaceList};
 use slot_needs::{Referring, needs};
-use slot_plan::Way;
+use slot_plan::{NeedList, Way};
 use std::alloc::Global;
 use std::test::Fail;
 use symbol_winners::{SymbolTable, least_words, winners};
 use test_objects::{file, file_id, key, object, only};
+
+// Where a reference leads.
+#[derive(Clone, Copy)]
+enum To {
+    Atom,
+    Weak,
+    Header,
+    Library,
+    Anywhere,
+}
+
+// A reference with its addend, and how it needs its goal.
+type Row = (RefKind, i64, To, Option<Way>);
+
+const ROWS: [Row; 20] = [
+    (RefKind::Branch, 0, To::Atom, None),
+    (RefKind::Branch, 0, To::Weak, Some(Way::Stub)),
+    (RefKind::Branch, 0, To::Header, None),
+    (RefKind::Branch, 0, To::Library, Some(Way::Stub)),
+    (RefKind::Branch, 0, To::Anywhere, Some(Way::Stub)),
+    (RefKind::Branch, 4, To::Weak, None),
+    (RefKind::Branch, -4, To::Library, None),
+    (RefKind::Pointer, 0, To::Library, None),
+    (RefKind::Pointer, 8, To::Weak, None),
+    (RefKind::Diff32, 0, To::Weak, None),
+    (RefKind::Diff64, 0, To::Atom, None),
+    (RefKind::Page, 0, To::Weak, None),
+    (RefKind::PageOff, 0, To::Header, None),
+    (RefKind::GotPage, 0, To::Atom, Some(Way::Got)),
+    (RefKind::GotPageOff, 0, To::Library, Some(Way::Got)),
+    (RefKind::GotDelta, 0, To::Weak, Some(Way::Got)),
+    (RefKind::GotPointer, 0, To::Header, Some(Way::Got)),
+    (RefKind::TlvPage, 0, To::Atom, Some(Way::Tlv)),
+    (RefKind::TlvPageOff, 0, To::Anywhere, Some(Way::Tlv)),
+    (RefKind::TlvPage, 0, To::Library, Some(Way::Tlv)),
+];
+
+// Where an executable begins, and whether that needs a stub.
+const ENTRIES: [(To, bool); 5] = [
+    (To::Atom, false),
+    (To::Weak, false),
+    (To::Header, false),
+    (To::Library, true),
+    (To::Anywhere, true),
+];
+
+fn goal_of(to: To) -> Goal {
+    match to {
+        To::Atom => Goal::Def(key(1, 1, 0), 16),
+        To::Weak => Goal::WeakSelf(Bytes::from_static(b"_weak"), key(1, 1, 0), 0),
+        To::Header => Goal::Header,
+        To::Library => Goal::Import {
+            name: Bytes::from_static(b"_puts"),
+            ordinal: 1,
+            by_weak: false,
+            optional: false,
+        },
+        To::Anywhere => Goal::Flat(Bytes::from_static(b"_anywhere")),
+    }
+}
+
+// A file whose one atom refers twice to its one symbol.
+fn referring_file(alloc: Global, kind: RefKind, addend: i64) -> Result<LoadedFile, OutOfMemory> {
+    let mut file = file(
+        alloc,
+        file_id(1),
+        object(SectionList::new(alloc), SymbolList::new(alloc)),
+    );
+    for place in [0u64, 8] {
+        file.refs.push(Ref {
+            atom: key(1, 1, 0),
+            place,
+            file_place: place,
+            kind,
+            target: Target::Name(0),
+            minus: None,
+            addend,
+        })?;
+    }
+    Ok(file)
+}
+
+// The goals of a file with one symbol.
+fn table_of(alloc: Global, goal: Goal) -> Result<GoalTable, OutOfMemory> {
+    let pool = vec![in alloc; goal]?;
+    let mut files = Items::new(alloc);
+    files.push(PlaceList::from_vec(vec![in alloc; 0u32]?))?;
+    Ok(GoalTable::new(pool, files))
+}
+
+// The file's atom, or no atom.
+fn keys_of(alloc: Global, is_kept: bool) -> Result<KeyList, OutOfMemory>
+    ensures { IfOk result (λ keys. IsStrictlySortedBy compare_keys keys) }
+{
+    let mut roots = KeyList::new(alloc);
+    if is_kept {
+        roots.push(key(1, 1, 0))?;
+    }
+    kept(alloc, &EdgeList::new(alloc), &EdgeList::new(alloc), &roots)
+}
+
+// Whether the needs are that of a goal in a way, once, or none.
+fn are(needs: &NeedList, to: To, way: Option<Way>) -> bool {
+    match (way, needs.as_slice().first()) {
+        (None, None) => true,
+        (Some(way), Some(need)) => {
+            needs.len() == 1 && need.way == way && need.goal.is_same(&goal_of(to))
+        }
+        _ => false,
+    }
+}
+
+// Whether a reference of an atom needs its goal as it is to, where the atom is kept, and else nothing.
+fn row_holds(
+    alloc: Global,
+    symbols: &SymbolTable,
+    row: &Row,
+    is_kept: bool,
+) -> Result<bool, OutOfMemory> {
+    let (kind, addend, to, way) = *row;
+    let loaded = only(alloc, referring_file(alloc, kind, addend)?)?;
+    let goals = table_of(alloc, goal_of(to))?;
+    let keys = keys_of(alloc, is_kept)?;
+    let referring = Referring {
+        loaded: &loaded,
+        goals: &goals,
+        symbols,
+        keys: &keys,
+        entry: None,
+    };
+    let found = needs(alloc, &referring)?;
+    Ok(are(&found, to, if is_kept { way } else { None }))
+}
+
+// Whether an entry needs what it is to.
+fn entry_holds(
+    alloc: Global,
+    symbols: &SymbolTable,
+    to: To,
+    by_stub: bool,
+) -> Result<bool, OutOfMemory> {
+    let loaded = Loaded {
+        files: LoadedList::new(alloc),
+    };
+    let goals = table_of(alloc, Goal::Nobody)?;
+    let keys = keys_of(alloc, true)?;
+    let entry = goal_of(to);
+    let referring = Referring {
+        loaded: &loaded,
+        goals: &goals,
+        symbols,
+        keys: &keys,
+        entry: Some(&entry),
+    };
+    let found = needs(alloc, &referring)?;
+    Ok(are(&found, to, if by_stub { Some(Way::Stub) } else { None }))
+}
+
+fn all_hold(alloc: Global, symbols: &SymbolTable) -> Result<bool, OutOfMemory> {
+    for row in &ROWS {
+        if !row_holds(alloc, symbols, row, true)? || !row_holds(alloc, symbols, row, false)? {
+            return Ok(false);
+        }
+    }
+    for (to, by_stub) in &ENTRIES {
+        if !entry_holds(alloc, symbols, *to, *by_stub)? {
+            return Ok(false);
+        }
+    }
+    Ok(true)
+}
+
+// The same, with the symbols of a link without files.
+fn hold_by(alloc: Global, command: &Command) -> Result<bool, OutOfMemory> {
+    let none = Loaded {
+        files: LoadedList::new(alloc),
+    };
+    let extra = NameList::new(alloc);
+    match gather(alloc, &none, &extra) {
+        Ok(all) => {
+            let words = least_words(alloc, &none, &all.names, &all.numbers)?;
+            let symbols = winners(
+                alloc,
+                &none,
+                &all.names,
+                &all.numbers,
+                words.as_slice(),
+                command,
+            )?;
+            all_hold(alloc, &symbols)
+        }
+        Err(_) => Ok(false),
+    }
+}
+
+#[test]
+fn references_need_slots(rt: HostRuntime) -> Result<(), Fail> {
+    let alloc = rt.alloc();
+    let mut words = ArgList::new(alloc);
+    for word in ["-o", "out", "main.o"] {
+        words.push(Arg::new(String::from_str(alloc, word)?))?;
+    }
+    match &read_all_words(alloc, &words) {
+        Ok(command) => assert!(rt; hold_by(alloc, command)?),
+        Err(_) => assert!(rt; false),
+    }
+    Ok(())
+}
