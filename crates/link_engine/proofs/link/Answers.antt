@@ -1,6 +1,5 @@
-use Rattle.std.proofs.Common.{◌≡◌, ◌≢◌, Ok, Err, ap, map, refl}
+use Rattle.std.proofs.Common.{Ok, Err, ap, map, refl}
 use Rattle.file_cache.specs.Kept.{exchange_kept}
-use Rattle.mo_types.specs.declared.answer.Status.TheVariants.{OutOfMemory}
 use Rattle.link_engine.proofs.LinkLemmas.{answered, fault_ends, files_still, plan_ends, read_fault_rises, settles_ended, settles_plan, settles_told, usage_told}
 use Rattle.link_engine.proofs.SaysLemmas.{untouched}
 use Rattle.link_engine.proofs.link.Goals as goal
