@@ -1,7 +1,10 @@
 //! Each kind of reference to each kind of goal, and what it needs (`mach-o/arm64/reloc.h`).
-ghost use Rattle.std.specs.Prelude.{IfOk};
+ghost use Rattle.std.specs.Prelude.{◌≡◌, IfOk};
 ghost use Rattle.std.specs.List.Sorted.{IsStrictlySortedBy};
 ghost use Rattle.mo_types.specs.Keys.{compare_keys};
+ghost use Rattle.mo_types.specs.Loaded.{IsWholeLoaded};
+ghost use Rattle.name_ids.specs.Names.{numbers_of};
+ghost use Rattle.symbol_winners.specs.Found.{AreNamed};
 
 use command_line::Command;
 use mark_core::kept;
@@ -10,7 +13,7 @@ use mo_types::{
     Arg, ArgList, Bytes, EdgeList, Goal, Items, KeyList, Loaded, LoadedFile, LoadedList, NameList,
     OutOfMemory, Ref, RefKind, SectionList, SymbolList, Target,
 };
-use name_ids::gather;
+use name_ids::{NameTable, NumberList, gather};
 use resolve::{GoalTable, PlaceList};
 use slot_needs::{Referring, needs};
 use slot_plan::{NeedList, Way};
@@ -141,12 +144,13 @@ fn row_holds(
     let loaded = only(alloc, referring_file(alloc, kind, addend)?)?;
     let goals = table_of(alloc, goal_of(to))?;
     let keys = keys_of(alloc, is_kept)?;
+    let entry = Goal::Header;
     let referring = Referring {
         loaded: &loaded,
         goals: &goals,
         symbols,
         keys: &keys,
-        entry: None,
+        entry: Some(&entry),
     };
     let found = needs(alloc, &referring)?;
     Ok(are(&found, to, if is_kept { way } else { None }))
@@ -190,25 +194,30 @@ fn all_hold(alloc: Global, symbols: &SymbolTable) -> Result<bool, OutOfMemory> {
     Ok(true)
 }
 
-// The same, with the symbols of a link without files.
-fn hold_by(alloc: Global, command: &Command) -> Result<bool, OutOfMemory> {
-    let none = Loaded {
-        files: LoadedList::new(alloc),
-    };
+// The same, with the symbols of files whose names have numbers.
+fn hold_with(
+    alloc: Global,
+    loaded: &Loaded,
+    names: &NameTable,
+    numbers: &Items<NumberList>,
+    command: &Command,
+) -> Result<bool, OutOfMemory>
+    requires whole { IsWholeLoaded loaded.now }
+    requires named { AreNamed names.now loaded.now.files }
+    requires numbers { numbers.now ≡ numbers_of names.now loaded.now.files }
+{
+    let words = least_words(alloc, loaded, names, numbers)?;
+    let symbols = winners(alloc, loaded, names, numbers, words.as_slice(), command)?;
+    all_hold(alloc, &symbols)
+}
+
+// The same, of files whose names have no numbers yet.
+fn hold_by(alloc: Global, loaded: &Loaded, command: &Command) -> Result<bool, OutOfMemory>
+    requires { IsWholeLoaded loaded.now }
+{
     let extra = NameList::new(alloc);
-    match gather(alloc, &none, &extra) {
-        Ok(all) => {
-            let words = least_words(alloc, &none, &all.names, &all.numbers)?;
-            let symbols = winners(
-                alloc,
-                &none,
-                &all.names,
-                &all.numbers,
-                words.as_slice(),
-                command,
-            )?;
-            all_hold(alloc, &symbols)
-        }
+    match gather(alloc, loaded, &extra) {
+        Ok(all) => hold_with(alloc, loaded, &all.names, &all.numbers, command),
         Err(_) => Ok(false),
     }
 }
@@ -220,8 +229,11 @@ fn references_need_slots(rt: HostRuntime) -> Result<(), Fail> {
     for word in ["-o", "out", "main.o"] {
         words.push(Arg::new(String::from_str(alloc, word)?))?;
     }
+    let none = Loaded {
+        files: LoadedList::new(alloc),
+    };
     match &read_all_words(alloc, &words) {
-        Ok(command) => assert!(rt; hold_by(alloc, command)?),
+        Ok(command) => assert!(rt; hold_by(alloc, &none, command)?),
         Err(_) => assert!(rt; false),
     }
     Ok(())
