@@ -64,7 +64,7 @@ least_is_one test at n e f first second =
 
 -- an end by what it is
 
-cut_is_small : (object : Object) (number : ℕ) (section : Section) (y : ℕ) → is_cut object number section y ≡ true → (y ≡ 0) ⊎ (y < section.size)
+pub cut_is_small : (object : Object) (number : ℕ) (section : Section) (y : ℕ) → is_cut object number section y ≡ true → (y ≡ 0) ⊎ (y < section.size)
 unfolding is_cut
 cut_is_small object number section y pass =
     elim (or_cases _ _ pass) [ inl start ↦ inl (eqb-true y 0 start) | inr more ↦ inr (ltb-true y section.size ((and_parts _ _ more).0)) ]
@@ -192,7 +192,7 @@ joined P (x ∷ xs) ys first second = (first.0, joined P xs ys first.1 second)
 elsewhere : (object : Object) (number : ℕ) (section : Section) (atom : Atom) → (atom.key.section ≡ number → ⊥) → AtEnd object number section atom
 elsewhere object number section atom other = record { end = λ here. absurd (other here) }
 
-sections_at_ends : (object : Object) (file : FileId) (number : ℕ) (sections : List Section) (index : ℕ) (d : Section) → index < length sections → AllByRecursion (AtEnd object (number + index) (get_or sections index d)) (atoms_from object file number sections)
+pub sections_at_ends : (object : Object) (file : FileId) (number : ℕ) (sections : List Section) (index : ℕ) (d : Section) → index < length sections → AllByRecursion (AtEnd object (number + index) (get_or sections index d)) (atoms_from object file number sections)
 sections_at_ends object file number [] index d within = absurd (omega arith)
 sections_at_ends object file number (section ∷ sections) zero d within =
     let same : number ≡ number + zero = omega arith in
@@ -284,7 +284,7 @@ in_section number offset atoms n x rise bound point start =
     (omega arith, omega arith)
 
 -- the end of an atom is that of each of its offsets
-later_end : (object : Object) (number : ℕ) (section : Section) (start offset end : ℕ) → IsGreatest (is_cut object number section) offset start → offset ≤ section.size → IsEnd object number section start end → IsEnd object number section offset end
+pub later_end : (object : Object) (number : ℕ) (section : Section) (start offset end : ℕ) → IsGreatest (is_cut object number section) offset start → offset ≤ section.size → IsEnd object number section start end → IsEnd object number section offset end
 later_end object number section start offset end greatest within is =
     let below : start ≤ offset = greatest.within in
     let high : end ≤ section.size = is.high in

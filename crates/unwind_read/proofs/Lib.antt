@@ -1,7 +1,9 @@
 pub mod EndLemmas
 pub mod EntryLemmas
+pub mod LawLemmas
 pub mod LeastLemmas
 pub mod OverlapLemmas
+pub mod PartLemmas
 pub mod RowLemmas
 pub mod RuleLemmas
 pub mod SectionLemmas

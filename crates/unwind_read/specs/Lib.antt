@@ -2,6 +2,7 @@ pub mod Added
 pub mod CutObject
 pub mod Entry
 pub mod Found
+pub mod Laws
 pub mod Overlaps
 pub mod Pointers
 pub mod Rules

@@ -12,6 +12,9 @@
 //! definition of a symbol, moved by what it holds. A range ends at its atom's end, which is the next cut or the
 //! section's end (`end_of`); an entry whose range is empty is dropped.
 //!
+//! The laws say that each entry stands for a part of an atom that isn't empty (`entries_lie_in_atoms`), that no two have a
+//! byte of an atom in common (`entries_are_apart`), and which fault is told (`the_least_fault_is_told`).
+//!
 //! Relocations are sorted by their entries in one pass, and each entry is read once. The search for an atom begins
 //! behind the one that was found last. Ranges are sorted only where they don't rise. As `reloc_read` the crate takes an
 //! object with its atoms, and so can be asked by the reader of objects.
@@ -31,6 +34,7 @@ mod entries;
 mod entry;
 mod fault;
 mod fields;
+mod laws;
 mod least;
 mod overlaps;
 mod pointers;
@@ -41,6 +45,7 @@ mod spots;
 use cut_object::CutObject;
 pub use entry::CompactUnwindEntry;
 pub use fault::UnwindFault;
+pub use laws::{entries_are_apart, entries_lie_in_atoms, the_least_fault_is_told};
 use least::lesser;
 use mo_types::{AtomList, FileId, Object, UnwindList};
 use overlaps::overlap_fault;
