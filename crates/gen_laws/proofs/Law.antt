@@ -6,9 +6,10 @@ use Rattle.mo_types.specs.declared.cause.Rule.{Rule}
 use Rattle.mo_types.specs.declared.cause.Rule.TheVariants as rule
 use Rattle.mo_types.specs.declared.object.Object.{Object}
 use Rattle.mo_types.specs.declared.object.RawReloc.{RawReloc}
+use Rattle.unwind_read.specs.Unwinds.{fault_places}
 use Rattle.mo_obj.specs.Facts.{IsObject}
 use Rattle.mo_obj.specs.Object.{may_be_cut, object_of}
-use Rattle.mo_obj.specs.Rules.{Fails, IsBadRelocation}
+use Rattle.mo_obj.specs.Rules.{Fails, IsBadRelocation, IsIn}
 use Rattle.mo_obj.proofs.FactsLaws.{object_is as object_back}
 use Rattle.link_gen.specs.Calls.{IsMade, called, first_function, function_count}
 use Rattle.link_gen.specs.Generated.{generated}
@@ -18,6 +19,7 @@ use Rattle.link_gen.specs.declared.calls.MadeObject.{MadeObject}
 use Rattle.gen_laws.specs.Object.{NamesAt, call_at, made_object, symbol_of, text_section}
 use Rattle.gen_laws.proofs.Calls.{call_there, pairs_kept, places_kept, relocs_are, shapes_kept, symbol_read, symbol_there, targets_kept}
 use Rattle.gen_laws.proofs.Features.{no_feature}
+use Rattle.gen_laws.proofs.Entries.{no_entries}
 use Rattle.gen_laws.proofs.Few.{symbols_few}
 use Rattle.gen_laws.proofs.Reading.{header_is, object_is, sections_are, symbols_are}
 use Rattle.gen_laws.proofs.Rules.{commands_whole, contents_within, for_arm64, header_whole, literals_whole, relocations_within, segment_fit, symbols_fit, table_within}
@@ -37,6 +39,7 @@ module _ (made : MadeObject) (bytes : List ℕ) (is : IsMade made) (at : Stands 
   no_rule_fails rule.Shape place = λ bad. shapes_kept made place (subst (λ (o : Object). IsBadRelocation shape_fault o place) (object_is made bytes at) bad)
   no_rule_fails rule.Place place = λ bad. places_kept made place is (subst (λ (o : Object). IsBadRelocation place_fault o place) (object_is made bytes at) bad)
   no_rule_fails rule.Target place = λ bad. targets_kept made place is (subst (λ (o : Object). IsBadRelocation target_fault o place) (object_is made bytes at) bad)
+  no_rule_fails rule.Unwind place = λ bad. no_entries made place (subst (λ (o : Object). IsIn (fault_places o) place) (object_is made bytes at) bad)
   no_rule_fails _ place = λ none. none
 
   is_object : IsObject bytes (made_object made)

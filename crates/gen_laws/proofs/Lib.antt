@@ -4,6 +4,7 @@ pub mod Spelled
 pub mod Reading
 pub mod Rules
 pub mod Calls
+pub mod Entries
 pub mod Features
 pub mod Law
 pub mod Whole

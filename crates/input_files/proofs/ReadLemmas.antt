@@ -12,6 +12,9 @@ use Rattle.mo_types.specs.declared.object.Object.{Object}
 use Rattle.mo_types.specs.declared.object_fault.ObjFault.{ObjFault}
 use Rattle.mo_types.specs.declared.object_fault.ObjFault.TheVariants.{Limit, Unsupported}
 use Rattle.mo_types.specs.declared.reference.Ref.{Ref}
+use Rattle.mo_types.specs.declared.unwind.Unwind.{Unwind}
+use Rattle.unwind_read.specs.Unwinds.{unwinds_of}
+use Rattle.mo_obj.specs.Entries.{entries_of}
 use Rattle.mo_obj.specs.Features.{first_feature}
 use Rattle.mo_obj.specs.Object.{accepted, described, lacks, object_of}
 use Rattle.mo_obj.specs.Relocations.{relocations_of}
@@ -35,9 +38,13 @@ accepted_few read object foreign is = by (relocations_of read) refl
     supported relocs None e h = guard_few read object h
     supported relocs (Some f) e h = absurd (let s : Err (Unsupported f) ≡ Ok object = h in cc)
 
+    kept : (relocs : Option Feature) (r : Result (Unit {0}) ObjFault) → entries_of read ≡ r → ((r >>= λ entries. lacks (first_feature read foreign relocs) >>= λ supported. guarded (nat_lt (length read.symbols) (2 ^ 24)) (Limit Symbols) (tt {0})) >>= λ done. Ok read) ≡ Ok object → length object.symbols < 2 ^ 24
+    kept relocs (Err e) r h = absurd (let s : Err e ≡ Ok object = h in cc)
+    kept relocs (Ok entries) r h = supported relocs (first_feature read foreign relocs) refl h
+
     by : (r : Result (Option Feature) ObjFault) → relocations_of read ≡ r → length object.symbols < 2 ^ 24
     by (Err e) r = absurd (let s : Err e ≡ Ok object = rw r at is in cc)
-    by (Ok relocs) r = supported relocs (first_feature read foreign relocs) refl (rw r at is)
+    by (Ok relocs) r = kept relocs (entries_of read) refl (rw r at is)
 
 pub few_symbols : (bytes : List ℕ) (object : Object) → object_of bytes ≡ Ok object → length object.symbols < 2 ^ 24
 unfolding object_of
@@ -46,7 +53,7 @@ few_symbols bytes object is = elim (described bytes) as (λ r. (r >>= λ read. a
   | Err e ↦ λ h. absurd (let s : Err e ≡ Ok object = h in cc)
 ] is
 
-pub file_is : (id : FileId) (label bytes : List ℕ) (object : Object) (atoms : List Atom) (refs : List Ref) → object_of bytes ≡ Ok object → atoms ≡ atoms_of object id → refs_of object id ≡ Ok refs → object_read id label (object_of bytes) ≡ Ok (record { id = id; label = label; object = object; atoms = atoms; refs = refs; unwinds = [] })
-file_is id label bytes object atoms refs read cut have = rw (read, cut, have) refl
+pub file_is : (id : FileId) (label bytes : List ℕ) (object : Object) (atoms : List Atom) (refs : List Ref) (unwinds : List Unwind) → object_of bytes ≡ Ok object → atoms ≡ atoms_of object id → refs_of object id ≡ Ok refs → unwinds_of object id ≡ Ok unwinds → object_read id label (object_of bytes) ≡ Ok (record { id = id; label = label; object = object; atoms = atoms; refs = refs; unwinds = unwinds })
+file_is id label bytes object atoms refs unwinds read cut have told = rw (read, cut, have, told) refl
 
 pub ruleset reads = (few_symbols, file_is)

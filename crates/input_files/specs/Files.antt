@@ -1,6 +1,6 @@
 -- The files that inputs hold. An object is one file, of number 0; the members of an archive count from 1, without its
 -- table of contents (ar(5)).
-use Rattle.std.specs.Prelude.{ℕ, ◌≤◌, ◌-◌, ◌++◌, ◌==◌, ◌&&◌, ◌||◌, Bool, List, [], ◌∷◌, codes, length, map, slice_get, All, Option, Some, None, option_map, unwrap_or, Result, Ok, Err, if◌then◌else◌}
+use Rattle.std.specs.Prelude.{ℕ, ◌≡◌, ◌≤◌, ◌-◌, ◌++◌, ◌==◌, ◌&&◌, ◌||◌, Bool, List, [], ◌∷◌, codes, length, map, slice_get, All, Option, Some, None, option_map, unwrap_or, Result, Ok, Err, if◌then◌else◌}
 use Rattle.std.specs.List.{flat_map, list_any, range_with_len}
 use Rattle.std.specs.Result.{result_ok}
 use Rattle.mo_types.specs.Atoms.{atoms_of}
@@ -18,12 +18,12 @@ use Rattle.mo_types.specs.declared.loaded.LoadedFile.{LoadedFile}
 use Rattle.mo_types.specs.declared.object.Object.{Object}
 use Rattle.mo_types.specs.declared.object_fault.ObjFault.{ObjFault}
 use Rattle.mo_types.specs.declared.object_fault.ObjFault.TheVariants as fault
-use Rattle.mo_types.specs.declared.reference.Ref.{Ref}
 use Rattle.mo_ar.specs.Archive.{archive_of}
 use Rattle.mo_ar.specs.Text.{part}
 use Rattle.mo_ar.specs.declared.archive.Archive.{Archive}
 use Rattle.mo_ar.specs.declared.member.Member.{Member}
 use Rattle.mo_obj.specs.Object.{object_of}
+use Rattle.unwind_read.specs.Unwinds.{unwinds_of}
 use Rattle.input_files.specs.Form.{is_later}
 use Rattle.input_files.specs.declared.fault.LoadFault.{LoadFault}
 use Rattle.input_files.specs.declared.fault.LoadFault.TheVariants as rounds
@@ -75,13 +75,24 @@ content_in input member = content_as input member (archive_in input)
 unfoldable pub content_of : List Input → FileId → Content
 content_of inputs id = unwrap_or (first_some (λ input. if input.position == id.position then content_in input id.member else None) inputs) (record { label = []; bytes = [] })
 
-abbrev pub refs_or_none : {E : Type 0} → Result (List Ref) E → List Ref
-refs_or_none (Ok refs) = refs
-refs_or_none (Err e) = []
+abbrev pub or_none : {X E : Type 0} → Result (List X) E → List X
+or_none (Ok xs) = xs
+or_none (Err e) = []
 
 -- an object as a file of the link
 abbrev pub file_with : FileId → List ℕ → Object → LoadedFile
-file_with id label object = record { id = id; label = label; object = object; atoms = atoms_of object id; refs = refs_or_none (refs_of object id); unwinds = [] }
+file_with id label object = record {
+  id = id;
+  label = label;
+  object = object;
+  atoms = atoms_of object id;
+  refs = or_none (refs_of object id);
+  unwinds = or_none (unwinds_of object id);
+}
+
+-- the unwind entries of a file are those of its object
+abbrev pub HasUnwinds : LoadedFile → Type 0
+HasUnwinds file = unwinds_of file.object file.id ≡ Ok file.unwinds
 
 -- the answer for a file that has a fault
 abbrev pub fault_of : List ℕ → ObjFault → LoadFault

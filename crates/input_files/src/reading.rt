@@ -6,13 +6,13 @@ ghost use Rattle.mo_types.specs.Loaded.{IsWholeFile};
 ghost use Rattle.mo_types.specs.declared.kind.Kind.TheVariants as kind;
 ghost use Rattle.mo_obj.specs.Object.{object_of};
 ghost use Rattle.input_files.specs.Files as files;
-ghost use Rattle.input_files.specs.Files.{IsLoadFault};
+ghost use Rattle.input_files.specs.Files.{HasUnwinds, IsLoadFault};
 
 use crate::fault::LoadFault;
 use crate::form::is_later;
 use mo_obj::{LinkObject, read_for_link};
 use mo_types::{
-    Bytes, Feature, FileId, Kind, LoadedFile, ObjFault, Refusal, Rule, UnwindList, kind_of,
+    Bytes, Feature, FileId, Kind, LoadedFile, ObjFault, Refusal, Rule, kind_of,
 };
 use std::alloc::Global;
 
@@ -35,7 +35,7 @@ fn fault_of(label: Bytes, fault: ObjFault) -> LoadFault
     }
 }
 
-// Reads an object with its atoms and references.
+// Reads an object with its atoms, references and unwind entries.
 #[tactic(auto, using(crate::proofs::ReadLemmas::reads))]
 fn read_object(
     alloc: Global,
@@ -47,6 +47,7 @@ fn read_object(
     requires member { id.member < 2 ^ 20 }
     ensures exact { Gives IsLoadFault result (files.object_read id label (object_of bytes.now)) }
     ensures whole { IfOk result IsWholeFile }
+    ensures unwinds { IfOk result HasUnwinds }
 {
     match read_for_link(alloc, bytes, id) {
         Ok(
@@ -54,6 +55,7 @@ fn read_object(
                 object,
                 atoms,
                 refs,
+                unwinds,
             },
         ) => Ok(LoadedFile {
             id,
@@ -61,7 +63,7 @@ fn read_object(
             object,
             atoms,
             refs,
-            unwinds: UnwindList::new(alloc),
+            unwinds,
         }),
         Err(fault) => Err(fault_of(label, fault)),
     }
@@ -77,6 +79,7 @@ fn read_kind(
     requires member { id.member < 2 ^ 20 }
     ensures exact { Gives IsLoadFault result (files.read_by (kinds.kind_of bytes.now) id label bytes.now) }
     ensures whole { IfOk result IsWholeFile }
+    ensures unwinds { IfOk result HasUnwinds }
 {
     match kind_of(bytes.as_slice()) {
         Kind::MachO => read_object(alloc, id, label, bytes),
@@ -94,9 +97,11 @@ fn read_kind(
 
 // A file, where it has the form that is linked.
 fn in_form(file: LoadedFile) -> Result<LoadedFile, LoadFault>
-    requires { IsWholeFile file }
+    requires whole { IsWholeFile file }
+    requires unwinds { HasUnwinds file }
     ensures exact { result ≡ files.in_form file }
     ensures whole { IfOk result IsWholeFile }
+    ensures unwinds { IfOk result HasUnwinds }
 {
     if is_later(&file) {
         let LoadedFile { label, .. } = file;
@@ -108,9 +113,10 @@ fn in_form(file: LoadedFile) -> Result<LoadedFile, LoadFault>
     Ok(file)
 }
 
-/// Reads a file, an object or an archive's member, as the link loads it: whole, with its atoms and references; or tells the
-/// first of these that stands, under its label: another kind of file than a Mach-O file, LLVM's bitcode as a feature; a rule
-/// that the object breaks, or a feature that the linker doesn't have; a form that comes with a later version.
+/// Reads a file, an object or an archive's member, as the link loads it: whole, with its atoms, references and unwind
+/// entries; or tells the first of these that stands, under its label: another kind of file than a Mach-O file, LLVM's
+/// bitcode as a feature; a rule that the object breaks, or a feature that the linker doesn't have; a form that comes with
+/// a later version.
 #[tactic(auto, unfolding(crate::specs::Files::read_as))]
 pub fn read_file(
     alloc: Global,
@@ -121,6 +127,7 @@ pub fn read_file(
     requires member { id.member < 2 ^ 20 }
     ensures exact { Gives IsLoadFault result (files.read_as id label bytes.now) }
     ensures whole { IfOk result IsWholeFile }
+    ensures unwinds { IfOk result HasUnwinds }
 {
     let file = read_kind(alloc, id, label, bytes)?;
     in_form(file)

@@ -20,12 +20,13 @@ use Rattle.mo_types.specs.declared.reference.Ref.{Ref}
 use Rattle.mo_types.specs.declared.reference_fault.RefFault.{RefFault}
 use Rattle.mo_obj.proofs.WholeLemmas.{read_whole}
 use Rattle.mo_obj.specs.Features.{first_feature}
+use Rattle.mo_obj.specs.Entries.{entries_of}
 use Rattle.mo_obj.specs.Object.{accepted, described, lacks, object_of}
 use Rattle.mo_obj.proofs.ReadLemmas.{bind_ok}
 use Rattle.mo_obj.specs.Read.{AreBytes, IsRead}
 use Rattle.mo_obj.specs.Relocations.{relocations_of}
 use Rattle.lib_bind.specs.declared.library.LibraryGraph.{LibraryGraph}
-use Rattle.input_files.specs.Files.{HasLowAtoms, all_ids, content_of, file_of, is_first, refs_or_none}
+use Rattle.input_files.specs.Files.{HasLowAtoms, all_ids, content_of, file_of, is_first, or_none}
 use Rattle.input_files.specs.Form.{is_later}
 use Rattle.member_rounds.specs.Growth.{union}
 use Rattle.member_rounds.specs.Rounds.{asks, loaded_ids, loaded_of}
@@ -49,14 +50,15 @@ few_symbols bytes object e =
     let read = bind_ok (described bytes) _ object e in
     let done = bind_ok (accepted read.0.object read.0.foreign) _ object read.2 in
     let relocs = bind_ok (relocations_of read.0.object) _ done.0 done.1 in
-    let supported = bind_ok (lacks (first_feature read.0.object read.0.foreign relocs.0)) _ done.0 relocs.2 in
+    let entries = bind_ok (entries_of read.0.object) _ done.0 relocs.2 in
+    let supported = bind_ok (lacks (first_feature read.0.object read.0.foreign relocs.0)) _ done.0 entries.2 in
     subst (λ (o : Object). length o.symbols < 2 ^ 24) (same_value read.0.object object done.2) (by (nat_lt (length read.0.object.symbols) (2 ^ 24)) read.0.object done.0 refl supported.2)
   where
     by : (b : Bool) (o : Object) (d : Unit {0}) → nat_lt (length o.symbols) (2 ^ 24) ≡ b → guarded b (Limit Symbols) (tt {0}) ≡ Ok d → length o.symbols < 2 ^ 24
     by true o d low f = ltb-true (length o.symbols) (2 ^ 24) low
     by false o d low f = no_value (Limit Symbols) d f
 
-refs_there : (r : Result (List Ref) RefFault) → IfErr r (λ fault. ⊥) → r ≡ Ok (refs_or_none r)
+refs_there : (r : Result (List Ref) RefFault) → IfErr r (λ fault. ⊥) → r ≡ Ok (or_none r)
 refs_there (Ok refs) none = refl
 refs_there (Err fault) none = absurd none
 
@@ -94,7 +96,7 @@ file_bytes inputs id file bytes is =
 
 -- a file has the references of its object
 abbrev IsReferred : LoadedFile → Type 0
-IsReferred file = file.refs ≡ refs_or_none (refs_of file.object file.id)
+IsReferred file = file.refs ≡ or_none (refs_of file.object file.id)
 
 -- ---- what is loaded
 

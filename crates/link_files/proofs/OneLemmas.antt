@@ -8,7 +8,7 @@ use Rattle.image_make.specs.Atoms.{AreLow as AreLowKept, AreRising, atom_of}
 use Rattle.image_join.proofs.OneLemmas.{not_filled, one_fault, one_image}
 use Rattle.image_make.proofs.KeptListLemmas.{rising_atoms}
 use Rattle.image_make.proofs.WorkLemmas.{HasRefs, are_standing, rows_apart}
-use Rattle.input_files.specs.Files.{refs_or_none}
+use Rattle.input_files.specs.Files.{or_none}
 use Rattle.image_make.specs.Made.{IsFilledImage, IsLaid, IsMade, ImageInputs, blank, kept_of, mets_of, plan_for, plan_with, rows_of, sizes_of}
 use Rattle.image_make.specs.declared.fault.MakeFault.{MakeFault}
 use Rattle.image_make.specs.declared.fault.MakeFault.TheVariants as make
@@ -209,12 +209,12 @@ made_one m (Err make.OutOfMemory) b sound p q x y = absurd p
 
 -- ---- all steps
 
-refs_in : (file : LoadedFile) → file.refs ≡ refs_or_none (refs_of file.object file.id) → HasRefs file
+refs_in : (file : LoadedFile) → file.refs ≡ or_none (refs_of file.object file.id) → HasRefs file
 refs_in file is = by (refs_of file.object file.id) refl
   where
     by : (r : Result (List Ref) RefFault) → refs_of file.object file.id ≡ r → HasRefs file
-    by (Ok refs) e = inl (e ∙ ap Ok (sym (is ∙ ap refs_or_none e)))
-    by (Err fault) e = inr (is ∙ ap refs_or_none e)
+    by (Ok refs) e = inl (e ∙ ap Ok (sym (is ∙ ap or_none e)))
+    by (Err fault) e = inr (is ∙ ap or_none e)
 
 -- files as they are loaded: their ids rise, and each has the pieces and the references of its object
 record AreLoaded (files : List LoadedFile) : Type 0 where

@@ -4,7 +4,7 @@ use Rattle.std.specs.List.{AllPairs}
 use Rattle.image_make.specs.Made.{IsMade, ImageInputs}
 use Rattle.image_make.specs.Whole.{AreBytesIn}
 use Rattle.image_make.specs.declared.fault.MakeFault.{MakeFault}
-use Rattle.input_files.specs.Files.{refs_or_none}
+use Rattle.input_files.specs.Files.{or_none}
 use Rattle.lib_bind.specs.declared.library.LibraryGraph.{LibraryGraph}
 use Rattle.link_steps.specs.Steps.{Answer, ◌>>=◌, ◌>>◌, always, checks, gives, some, unless}
 use Rattle.command_line.specs.declared.command.Command.{Command}
@@ -36,7 +36,7 @@ AreCut files = All (λ file. file.atoms ≡ atoms_of file.object file.id) files
 
 -- each file has the references of its object, or none where these can't be read
 abbrev pub AreReferred : List LoadedFile → Type 0
-AreReferred files = All (λ file. file.refs ≡ refs_or_none (refs_of file.object file.id)) files
+AreReferred files = All (λ file. file.refs ≡ or_none (refs_of file.object file.id)) files
 
 -- no atom is aligned to more than a page of 2^14 bytes
 abbrev pub AreLow : List LoadedFile → Type 0

@@ -21,6 +21,7 @@ use Rattle.mo_types.specs.declared.object.Section.{Section}
 use Rattle.mo_types.specs.declared.object_fault.ObjFault.{ObjFault}
 use Rattle.mo_types.specs.declared.object_fault.ObjFault.TheVariants.{Limit, Unsupported}
 use Rattle.mo_obj.specs.Features.{any_kept, any_overaligned, first_feature, is_overaligned, or_else}
+use Rattle.mo_obj.specs.Entries.{entries_of}
 use Rattle.mo_obj.specs.Object.{accepted, described, lacks, object_of}
 use Rattle.mo_obj.specs.Relocations.{relocations_of}
 use Rattle.input_files.specs.Files.{HasLowAtoms, content_of, fault_of, file_of, file_with, object_read, read_as, read_by}
@@ -55,9 +56,13 @@ accepted_low read object foreign is = by (relocations_of read) refl
     supported relocs None e h = guard (nat_lt (length read.symbols) (2 ^ 24)) (not_over read foreign relocs e) h
     supported relocs (Some f) e h = absurd (let s : Err (Unsupported f) ≡ Ok object = h in cc)
 
+    kept : (relocs : Option Feature) (r : Result (Unit {0}) ObjFault) → entries_of read ≡ r → ((r >>= λ entries. lacks (first_feature read foreign relocs) >>= λ supported. guarded (nat_lt (length read.symbols) (2 ^ 24)) (Limit Symbols) (tt {0})) >>= λ done. Ok read) ≡ Ok object → any_kept is_overaligned object.sections ≡ false
+    kept relocs (Err e) r h = absurd (let s : Err e ≡ Ok object = h in cc)
+    kept relocs (Ok entries) r h = supported relocs (first_feature read foreign relocs) refl h
+
     by : (r : Result (Option Feature) ObjFault) → relocations_of read ≡ r → any_kept is_overaligned object.sections ≡ false
     by (Err e) r = absurd (let s : Err e ≡ Ok object = rw r at is in cc)
-    by (Ok relocs) r = supported relocs (first_feature read foreign relocs) refl (rw r at is)
+    by (Ok relocs) r = kept relocs (entries_of read) refl (rw r at is)
 
 low_object : (bytes : List ℕ) (object : Object) → object_of bytes ≡ Ok object → any_kept is_overaligned object.sections ≡ false
 unfolding object_of

@@ -12,6 +12,8 @@ use Rattle.mo_types.specs.declared.object.Object.{Object}
 use Rattle.mo_types.specs.declared.object_fault.ObjFault.{ObjFault}
 use Rattle.mo_types.specs.declared.object_fault.ObjFault.TheVariants.{Limit, Malformed, Unsupported, OutOfMemory}
 use Rattle.mo_obj.specs.Facts.{IsFaulty, IsFirst, IsFirstFailure, IsForArm64, IsForeign, IsLacking, IsObject, IsOneOrFaulty, IsSound, IsTooLarge, feature_in}
+use Rattle.unwind_read.specs.Unwinds as unwinds
+use Rattle.mo_obj.specs.Entries.{entries_of}
 use Rattle.mo_obj.specs.Faults.{keeps}
 use Rattle.mo_obj.specs.Header.{header_of, is_arm64, is_relocatable}
 use Rattle.mo_obj.specs.Object.{accepted, described, lacks, object_of}
@@ -24,6 +26,7 @@ use Rattle.mo_obj.specs.Sections.{each_keeps, has_broken_literals}
 use Rattle.mo_obj.specs.Symbols.{symbols_of, symtab_of}
 use Rattle.mo_obj.specs.declared.Described.{Described}
 use Rattle.mo_obj.proofs.FactsCommands.{below, commands_told, frame_told, header_told, not_under}
+use Rattle.mo_obj.proofs.FactsEntries.{entry_least}
 use Rattle.mo_obj.proofs.FactsLeast.{both_ways}
 use Rattle.mo_obj.proofs.FactsRelocations.{relocation_least}
 use Rattle.mo_obj.proofs.FactsRules.{Holds, IsReadBelow, Tells, all_hold, has_rank, kept, ranked, same_rank, then_read}
@@ -54,6 +57,9 @@ relocations_told bytes eight =
     then_read bytes 11 tt (IsReadBelow bytes 12 (reloc_feature (object_in bytes))) (keeps rule.Place (first_fault place_fault (object_in bytes)) tt) _
     (kept bytes rule.Place tt (first_fault place_fault (object_in bytes)) refl ten (relocation_least place_fault (object_in bytes))) λ eleven.
     kept bytes rule.Target (reloc_feature (object_in bytes)) (first_fault target_fault (object_in bytes)) refl eleven (relocation_least target_fault (object_in bytes))
+
+entries_told : (bytes : List ℕ) → Holds bytes 12 → Tells bytes (IsReadBelow bytes 13 tt) (entries_of (object_in bytes))
+entries_told bytes twelve = kept bytes rule.Unwind tt (unwinds.first_fault (object_in bytes)) refl twelve (entry_least (object_in bytes))
 
 -- an object is accepted
 record IsAccepted (bytes : List ℕ) : Type 0 where
@@ -88,8 +94,9 @@ accepted_told : (bytes : List ℕ) → Holds bytes 8 → Tells bytes (λ done. I
 unfolding accepted
 accepted_told bytes eight =
     then_read bytes 12 (reloc_feature (object_in bytes)) (λ done. IsAccepted bytes) (relocations_of (object_in bytes)) _ (relocations_told bytes eight)
-    λ twelve. subst (λ symbols. Tells bytes (λ done. IsAccepted bytes) (lacks (feature_in bytes) >>= λ supported. guarded (nat_lt (length symbols) (2 ^ 24)) (Limit Symbols) (tt {0}))) (sym (symbols_are bytes))
-    (had_or_not bytes (feature_in bytes) refl (all_hold bytes twelve))
+    λ twelve. then_read bytes 13 tt (λ done. IsAccepted bytes) (entries_of (object_in bytes)) _ (entries_told bytes twelve)
+    λ all. subst (λ symbols. Tells bytes (λ done. IsAccepted bytes) (lacks (feature_in bytes) >>= λ supported. guarded (nat_lt (length symbols) (2 ^ 24)) (Limit Symbols) (tt {0}))) (sym (symbols_are bytes))
+    (had_or_not bytes (feature_in bytes) refl (all_hold bytes all))
 
 -- the object that was read
 record IsTaken (bytes : List ℕ) (object : Object) : Type 0 where

@@ -10,7 +10,7 @@ use Rattle.mo_obj.specs.Rules.{IsBadRelocation}
 use Rattle.mo_obj.proofs.FactsLeast.{IsLeast, either_order, here_or_later, least_alike, lesser_first}
 
 -- the numbers of a list
-abbrev Has : List ℕ → ℕ → Type 0
+abbrev pub Has : List ℕ → ℕ → Type 0
 Has [] p = ⊥
 Has (x ∷ xs) p = (p ≡ x) ⊎ Has xs p
 
@@ -24,7 +24,7 @@ least_with x xs (Some y) rest = (
   λ p less has. ⊎_elim (not_itself p x (omega arith)) (rest.1 p (omega arith)) has,
 )
 
-least_of_list : (xs : List ℕ) → IsLeast (Has xs) (least xs)
+pub least_of_list : (xs : List ℕ) → IsLeast (Has xs) (least xs)
 least_of_list [] = λ p has. has
 least_of_list (x ∷ xs) = least_with x xs (least xs) (least_of_list xs)
 

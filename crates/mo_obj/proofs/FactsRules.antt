@@ -11,10 +11,10 @@ use Rattle.mo_obj.proofs.FactsLeast.{IsLeast}
 
 -- the rule of a rank
 abbrev pub ranked : ℕ → Rule
-ranked n = get_or (rule.Header ∷ rule.Commands ∷ rule.Segment ∷ rule.Section ∷ rule.Relocations ∷ rule.Symbols ∷ rule.Symbol ∷ rule.Literals ∷ rule.Pair ∷ rule.Shape ∷ rule.Place ∷ rule.Target ∷ []) n rule.NotAnInput
+ranked n = get_or (rule.Header ∷ rule.Commands ∷ rule.Segment ∷ rule.Section ∷ rule.Relocations ∷ rule.Symbols ∷ rule.Symbol ∷ rule.Literals ∷ rule.Pair ∷ rule.Shape ∷ rule.Place ∷ rule.Target ∷ rule.Unwind ∷ []) n rule.NotAnInput
 
 -- only rules that have a rank fail
-pub has_rank : (bytes : List ℕ) (asked : Rule) (place : ℕ) → Fails bytes asked place → (ranked (rank asked) ≡ asked) × (rank asked < 12)
+pub has_rank : (bytes : List ℕ) (asked : Rule) (place : ℕ) → Fails bytes asked place → (ranked (rank asked) ≡ asked) × (rank asked < 13)
 has_rank bytes rule.Header place fails = (refl, omega arith)
 has_rank bytes rule.Commands place fails = (refl, omega arith)
 has_rank bytes rule.Segment place fails = (refl, omega arith)
@@ -27,6 +27,7 @@ has_rank bytes rule.Pair place fails = (refl, omega arith)
 has_rank bytes rule.Shape place fails = (refl, omega arith)
 has_rank bytes rule.Place place fails = (refl, omega arith)
 has_rank bytes rule.Target place fails = (refl, omega arith)
+has_rank bytes rule.Unwind place fails = (refl, omega arith)
 has_rank bytes _ place fails = absurd fails
 
 -- two rules of one rank that fail are one
@@ -50,7 +51,7 @@ one_more bytes asked is target earlier nowhere = record {
       (below_or_at (rank other) (rank asked) less);
 }
 
-pub all_hold : (bytes : List ℕ) → Holds bytes 12 → IsSound bytes
+pub all_hold : (bytes : List ℕ) → Holds bytes 13 → IsSound bytes
 all_hold bytes holds = record {
   target = holds.target;
   rules = λ asked place fails. holds.earlier asked (has_rank bytes asked place fails).1 place fails;

@@ -1,5 +1,6 @@
 pub mod AcceptLemmas
 pub mod FactsCommands
+pub mod FactsEntries
 pub mod FactsHeaders
 pub mod FactsLaws
 pub mod FactsLeast
@@ -11,5 +12,6 @@ pub mod RelocationLemmas
 pub mod SectionLemmas
 pub mod SymbolLemmas
 pub mod TableLemmas
+pub mod UnwindLemmas
 pub mod WalkLemmas
 pub mod WholeLemmas

@@ -22,6 +22,8 @@ use Rattle.mo_types.specs.declared.object_fault.ObjFault.{ObjFault}
 use Rattle.mo_types.specs.declared.object_fault.ObjFault.TheVariants.{Malformed, Unsupported, Limit}
 use Rattle.mo_types.specs.declared.cause.Which.TheVariants.{Symbols}
 use Rattle.mo_obj.specs.Commands.{commands_end, commands_from, commands_of, frame_of, is_broken, size_at}
+use Rattle.unwind_read.specs.Unwinds as unwinds
+use Rattle.mo_obj.specs.Entries.{entries_of}
 use Rattle.mo_obj.specs.Faults.{IsObjFault, keeps}
 use Rattle.mo_obj.specs.Features.{first_feature}
 use Rattle.mo_obj.specs.Header.{header_of, is_arm64, is_relocatable}
@@ -34,6 +36,7 @@ use Rattle.mo_obj.specs.declared.Described.{Described}
 use Rattle.mo_obj.specs.declared.commands.Frame.{Frame}
 use Rattle.mo_obj.specs.Each.{Each}
 use Rattle.mo_obj.proofs.AcceptLemmas.{references_read, whole_object}
+use Rattle.mo_obj.proofs.UnwindLemmas.{entries_read}
 use Rattle.mo_obj.proofs.ReadLemmas.{all_keep, bind_ok, count_sections, few_sections, few_symbols, sections_bytes, sections_roomy, symbols_placed}
 
 -- what stands of the sections that are checked
@@ -97,8 +100,15 @@ accepted_refs : (object : Object) (foreign : Bool) (done : Unit {0}) → accepte
 unfolding accepted
 accepted_refs object foreign done e file =
     let relocs = bind_ok (relocations_of object) _ done e in
-    let supported = bind_ok (lacks (first_feature object foreign relocs.0)) _ done relocs.2 in
+    let entries = bind_ok (entries_of object) _ done relocs.2 in
+    let supported = bind_ok (lacks (first_feature object foreign relocs.0)) _ done entries.2 in
     references_read object foreign relocs.0 relocs.1 (no_feature (first_feature object foreign relocs.0) supported.0 supported.1) file
+
+accepted_entries : (object : Object) (foreign : Bool) (done : Unit {0}) → accepted object foreign ≡ Ok done → entries_of object ≡ Ok tt
+unfolding accepted
+accepted_entries object foreign done e =
+    let relocs = bind_ok (relocations_of object) _ done e in
+    (bind_ok (entries_of object) _ done relocs.2).1
 
 pub read_whole : (bytes : List ℕ) (object : Object) → AreBytes bytes → object_of bytes ≡ Ok object → IsRead object
 unfolding object_of
@@ -110,6 +120,7 @@ read_whole bytes object are e =
       whole = is.whole;
       contents = is.contents;
       refs = λ (file : FileId). rw (accepted_refs read.0.object read.0.foreign done.0 done.1 file) tt;
+      unwinds = λ (file : FileId). entries_read read.0.object file (accepted_entries read.0.object read.0.foreign done.0 done.1);
     })
 
 -- a fault of two steps is one of the first or of the second
@@ -220,8 +231,9 @@ accepted_faulty : (object : Object) (foreign : Bool) → IfErr (accepted object 
 unfolding accepted
 accepted_faulty object foreign =
     then_faulty (relocations_of object) _ (relocations_faulty object) (λ relocs.
+    then_faulty (entries_of object) _ (keeps_faulty rule.Unwind (unwinds.first_fault object) (tt {0})) (λ entries.
     then_faulty (lacks (first_feature object foreign relocs)) _ (lacks_faulty (first_feature object foreign relocs)) (λ supported.
-    by_test (nat_lt (length object.symbols) (2 ^ 24))))
+    by_test (nat_lt (length object.symbols) (2 ^ 24)))))
   where
     by_test : (test : Bool) → IfErr (guarded test (Limit Symbols) (tt {0})) IsObjFault
     by_test true = tt

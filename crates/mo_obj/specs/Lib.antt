@@ -1,5 +1,6 @@
 pub mod Commands
 pub mod Each
+pub mod Entries
 pub mod Facts
 pub mod Faults
 pub mod Features

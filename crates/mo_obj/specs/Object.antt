@@ -11,6 +11,7 @@ use Rattle.mo_types.specs.declared.object.Section.{Section}
 use Rattle.mo_format.specs.declared.header.MachHeader.{MachHeader}
 use Rattle.mo_format.specs.declared.loader.TheConstants.{MH_SUBSECTIONS_VIA_SYMBOLS}
 use Rattle.mo_obj.specs.Commands.{commands_of, frame_of}
+use Rattle.mo_obj.specs.Entries.{entries_of}
 use Rattle.mo_obj.specs.Features.{first_feature}
 use Rattle.mo_obj.specs.Header.{header_of}
 use Rattle.mo_obj.specs.Relocations.{relocations_of}
@@ -34,11 +35,12 @@ abbrev pub lacks : Option Feature → Result (Unit {0}) ObjFault
 lacks None = Ok tt
 lacks (Some feature) = Err (Unsupported feature)
 
--- an object keeps the rules of relocations and has no feature that the linker doesn't have, and its symbols
--- are fewer than 2^24
+-- an object keeps the rules of relocations and that of unwind entries, it has no feature that the linker doesn't have,
+-- and its symbols are fewer than 2^24
 unfoldable pub accepted : Object → Bool → Result (Unit {0}) ObjFault
 accepted object foreign = do
   relocs ← relocations_of object
+  entries ← entries_of object
   supported ← lacks (first_feature object foreign relocs)
   guarded (nat_lt (length object.symbols) (2 ^ 24)) (Limit Symbols) tt
 
@@ -58,7 +60,7 @@ described bytes = do
     foreign = any_foreign bytes symtab;
   })
 
--- the object of a file; the rules of relocations and features come after the other rules
+-- the object of a file; the rules of relocations and entries and features come after the other rules
 unfoldable pub object_of : List ℕ → Result Object ObjFault
 object_of bytes = do
   read ← described bytes

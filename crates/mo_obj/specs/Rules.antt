@@ -9,6 +9,7 @@ use Rattle.mo_types.specs.declared.object.Object.{Object}
 use Rattle.mo_types.specs.declared.object.Section.{Section}
 use Rattle.mo_obj.specs.Commands.{commands_end, is_broken, is_whole_segment}
 use Rattle.mo_strings.specs.Strings.{string_at}
+use Rattle.unwind_read.specs.Unwinds.{fault_places}
 use Rattle.mo_obj.specs.Parts.{commands_in, frame_in, header_in, headers_in, object_in, sections_in, segments_in, symtab_in, symtabs_in}
 use Rattle.mo_obj.specs.Sections.{has_broken_literals, has_relocs_outside, header_place, is_outside}
 use Rattle.mo_obj.specs.Symbols.{entry_at, entry_place, is_placed, is_symtab, strings_of}
@@ -28,7 +29,8 @@ rank rule.Pair = 8
 rank rule.Shape = 9
 rank rule.Place = 10
 rank rule.Target = 11
-rank _ = 12
+rank rule.Unwind = 12
+rank _ = 13
 
 -- Header: the file ends before its header does
 pub record IsCutShort (bytes : List ℕ) (place : ℕ) : Type 0 where
@@ -105,4 +107,5 @@ Fails bytes rule.Pair place = IsBadRelocation pair_fault (object_in bytes) place
 Fails bytes rule.Shape place = IsBadRelocation shape_fault (object_in bytes) place
 Fails bytes rule.Place place = IsBadRelocation place_fault (object_in bytes) place
 Fails bytes rule.Target place = IsBadRelocation target_fault (object_in bytes) place
+Fails bytes rule.Unwind place = IsIn (fault_places (object_in bytes)) place
 Fails bytes _ place = ⊥

@@ -3,11 +3,12 @@
 //! `read_object` answers exactly what the definition gives (`specs/Object.antt`): the one object that the bytes are,
 //! each field the number at its place; or the first rule that the file breaks, at the least place at which it does; or
 //! else the first feature that the linker doesn't have; or the limit of 2^24 symbols (`exact`). An object that was
-//! read meets the condition of `cut` and `refs_of` (`whole`), and its references are always answered (`refs`). Both
-//! hold of the definition itself, of any bytes, and a fault that it gives is never want of memory
-//! (`what_is_read_is_whole`). `read_for_link` answers the same object with its atoms and references, each made once.
-//! Names and contents are parts of the file. No contract speaks of memory; by measure reading takes at most 64 times
-//! the file's bytes and 64 MiB. A file whose sections share so much that it would take more is told as want of memory.
+//! read meets the condition of `cut`, `refs_of` and `unwind_of` (`whole`), and its references and unwind entries are
+//! always answered (`refs`, `unwinds`). These hold of the definition itself, of any bytes, and a fault that it gives is
+//! never want of memory (`what_is_read_is_whole`). `read_for_link` answers the same object with its atoms, references
+//! and unwind entries, each made once. Names and contents are parts of the file. No contract speaks of memory; by
+//! measure reading takes at most 64 times the file's bytes and 64 MiB. A file whose sections share so much that it
+//! would take more is told as want of memory.
 //!
 //! Facts beside the definition are compared with the format by eye (`specs/Rules.antt`, `specs/Facts.antt`). The bytes
 //! are an object exactly where the definition reads it (`objects_are_read`): each part is what its header or entry
@@ -17,7 +18,7 @@
 //! A Mach-O file is one object or has one first fault, not both (`an_object_or_a_fault`).
 //!
 //! Refused are a body that tells relocations outside the file before sections outside it, one that tells a feature
-//! before a rule that relocations break, and one that numbers atoms as another file's.
+//! before a rule that unwind entries break, and one that numbers atoms as another file's.
 #![tactic(auto)]
 
 ghost use Rattle.std.specs.Prelude.{◌≡◌, Err, IfErr, IfOk, Ok};
@@ -30,6 +31,7 @@ ghost use Rattle.mo_types.specs.declared.key.FileId.{FileId};
 ghost use Rattle.mo_types.specs.declared.kind.Kind.TheVariants as kind;
 ghost use Rattle.mo_obj.specs.Faults.{IsObjFault};
 ghost use Rattle.mo_obj.specs.Object.{described, object_of};
+ghost use Rattle.unwind_read.specs.Unwinds.{unwinds_of};
 
 mod accept;
 mod commands;
@@ -40,8 +42,9 @@ mod names;
 mod relocations;
 mod sections;
 mod symbols;
+mod unwinds;
 
-use accept::accept;
+use accept::{Accepted, accept};
 use atom_cut::cut;
 use commands::{commands_of, frame_of};
 use header::header_of;
@@ -50,7 +53,7 @@ pub use laws::{
     what_is_read_is_whole,
 };
 use mo_format::loader::MH_SUBSECTIONS_VIA_SYMBOLS;
-use mo_types::{AtomList, Bytes, FileId, ObjFault, Object, RefList};
+use mo_types::{AtomList, Bytes, FileId, ObjFault, Object, RefList, UnwindList};
 use sections::{checked_sections, keep_literals};
 use std::alloc::Global;
 use symbols::{any_foreign, symbols_of, symtab_of};
@@ -63,12 +66,13 @@ struct Described {
     foreign: bool,
 }
 
-/// An object, its atoms and its references.
+/// An object, its atoms, its references and its unwind entries.
 #[derive(Debug, Drop)]
 pub struct LinkObject {
     pub object: Object,
     pub atoms: AtomList,
     pub refs: RefList,
+    pub unwinds: UnwindList,
 }
 
 // No rule looks at which file it is.
@@ -110,6 +114,7 @@ pub fn read_object(alloc: Global, file: &Bytes) -> Result<Object, ObjFault>
     ensures exact { Gives IsObjFault result (object_of file.now) }
     ensures whole { IfOk result IsWhole }
     ensures refs { IfOk result (λ object. (file : FileId) → IfErr (refs_of object file) (λ fault. ⊥)) }
+    ensures unwinds { IfOk result (λ object. (file : FileId) → IfErr (unwinds_of object file) (λ fault. ⊥)) }
 {
     let Described { object, foreign } = describe(alloc, file)?;
     let atoms = cut(alloc, &object, FILE)?;
@@ -117,8 +122,8 @@ pub fn read_object(alloc: Global, file: &Bytes) -> Result<Object, ObjFault>
     Ok(object)
 }
 
-/// Reads an object as `read_object` does, with its atoms and references as those of the file of a number. Each is
-/// made once.
+/// Reads an object as `read_object` does, with its atoms, references and unwind entries as those of the file of a
+/// number. Each is made once.
 #[tactic(auto, unfolding(crate::specs::Object::object_of))]
 pub fn read_for_link(alloc: Global, file: &Bytes, id: FileId) -> Result<LinkObject, ObjFault>
     requires { kinds.kind_of file.now ≡ kind.MachO }
@@ -127,13 +132,15 @@ pub fn read_for_link(alloc: Global, file: &Bytes, id: FileId) -> Result<LinkObje
     ensures whole { IfOk result (λ read. IsWhole read.object) }
     ensures atoms { IfOk result (λ read. read.atoms ≡ atoms_of read.object id) }
     ensures refs { IfOk result (λ read. refs_of read.object id ≡ Ok read.refs) }
+    ensures unwinds { IfOk result (λ read. unwinds_of read.object id ≡ Ok read.unwinds) }
 {
     let Described { object, foreign } = describe(alloc, file)?;
     let atoms = cut(alloc, &object, id)?;
-    let refs = accept(alloc, &object, &atoms, id, foreign)?;
+    let Accepted { refs, unwinds } = accept(alloc, &object, &atoms, id, foreign)?;
     Ok(LinkObject {
         object,
         atoms,
         refs,
+        unwinds,
     })
 }

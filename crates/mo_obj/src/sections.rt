@@ -219,10 +219,17 @@ fn sections_of(
     Ok(SectionList::from_vec(list))
 }
 
-// How many bytes of the file are taken apart for a section: those of its relocations, strings and literals.
+// Whether a section has the unwind entries of functions, to be taken apart.
+fn has_entries(header: &SectionHeader) -> bool {
+    header.segname.starts_with(b"__LD\0") && header.sectname == *b"__compact_unwind"
+}
+
+// How many bytes of the file are taken apart for a section: those of its relocations, strings, literals and unwind
+// entries.
 fn parted_bytes(header: &SectionHeader) -> u64 {
     let contents = match header.flags & SECTION_TYPE {
         S_CSTRING_LITERALS | S_4BYTE_LITERALS | S_8BYTE_LITERALS | S_16BYTE_LITERALS => header.size,
+        _ if has_entries(header) => header.size,
         _ => 0,
     };
     contents.saturating_add(8 * u64::from(header.nreloc))

@@ -98,9 +98,13 @@ section_spans object section =
 abbrev pub spans_of : Object → List Span
 spans_of object = flat_map (section_spans object) object.sections
 
--- the least place at which a part of the rule fails; which file it is matters to none
+-- the places at which a part of the rule fails; which file it is matters to none
+abbrev pub fault_places : Object → List ℕ
+fault_places object = flat_map (section_faults object) object.sections ++ overlap_faults (spans_of object)
+
+-- the least of them
 unfoldable pub first_fault : Object → Option ℕ
-first_fault object = least (flat_map (section_faults object) object.sections ++ overlap_faults (spans_of object))
+first_fault object = least (fault_places object)
 
 -- the unwind entries of an object, or the first entry at fault
 unfoldable pub unwinds_of : Object → FileId → Result (List Unwind) UnwindFault

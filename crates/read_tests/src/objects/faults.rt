@@ -92,6 +92,8 @@ fn cases() -> &'static str {
 652=05000006: malformed at 648: target
 576=39 655=06: malformed at 648: target
 576=2f 655=06: malformed at 648: target
+# frames in their compact form that aren't whole
+424=5f5f636f6d706163745f756e77696e64 440=5f5f4c44000000 464=08 472=6002: malformed at 608: unwind
 # non-lazy pointers, stubs
 248=06: unsupported: sectiontype
 408=08: unsupported: sectiontype
@@ -118,7 +120,8 @@ fn cases() -> &'static str {
 620=05: unsupported: absolute
 636=05: unsupported: absolute
 655=b6: unsupported: pointerauth
-424=5f5f636f6d706163745f756e77696e64 440=5f5f4c44000000: unsupported: later"
+# one whole frame, whose function a pointer to `_main` tells
+424=5f5f636f6d706163745f756e77696e64 440=5f5f4c44000000 464=20 472=4802 480=8002: unsupported: later"
 }
 
 // Bytes at the edge of a rule, or that no rule looks at.
@@ -141,8 +144,8 @@ fn accepted() -> &'static str {
 424=5f5f6f626a635f636f6e7374
 344=5f5f65685f6672616d65 360=5f5f54455854
 440=5f5f4c4c564d00
-# no frames in their compact form
-424=5f5f636f6d706163745f756e77696e64 440=5f5f4c44000000 464=00
+# no frames in their compact form, and no relocations of theirs
+424=5f5f636f6d706163745f756e77696e64 440=5f5f4c44000000 464=00 484=00
 # a command of no known kind, a minimal version's number
 528=ffffffff
 540=ffffffff"
