@@ -5,8 +5,8 @@
 //! which `slot_plan` makes the slots. What a reference needs hangs on its kind, its addend and its goal alone
 //! (`way_of`): what loads a slot or points to one needs that slot, a branch without addend needs a stub where the loader
 //! looks the goal up by its name, and nothing else needs more than the goal's own address. An entry that another image
-//! has needs a stub, too. The answer has the same needs, each mostly once (`AreSame`): of goals that stand in the pool of
-//! a `GoalTable` at most one for each way. The one error is want of memory.
+//! has needs a stub, too. The answer has the same needs, in any order and any number of times (`AreSame`). The one error
+//! is want of memory.
 //!
 //! The law `slots_serve_all_needs` says that slots which are made of the answer are those of all these needs.
 //!

@@ -222,8 +222,8 @@ fn note_entry<'a>(before: Gathering<'a>, entry: Option<&Goal>) -> Result<Gatheri
 }
 
 /// What the references of kept atoms need, and an executable's entry: a slot of the global offset table, a stub, or a slot
-/// for thread-local variables, each with its goal. The same needs, in any order, of goals of the pool each once. Takes one
-/// pass over the references of all files.
+/// for thread-local variables, each with its goal. The same needs, in any order and any number of times. Takes one pass over
+/// the references of all files.
 #[tactic(auto, using(crate::proofs::FileLemmas::all))]
 pub fn needs(alloc: Global, referring: &Referring) -> Result<NeedList, OutOfMemory>
     requires { IsStrictlySortedBy compare_keys referring.now.keys.now }
