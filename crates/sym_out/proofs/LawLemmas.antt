@@ -20,6 +20,7 @@ use Rattle.std.specs.Option.{option_map_or}
 use Rattle.sym_out.specs.Entries.{Entry, in_32, nlist_of, nlists, place_named, string_of, strings_bytes, symbols_bytes}
 use Rattle.sym_out.specs.Laws.{HaveSizes, IsNamed, IsNumberOf, LeadsToSymbol, string_place}
 use Rattle.sym_out.proofs.Seeking.{nothing}
+use Rattle.sym_out.proofs.Sizing.{strings_have_size}
 use Rattle.sym_out.specs.Symbols.{Ranges, entries_of, indirect_bytes, indirect_number, number_in, slot_goals}
 
 -- ---- sizes
@@ -74,6 +75,7 @@ have_sizes slots ranges = record {
       let first = length-append (slots.stubs ++ slots.got) slots.tlv in
       let second = length-append slots.stubs slots.got in
       omega (arith, all, first, second);
+  of_strings = strings_have_size ranges;
 }
 
 -- ---- names

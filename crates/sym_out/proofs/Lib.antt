@@ -10,6 +10,7 @@ pub mod Seeking
 pub mod Writing
 pub mod Gathering
 pub mod Ranging
+pub mod Sizing
 pub mod LawLemmas
 pub mod WinnerLaws
 pub mod OneLemmas

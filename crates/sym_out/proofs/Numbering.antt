@@ -1,7 +1,7 @@
 -- Numbers of sections, with an atom more.
-use Rattle.std.proofs.Common.{◌≡◌, ◌≢◌, ℕ, ◌+◌, ◌<◌, ◌≤◌, ◌==◌, ◌||◌, Bool, true, false, List, [], ◌∷◌, ◌++◌, length, get_or, take, replicate, refl, sym, ap, ◌∙◌, arith, Option, Some, None, if◌then◌else◌}
-use Rattle.std.specs.List.{All}
-use Rattle.std.specs.Option.{option_map}
+use Rattle.std.proofs.Common.{◌≡◌, ◌≢◌, ℕ, suc, ◌+◌, ◌<◌, ◌≤◌, ◌==◌, ◌||◌, Bool, true, false, List, [], ◌∷◌, ◌++◌, length, get_or, take, replicate, refl, sym, ap, ◌∙◌, arith, Option, Some, None, nat_lt, position, if◌then◌else◌}
+use Rattle.std.specs.List.{All, position_or_len}
+use Rattle.std.specs.Option.{option_map, option_map_or}
 use Rattle.std.specs.Ordering.{is_eq}
 use Rattle.std.proofs.Math.ListN.{set}
 use Rattle.std.proofs.Math.Bool.{or-false}
@@ -10,6 +10,7 @@ use Rattle.std.proofs.lemmas.Cmp.{tied_itself}
 use Rattle.std.proofs.lemmas.List.{get_or-replicate, length-replicate, length-take-le, take_all, take_more}
 use Rattle.std.proofs.lemmas.List.Folds.{list_any-append}
 use Rattle.atom_index.specs.Stands.{StandsAt}
+use Rattle.mark_core.specs.Kept.{has}
 use Rattle.mo_types.proofs.KeyOrder.{compare_keys_total}
 use Rattle.mo_types.specs.Keys.{compare_keys}
 use Rattle.mo_types.specs.declared.key.AtomKey.{AtomKey}
@@ -17,7 +18,7 @@ use Rattle.sect_place.specs.Addresses.{AreOnce, address_in}
 use Rattle.sect_place.specs.declared.layout.Layout.{Layout}
 use Rattle.sect_place.specs.declared.layout.Placed.{Placed}
 use Rattle.sect_place.specs.declared.layout.PlacedSection.{PlacedSection}
-use Rattle.sym_out.specs.Sites.{Site, has_atom, number_from, section_number, site_of}
+use Rattle.sym_out.specs.Sites.{Site, section_number, site_of}
 use Rattle.sym_out.specs.inner.Numbers.{AreNumbers, IsSited, numbered, or_number}
 use Rattle.sym_out.specs.inner.Tables.{atom_of}
 use Rattle.sym_out.proofs.ByAtom.{no_address, stands_address, table_at, table_same, table_with, table_without}
@@ -62,7 +63,7 @@ given_or false q n = refl
 
 -- ---- an atom more
 
-only : (atom key : AtomKey) → has_atom (atom ∷ []) key ≡ is_eq (compare_keys atom key)
+only : (atom key : AtomKey) → has (atom ∷ []) key ≡ is_eq (compare_keys atom key)
 only atom key = or-false (is_eq (compare_keys atom key))
 
 pub number_here : (f : AtomKey → ℕ) (n : ℕ) (atom : AtomKey) → or_number (f atom) n ≡ numbered f n (atom ∷ []) atom
@@ -97,8 +98,8 @@ atoms_start f placed numbers n atoms are =
 numbered_more : (f : AtomKey → ℕ) (n : ℕ) (xs : List AtomKey) (x key : AtomKey) → numbered (numbered f n xs) n (x ∷ []) key ≡ numbered f n (xs ++ x ∷ []) key
 unfolding numbered
 numbered_more f n xs x key =
-    or_assoc (f key) (given (has_atom xs key) n) (given (has_atom (x ∷ []) key) n)
-    ∙ ap (or_number (f key)) (given_or (has_atom xs key) (has_atom (x ∷ []) key) n
+    or_assoc (f key) (given (has xs key) n) (given (has (x ∷ []) key) n)
+    ∙ ap (or_number (f key)) (given_or (has xs key) (has (x ∷ []) key) n
     ∙ ap (λ (t : Bool). given t n) (sym (list_any-append (λ (other : AtomKey). is_eq (compare_keys other key)) xs (x ∷ []))))
 
 pub atoms_go_on : (f : AtomKey → ℕ) (placed : List Placed) (numbers : List ℕ) (n i : ℕ) (atoms : List AtomKey) (d : AtomKey) → i < length atoms → AreNumbers (numbered (numbered f n (take i atoms)) n (get_or atoms i d ∷ [])) placed numbers → AreNumbers (numbered f n (take (i + 1) atoms)) placed numbers
@@ -120,17 +121,57 @@ not_none n = by ((n + 1) == 0) refl
     by true e = let zeroed : n + 1 ≡ 0 = eqb-true (n + 1) 0 e in absurd (omega (arith, zeroed))
     by false e = e
 
-from_more : (n : ℕ) (xs : List PlacedSection) (s : PlacedSection) (key : AtomKey) → (n == 0) ≡ false → number_from n (xs ++ s ∷ []) key ≡ or_number (number_from n xs key) (given (has_atom s.section.atoms key) (n + length xs))
-from_more n [] s key some = let e : n ≡ n + 0 = omega arith in ap (given (has_atom s.section.atoms key)) e
-from_more n (x ∷ xs) s key some = by (from_more (n + 1) xs s key (not_none n)) (has_atom x.section.atoms key) refl
+-- the number of the first section that lists an atom, where the first of all has the number n
+abbrev number_from : ℕ → List PlacedSection → AtomKey → ℕ
+number_from n [] key = 0
+number_from n (x ∷ xs) key = if has x.section.atoms key then n else number_from (n + 1) xs key
+
+abbrev lists : AtomKey → PlacedSection → Bool
+lists key s = has s.section.atoms key
+
+-- where a section is counted that doesn't list the atom
+abbrev place : ℕ → ℕ → ℕ → ℕ
+place n at count = option_map_or (λ k. k + n) (if nat_lt at count then Some at else None) 0
+
+moved : (n at count : ℕ) → place n (1 + at) (suc count) ≡ place (n + 1) at count
+moved n at count = by (nat_lt at count) refl
+  where
+    by : (t : Bool) → nat_lt at count ≡ t → place n (1 + at) (suc count) ≡ place (n + 1) at count
+    by true e =
+        let low : nat_lt (1 + at) (suc count) ≡ true = grind arith in
+        let same : 1 + at + n ≡ at + (n + 1) = omega arith in
+        rw e (rw low same)
+    by false e = let high : nat_lt (1 + at) (suc count) ≡ false = grind arith in rw e (rw high refl)
+
+first : (n count : ℕ) → place n 0 (suc count) ≡ n
+first n count =
+    let low : nat_lt 0 (suc count) ≡ true = grind arith in
+    let same : 0 + n ≡ n = omega arith in
+    rw low same
+
+numbered_from : (n : ℕ) (xs : List PlacedSection) (key : AtomKey) → option_map_or (λ at. at + n) (position (lists key) xs) 0 ≡ number_from n xs key
+numbered_from n [] key = refl
+numbered_from n (x ∷ xs) key = by (numbered_from (n + 1) xs key) (has x.section.atoms key) refl
+  where
+    by : option_map_or (λ at. at + (n + 1)) (position (lists key) xs) 0 ≡ number_from (n + 1) xs key → (t : Bool) → has x.section.atoms key ≡ t → option_map_or (λ at. at + n) (position (lists key) (x ∷ xs)) 0 ≡ number_from n (x ∷ xs) key
+    by rest true e = rw e (first n (length xs))
+    by rest false e = rw e (moved n (position_or_len (lists key) xs) (length xs) ∙ rest)
+
+number_is : (xs : List PlacedSection) (key : AtomKey) → section_number xs key ≡ number_from 1 xs key
+unfolding section_number
+number_is xs key = numbered_from 1 xs key
+
+from_more : (n : ℕ) (xs : List PlacedSection) (s : PlacedSection) (key : AtomKey) → (n == 0) ≡ false → number_from n (xs ++ s ∷ []) key ≡ or_number (number_from n xs key) (given (has s.section.atoms key) (n + length xs))
+from_more n [] s key some = let e : n ≡ n + 0 = omega arith in ap (given (has s.section.atoms key)) e
+from_more n (x ∷ xs) s key some = by (from_more (n + 1) xs s key (not_none n)) (has x.section.atoms key) refl
   where
     moved : n + 1 + length xs ≡ n + length (x ∷ xs)
     moved = omega arith
 
-    by : number_from (n + 1) (xs ++ s ∷ []) key ≡ or_number (number_from (n + 1) xs key) (given (has_atom s.section.atoms key) (n + 1 + length xs)) → (t : Bool) → has_atom x.section.atoms key ≡ t → number_from n (x ∷ xs ++ s ∷ []) key ≡ or_number (number_from n (x ∷ xs) key) (given (has_atom s.section.atoms key) (n + length (x ∷ xs)))
-    by rest true e = rw e (sym (kept n (given (has_atom s.section.atoms key) (n + length (x ∷ xs))) some))
+    by : number_from (n + 1) (xs ++ s ∷ []) key ≡ or_number (number_from (n + 1) xs key) (given (has s.section.atoms key) (n + 1 + length xs)) → (t : Bool) → has x.section.atoms key ≡ t → number_from n (x ∷ xs ++ s ∷ []) key ≡ or_number (number_from n (x ∷ xs) key) (given (has s.section.atoms key) (n + length (x ∷ xs)))
+    by rest true e = rw e (sym (kept n (given (has s.section.atoms key) (n + length (x ∷ xs))) some))
     by rest false e =
-        rw e (rest ∙ ap (λ (m : ℕ). or_number (number_from (n + 1) xs key) (given (has_atom s.section.atoms key) m)) moved)
+        rw e (rest ∙ ap (λ (m : ℕ). or_number (number_from (n + 1) xs key) (given (has s.section.atoms key) m)) moved)
 
 pub sections_start : (placed : List Placed) (numbers : List ℕ) (sections : List PlacedSection) (count : ℕ) → count ≡ length placed → numbers ≡ replicate count 0 → AreNumbers (section_number (take 0 sections)) placed numbers
 unfolding section_number
@@ -140,13 +181,15 @@ sections_start placed numbers sections count same is = record {
 }
 
 pub sections_go_on : (placed : List Placed) (numbers : List ℕ) (sections : List PlacedSection) (i n : ℕ) (s : PlacedSection) (atoms : List AtomKey) → i < length sections → s ≡ get_or sections i s → atoms ≡ s.section.atoms → n ≡ i + 1 → AreNumbers (numbered (section_number (take i sections)) n atoms) placed numbers → AreNumbers (section_number (take (i + 1) sections)) placed numbers
-unfolding section_number numbered
+unfolding numbered
 sections_go_on placed numbers sections i n s atoms low is of number are =
     table_same (λ (x : ℕ). x) (numbered (section_number (take i sections)) n atoms) (section_number (take (i + 1) sections)) placed numbers are
-    (λ key. ap (λ (xs : List AtomKey). or_number (number_from 1 (take i sections) key) (given (has_atom xs key) n)) of
-    ∙ ap (λ (m : ℕ). or_number (number_from 1 (take i sections) key) (given (has_atom s.section.atoms key) m)) (number ∙ counted)
+    (λ key. ap (λ (m : ℕ). or_number m (given (has atoms key) n)) (number_is (take i sections) key)
+    ∙ ap (λ (xs : List AtomKey). or_number (number_from 1 (take i sections) key) (given (has xs key) n)) of
+    ∙ ap (λ (m : ℕ). or_number (number_from 1 (take i sections) key) (given (has s.section.atoms key) m)) (number ∙ counted)
     ∙ sym (from_more 1 (take i sections) s key refl)
-    ∙ ap (λ (xs : List PlacedSection). number_from 1 xs key) (ap (λ (x : PlacedSection). take i sections ++ x ∷ []) is ∙ sym (take_more sections i s low)))
+    ∙ ap (λ (xs : List PlacedSection). number_from 1 xs key) (ap (λ (x : PlacedSection). take i sections ++ x ∷ []) is ∙ sym (take_more sections i s low))
+    ∙ sym (number_is (take (i + 1) sections) key))
   where
     counted : i + 1 ≡ 1 + length (take i sections)
     counted =

@@ -11,12 +11,14 @@ use Rattle.slot_plan.specs.declared.list.Slots.{Slots}
 use Rattle.symbol_winners.specs.declared.winner.Winner.{Winner}
 use Rattle.sym_out.specs.Entries.{Entry, nlist_of, string_of, strings_bytes, symbols_bytes}
 use Rattle.sym_out.specs.Files.{FileSymbol, stands}
+use Rattle.sym_out.specs.Sizes.{sizes_of}
 use Rattle.sym_out.specs.Symbols.{Ranges, entries_of, indirect_number, parts_of, winning_symbol}
 
--- 16 bytes a symbol, and 4 a stub or slot
+-- the parts have the sizes that counts tell
 pub record HaveSizes (slots : Slots) (ranges : Ranges) : Type 0 where
-  pub of_symbols : length (parts_of slots ranges).symbols ≡ 16 * (length ranges.locals + length ranges.exported + length ranges.undefined)
-  pub of_indirect : length (parts_of slots ranges).indirect ≡ 4 * (length slots.stubs + length slots.got + length slots.tlv)
+  pub of_symbols : length (parts_of slots ranges).symbols ≡ (sizes_of slots ranges).symbols
+  pub of_indirect : length (parts_of slots ranges).indirect ≡ (sizes_of slots ranges).indirect
+  pub of_strings : length (parts_of slots ranges).strings ≡ (sizes_of slots ranges).strings
 
 -- where the string of an entry stands: behind one NUL and the strings of those before
 abbrev pub string_place : List Entry → ℕ → ℕ

@@ -1,26 +1,16 @@
 -- Where the atoms of a layout stand, and in which of its sections.
-use Rattle.std.specs.Prelude.{ℕ, ◌+◌, Bool, List, [], ◌∷◌, Option, if◌then◌else◌}
-use Rattle.std.specs.List.{list_any}
-use Rattle.std.specs.Option.{option_map}
-use Rattle.std.specs.Ordering.{is_eq}
+use Rattle.std.specs.Prelude.{ℕ, ◌+◌, List, position, Option}
+use Rattle.std.specs.Option.{option_map, option_map_or}
+use Rattle.mark_core.specs.Kept.{has}
 use Rattle.mo_format.specs.declared.nlist.TheConstants.{NO_SECT}
-use Rattle.mo_types.specs.Keys.{compare_keys}
 use Rattle.mo_types.specs.declared.key.AtomKey.{AtomKey}
 use Rattle.sect_place.specs.Addresses.{address_in}
 use Rattle.sect_place.specs.declared.layout.Layout.{Layout}
 use Rattle.sect_place.specs.declared.layout.PlacedSection.{PlacedSection}
 
-abbrev pub has_atom : List AtomKey → AtomKey → Bool
-has_atom atoms atom = list_any (λ other. is_eq (compare_keys other atom)) atoms
-
--- the number of the first section that lists an atom, where the first of all has the number n
-abbrev pub number_from : ℕ → List PlacedSection → AtomKey → ℕ
-number_from n [] atom = NO_SECT
-number_from n (placed ∷ sections) atom = if has_atom placed.section.atoms atom then n else number_from (n + 1) sections atom
-
--- the number of an atom's section in the image, from 1 (`nlist.h`: n_sect), or NO_SECT where no section lists it
+-- the number of the first section of the image that lists an atom, from 1 (`nlist.h`: n_sect), or NO_SECT where none does
 unfoldable pub section_number : List PlacedSection → AtomKey → ℕ
-section_number sections atom = number_from 1 sections atom
+section_number sections atom = option_map_or (λ at. at + 1) (position (λ placed. has placed.section.atoms atom) sections) NO_SECT
 
 -- an atom with its address, and the number of its section
 pub record Site : Type 0 where

@@ -1,11 +1,12 @@
 //! Entries of a symbol table, and their strings.
-ghost use Rattle.std.specs.Prelude.{◌≡◌, ◌∷◌, [], ◌++◌, OnOk, length};
+ghost use Rattle.std.specs.Prelude.{◌≡◌, ◌≤◌, ◌*◌, ◌^◌, ◌∷◌, [], ◌++◌, OnOk, length};
 ghost use Rattle.std.specs.List.{AllPairs};
 ghost use Rattle.std.specs.Cmp.Lexicographic.{slice_cmp};
 ghost use Rattle.std.specs.Ordering.{nat_cmp};
 ghost use Rattle.std.specs.declared.cmp.Ordering.TheVariants.{Less};
 ghost use Rattle.mo_format.specs.Symbol.{nlist_bytes};
 ghost use Rattle.sym_out.specs.Entries as spec;
+ghost use Rattle.sym_out.specs.Sizes as sizes;
 ghost use Rattle.sym_out.specs.inner.Written.{Puts};
 
 use mo_format::Nlist;
@@ -46,6 +47,19 @@ pub(crate) fn place_named(entries: &[Entry], name: &[u8]) -> Option<usize>
         Ok(at) => Some(at),
         Err(_) => None,
     }
+}
+
+/// How many bytes the strings of entries have.
+#[tactic(auto, using(crate::proofs::Sizing::summing))]
+pub(crate) fn strings_size(entries: &[Entry]) -> u128
+    ensures size { result ≡ sizes.strings_size entries.now }
+    ensures small { result ≤ length entries.now * 2 ^ 64 }
+{
+    let mut total = 0;
+    for entry in entries {
+        total += entry.name.len() as u128 + 1;
+    }
+    total
 }
 
 /// Appends an entry and its string.

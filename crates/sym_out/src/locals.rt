@@ -1,11 +1,12 @@
 //! The local symbols of an image.
-ghost use Rattle.std.specs.Prelude.{◌≡◌, ◌<◌, ◌++◌, All, IfOk, IsPermutation, OnOk, length, map, slice_index_or};
+ghost use Rattle.std.specs.Prelude.{◌≡◌, ◌<◌, ◌≤◌, ◌*◌, ◌^◌, ◌++◌, All, IfOk, IsPermutation, OnOk, length, map, slice_index_or};
 ghost use Rattle.std.specs.List.{AllPairs, filter_map};
 ghost use Rattle.std.specs.List.Sorted.{IsSorted};
 ghost use Rattle.mo_types.specs.Loaded.{IsBefore, IsWholeFile, IsWholeLoaded};
 ghost use Rattle.mo_types.specs.declared.loaded.LoadedFile.{LoadedFile as Loads};
 ghost use Rattle.mo_types.specs.declared.object.Symbol.{Symbol as Declared};
 ghost use Rattle.sym_out.specs.Files.{symbols_in, symbols_of};
+ghost use Rattle.sym_out.specs.Sizes.{strings_size};
 ghost use Rattle.sym_out.specs.Symbols as spec;
 ghost use Rattle.sym_out.specs.inner.Written.{Puts};
 
@@ -225,6 +226,19 @@ pub(crate) fn locals_of<'a>(
     push_hidden(&mut locals, sites, symbols, files, symbols.winners())?;
     put_in_order(&mut locals);
     Ok(locals)
+}
+
+/// How many bytes the strings of local symbols have.
+#[tactic(auto, using(crate::proofs::Sizing::summing, crate::proofs::Sizing::sum_mapped))]
+pub(crate) fn local_strings_size(locals: &[Local]) -> u128
+    ensures size { result ≡ strings_size (map spec.local_entry locals.now) }
+    ensures small { result ≤ length locals.now * 2 ^ 64 }
+{
+    let mut total = 0;
+    for local in locals {
+        total += local.symbol.name.len() as u128 + 1;
+    }
+    total
 }
 
 /// Appends local symbols and their strings.

@@ -1,5 +1,5 @@
 //! The parts of an image that have its symbols.
-ghost use Rattle.std.specs.Prelude.{◌≡◌, ◌<◌, IfOk, length};
+ghost use Rattle.std.specs.Prelude.{◌≡◌, ◌<◌, [], IfOk, length};
 ghost use Rattle.std.specs.List.{AllPairs};
 ghost use Rattle.std.specs.Cmp.Lexicographic.{slice_cmp};
 ghost use Rattle.std.specs.Ordering.{nat_cmp};
@@ -14,8 +14,8 @@ ghost use Rattle.sym_out.specs.Symbols as spec;
 
 use crate::entry::{in_32, pad, put_entries};
 use crate::locals::put_locals;
-use crate::ranges::Ranges;
-use crate::sites::Sites;
+use crate::ranges::ImageSymbols;
+use crate::sizes::SymbolSizes;
 use mo_types::{Bytes, GoalList, Loaded, OutOfMemory};
 use sect_place::Layout;
 use slot_plan::Slots;
@@ -46,12 +46,20 @@ struct Table {
     strings: Vec<u8>,
 }
 
-fn table_of(alloc: Global, ranges: &Ranges) -> Result<Table, OutOfMemory>
+// No bytes yet, with room for so many.
+fn room_for(alloc: Global, size: u128) -> Result<Vec<u8>, OutOfMemory>
+    ensures { IfOk result (λ bytes. bytes.items ≡ []) }
+{
+    Ok(Vec::with_capacity(alloc, usize::try_from(size).unwrap_or(usize::MAX))?)
+}
+
+fn table_of(alloc: Global, ranges: &ImageSymbols, sizes: SymbolSizes) -> Result<Table, OutOfMemory>
     ensures symbols { IfOk result (λ table. table.symbols.items ≡ symbols_bytes (spec.entries_of ranges.now)) }
     ensures strings { IfOk result (λ table. table.strings.items ≡ strings_bytes (spec.entries_of ranges.now)) }
 {
-    let mut symbols = Vec::new(alloc);
-    let mut strings = vec![in alloc; 0; 1]?;
+    let mut symbols = room_for(alloc, sizes.symbols)?;
+    let mut strings = room_for(alloc, sizes.strings)?;
+    strings.push(0)?;
     put_locals(&mut symbols, &mut strings, ranges.locals.as_slice())?;
     put_entries(&mut symbols, &mut strings, ranges.exported.as_slice())?;
     put_entries(&mut symbols, &mut strings, ranges.undefined.as_slice())?;
@@ -59,19 +67,43 @@ fn table_of(alloc: Global, ranges: &Ranges) -> Result<Table, OutOfMemory>
     Ok(Table { symbols, strings })
 }
 
-fn indirect_of(alloc: Global, ranges: &Ranges, slots: &Slots) -> Result<Vec<u8>, OutOfMemory>
+fn indirect_of(
+    alloc: Global,
+    ranges: &ImageSymbols,
+    slots: &Slots,
+    size: u128,
+) -> Result<Vec<u8>, OutOfMemory>
     ensures { IfOk result (λ table. table.items ≡ spec.indirect_bytes ranges.now (spec.slot_goals slots.now)) }
 {
-    let mut numbers = Vec::new(alloc);
+    let mut numbers = room_for(alloc, size)?;
     ranges.put_numbers(&mut numbers, slots.stubs.as_slice())?;
     ranges.put_numbers(&mut numbers, slots.got.as_slice())?;
     ranges.put_numbers(&mut numbers, slots.tlv.as_slice())?;
     Ok(numbers)
 }
 
-/// The symbols of an image, their strings, and the number of the symbol for each of its stubs and slots. `bound` has the
-/// goals that other images have, by name. The layout places no atom twice, and has fewer than 256 sections, since a symbol
-/// has 8 bits for the number of its own.
+impl<'a> ImageSymbols<'a> {
+    /// The symbols, their strings, and the number of the symbol for each stub and slot. `sizes` tells how many bytes
+    /// these are.
+    pub fn write(&self, alloc: Global, slots: &Slots) -> Result<SymbolParts, OutOfMemory>
+        ensures { IfOk result (λ parts. parts ≡ spec.parts_of slots.now self.now) }
+    {
+        let sizes = self.sizes(slots);
+        let table = table_of(alloc, self, sizes)?;
+        let indirect = indirect_of(alloc, self, slots, sizes.indirect)?;
+        Ok(SymbolParts {
+            symbols: Bytes::from_vec(table.symbols)?,
+            indirect: Bytes::from_vec(indirect)?,
+            strings: Bytes::from_vec(table.strings)?,
+            locals: in_32(self.locals.len()),
+            exported: in_32(self.exported.len()),
+            undefined: in_32(self.undefined.len()),
+        })
+    }
+}
+
+/// The symbols of an image, their strings, and the number of the symbol for each of its stubs and slots: those that
+/// `ImageSymbols` gathers, whose sizes nobody asks for before they are written.
 pub fn write_symbols(
     alloc: Global,
     layout: &Layout,
@@ -87,16 +119,6 @@ pub fn write_symbols(
     requires winners { AllPairs (λ (a : Wins) (b : Wins). slice_cmp nat_cmp a.name b.name ≡ Less) symbols.now.winners }
     ensures { IfOk result (spec.AreSymbolParts layout.now slots.now bound.now symbols.now loaded.now.files) }
 {
-    let sites = Sites::of(alloc, layout)?;
-    let ranges = Ranges::of(alloc, &sites, bound.as_slice(), symbols, loaded)?;
-    let table = table_of(alloc, &ranges)?;
-    let indirect = indirect_of(alloc, &ranges, slots)?;
-    Ok(SymbolParts {
-        symbols: Bytes::from_vec(table.symbols)?,
-        indirect: Bytes::from_vec(indirect)?,
-        strings: Bytes::from_vec(table.strings)?,
-        locals: in_32(ranges.locals.len()),
-        exported: in_32(ranges.exported.len()),
-        undefined: in_32(ranges.undefined.len()),
-    })
+    let ranges = ImageSymbols::of(alloc, layout, bound, symbols, loaded)?;
+    ranges.write(alloc, slots)
 }

@@ -5,10 +5,13 @@ ghost use Rattle.std.specs.Cmp.Lexicographic.{slice_cmp};
 ghost use Rattle.std.specs.Ordering.{nat_cmp};
 ghost use Rattle.std.specs.declared.cmp.Ordering.TheVariants.{Less};
 ghost use Rattle.mo_bytes.specs.Number.{number_bytes};
+ghost use Rattle.mo_types.specs.Goals.{name_of};
 ghost use Rattle.mo_types.specs.Loaded.{IsWholeLoaded};
+ghost use Rattle.mo_types.specs.declared.goal.Goal.{Goal as Leads};
+ghost use Rattle.sect_place.specs.Addresses.{AreOnce};
+ghost use Rattle.symbol_winners.specs.declared.winner.Winner.{Winner as Wins};
 ghost use Rattle.sym_out.specs.Symbols as spec;
 ghost use Rattle.sym_out.specs.Entries.{Entry as Spelled};
-ghost use Rattle.sym_out.specs.inner.Ranged.{AreRising};
 
 use crate::entry::{Entry, place_named};
 use crate::locals::{Local, locals_of};
@@ -17,20 +20,22 @@ use mo_format::loader::INDIRECT_SYMBOL_LOCAL;
 use mo_format::nlist::{
     DYNAMIC_LOOKUP_ORDINAL, N_EXT, N_SECT, N_UNDF, N_WEAK_DEF, N_WEAK_REF, NO_SECT,
 };
-use mo_types::{Goal, Loaded, OutOfMemory};
+use mo_types::{Goal, GoalList, Loaded, OutOfMemory};
+use sect_place::Layout;
 use std::alloc::Global;
 use std::marker::Model;
 use symbol_winners::{SymbolTable, Winner};
 
-/// The symbols of an image: local ones, those that other images see, and those that other images have.
+/// The symbols of an image: local ones, those that other images see, and those that other images have. Contracts see
+/// the entries of these three ranges. Names are shared with the files, not copied.
 #[derive(Drop)]
-pub(crate) struct Ranges<'a> {
-    pub locals: Vec<Local<'a>>,
-    pub exported: Vec<Entry<'a>>,
-    pub undefined: Vec<Entry<'a>>,
+pub struct ImageSymbols<'a> {
+    pub(crate) locals: Vec<Local<'a>>,
+    pub(crate) exported: Vec<Entry<'a>>,
+    pub(crate) undefined: Vec<Entry<'a>>,
 }
 
-impl<'a> Model for Ranges<'a> {
+impl<'a> Model for ImageSymbols<'a> {
     ghost use Rattle.std.specs.Prelude.{map};
     ghost use Rattle.sym_out.specs.Symbols.{Ranges as Spelled, local_entry};
     ghost use Rattle.sym_out.specs.inner.Ranged.{AreNamed};
@@ -42,23 +47,28 @@ impl<'a> Model for Ranges<'a> {
     ghost invariant = { λ r. AreNamed r.exported.items r.undefined.items };
 }
 
-impl<'a> Ranges<'a> {
-    /// Those of an image.
+impl<'a> ImageSymbols<'a> {
+    /// Those of an image. `bound` has the goals that other images have, by name. The layout places no atom twice, and
+    /// has fewer than 256 sections, since a symbol has 8 bits for the number of its own.
     pub fn of(
         alloc: Global,
-        sites: &Sites<'a>,
-        bound: &'a [Goal],
+        layout: &'a Layout,
+        bound: &'a GoalList,
         symbols: &'a SymbolTable,
         loaded: &'a Loaded,
-    ) -> Result<Ranges<'a>, OutOfMemory>
+    ) -> Result<ImageSymbols<'a>, OutOfMemory>
         requires whole { IsWholeLoaded loaded.now }
-        requires names { AreRising bound.now symbols.now.winners }
-        ensures { IfOk result (spec.AreRanges sites.now bound.now symbols.now loaded.now.files) }
+        requires once { AreOnce layout.now.placed }
+        requires few { length layout.now.sections < 256 }
+        requires bound { AllPairs (λ (a : Leads) (b : Leads). slice_cmp nat_cmp (name_of a) (name_of b) ≡ Less) bound.now }
+        requires winners { AllPairs (λ (a : Wins) (b : Wins). slice_cmp nat_cmp a.name b.name ≡ Less) symbols.now.winners }
+        ensures { IfOk result (spec.AreRanges layout.now bound.now symbols.now loaded.now.files) }
     {
-        let locals = locals_of(alloc, sites, symbols, loaded)?;
-        let exported = exported_of(alloc, sites, symbols, symbols.winners())?;
-        let undefined = undefined_of(alloc, bound)?;
-        Ok(Ranges {
+        let sites = Sites::of(alloc, layout)?;
+        let locals = locals_of(alloc, &sites, symbols, loaded)?;
+        let exported = exported_of(alloc, &sites, symbols, symbols.winners())?;
+        let undefined = undefined_of(alloc, bound.as_slice())?;
+        Ok(ImageSymbols {
             locals,
             exported,
             undefined,
@@ -86,7 +96,7 @@ impl<'a> Ranges<'a> {
     }
 
     /// Appends the numbers of the symbols for which goals have slots.
-    pub fn put_numbers(&self, out: &mut Vec<u8>, goals: &[Goal]) -> Result<(), OutOfMemory>
+    pub(crate) fn put_numbers(&self, out: &mut Vec<u8>, goals: &[Goal]) -> Result<(), OutOfMemory>
         ensures { OnOk result (out.new.items ≡ out.old.items ++ spec.indirect_bytes self.now goals.now) }
     {
         for goal in goals {

@@ -1,10 +1,11 @@
 -- Numbers of sections, one for each atom that is placed.
 use Rattle.std.specs.Prelude.{ℕ, ◌≡◌, ◌==◌, List, if◌then◌else◌}
+use Rattle.mark_core.specs.Kept.{has}
 use Rattle.mo_format.specs.declared.nlist.TheConstants.{NO_SECT}
 use Rattle.mo_types.specs.declared.key.AtomKey.{AtomKey}
 use Rattle.sect_place.specs.declared.layout.Layout.{Layout}
 use Rattle.sect_place.specs.declared.layout.Placed.{Placed}
-use Rattle.sym_out.specs.Sites.{has_atom, section_number}
+use Rattle.sym_out.specs.Sites.{section_number}
 use Rattle.sym_out.specs.inner.Tables.{IsTableOf}
 
 -- a number, or where it is none another one
@@ -16,7 +17,7 @@ AreNumbers number placed numbers = IsTableOf (λ n. n) number placed numbers
 
 -- an atom's number, or where it has none the one that these atoms get
 unfoldable pub numbered : (AtomKey → ℕ) → ℕ → List AtomKey → AtomKey → ℕ
-numbered number n atoms atom = or_number (number atom) (if has_atom atoms atom then n else NO_SECT)
+numbered number n atoms atom = or_number (number atom) (if has atoms atom then n else NO_SECT)
 
 -- the atoms of a layout, and the numbers of their sections
 pub record IsSited (layout : Layout) (placed : List Placed) (numbers : List ℕ) : Type 0 where

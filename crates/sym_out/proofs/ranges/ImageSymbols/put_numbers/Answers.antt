@@ -2,7 +2,7 @@ use Rattle.std.proofs.Common.{ℕ, ◌++◌, ap, ◌∙◌}
 use Rattle.mo_bytes.specs.Number.{number_bytes}
 use Rattle.sym_out.specs.Symbols.{indirect_number}
 use Rattle.sym_out.proofs.Loops.{putting_goes_on}
-use Rattle.sym_out.proofs.ranges.Ranges.put_numbers.Goals as goal
+use Rattle.sym_out.proofs.ranges.ImageSymbols.put_numbers.Goals as goal
 
 pub loop-goal-preserved : goal.loop-goal-preserved
 loop-goal-preserved c =
