@@ -14,3 +14,6 @@ pub mod Sizing
 pub mod LawLemmas
 pub mod WinnerLaws
 pub mod OneLemmas
+pub mod OneOrder
+pub mod Drawn
+pub mod MapLemmas

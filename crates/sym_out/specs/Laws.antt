@@ -6,11 +6,14 @@ use Rattle.mo_format.specs.declared.loader.TheConstants.{INDIRECT_SYMBOL_LOCAL}
 use Rattle.mo_types.specs.Goals.{name_of}
 use Rattle.mo_types.specs.declared.goal.Goal.{Goal}
 use Rattle.mo_types.specs.Candidates.{word_of}
+use Rattle.mo_types.specs.declared.atom.Atom.{Atom}
 use Rattle.mo_types.specs.declared.loaded.LoadedFile.{LoadedFile}
+use Rattle.sect_place.specs.declared.layout.Placed.{Placed}
 use Rattle.slot_plan.specs.declared.list.Slots.{Slots}
 use Rattle.symbol_winners.specs.declared.winner.Winner.{Winner}
 use Rattle.sym_out.specs.Entries.{Entry, nlist_of, string_of, strings_bytes, symbols_bytes}
 use Rattle.sym_out.specs.Files.{FileSymbol, stands}
+use Rattle.sym_out.specs.Map.{IsMap}
 use Rattle.sym_out.specs.Sizes.{sizes_of}
 use Rattle.sym_out.specs.Symbols.{Ranges, entries_of, indirect_number, parts_of, winning_symbol}
 
@@ -48,6 +51,10 @@ pub record IsItsSymbol (files : List LoadedFile) (winner : Winner) : Type 0 wher
   pub external : symbol.symbol.external ≡ true
   pub word : word_of symbol.file.id symbol.index symbol.symbol ≡ winner.word
   pub stands_there : stands symbol ≡ Some (record { atom = winner.atom; offset = winner.offset })
+
+-- some bytes are the map
+abbrev pub HasMap : List Placed → List Atom → List LoadedFile → Type 0
+HasMap placed atoms files = (map : List ℕ) × IsMap placed atoms files map
 
 -- an entry stands among some, and no other one of its name does
 pub record IsOne (entries : List Entry) (entry : Entry) : Type 0 where

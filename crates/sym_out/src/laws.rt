@@ -1,5 +1,5 @@
 //! What the definitions mean, each on a call that does nothing.
-ghost use Rattle.std.specs.Prelude.{◌≡◌, ℕ, ◌<◌, Contains, List, Some, length, slice_index_or};
+ghost use Rattle.std.specs.Prelude.{◌≡◌, ◌≢◌, ℕ, ◌<◌, Contains, List, Some, length, slice_index_or};
 ghost use Rattle.std.specs.List.{AllPairs, filter_map};
 ghost use Rattle.std.specs.Cmp.Lexicographic.{slice_cmp};
 ghost use Rattle.std.specs.Ordering.{nat_cmp};
@@ -7,14 +7,18 @@ ghost use Rattle.std.specs.declared.cmp.Ordering.TheVariants.{Less};
 ghost use Rattle.command_line.specs.declared.command.Command.{Command};
 ghost use Rattle.mo_types.specs.Goals.{name_of};
 ghost use Rattle.mo_types.specs.Loaded.{IsWholeLoaded};
+ghost use Rattle.mo_types.specs.declared.atom.Atom.{Atom};
 ghost use Rattle.mo_types.specs.declared.loaded.Loaded.{Loaded};
+ghost use Rattle.mo_types.specs.declared.loaded.LoadedFile.{LoadedFile};
 ghost use Rattle.mo_types.specs.declared.goal.Goal.{Goal};
 ghost use Rattle.sect_place.specs.declared.layout.Layout.{Layout};
+ghost use Rattle.sect_place.specs.declared.layout.Placed.{Placed};
 ghost use Rattle.slot_plan.specs.declared.list.Slots.{Slots};
 ghost use Rattle.symbol_winners.specs.SymbolTable.{IsSymbolTable, SymbolTable};
 ghost use Rattle.symbol_winners.specs.declared.winner.Winner.{Winner};
 ghost use Rattle.sym_out.specs.Entries.{Entry};
-ghost use Rattle.sym_out.specs.Laws.{HaveSizes, IsItsSymbol, IsNamed, IsOne, LeadsToSymbol};
+ghost use Rattle.sym_out.specs.Laws.{HasMap, HaveSizes, IsItsSymbol, IsNamed, IsOne, LeadsToSymbol};
+ghost use Rattle.sym_out.specs.Map.{IsMap};
 ghost use Rattle.sym_out.specs.Symbols.{Ranges, exported_entry, undefined_entry};
 
 /// The sizes of an image's symbols and of its indirect table are known by the counts of both.
@@ -50,4 +54,12 @@ pub fn exported_winners_have_one_symbol()
         → AllPairs (λ (a : Winner) (b : Winner). slice_cmp nat_cmp a.name b.name ≡ Less) symbols.winners
         → Contains symbols.winners winner → exported_entry layout symbols winner ≡ Some entry
         → IsOne (filter_map (exported_entry layout symbols) symbols.winners) entry }
+{}
+
+/// There is a map, and where no atom is kept twice there is one.
+pub fn maps_are_one()
+    ensures there { (placed : List Placed) (atoms : List Atom) (files : List LoadedFile) → HasMap placed atoms files }
+    ensures one { (placed : List Placed) (atoms : List Atom) (files : List LoadedFile) (lines : List ℕ) (others : List ℕ)
+        → AllPairs (λ (a : Atom) (b : Atom). a.key ≢ b.key) atoms → IsMap placed atoms files lines → IsMap placed atoms files others
+        → lines ≡ others }
 {}

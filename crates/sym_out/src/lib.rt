@@ -30,9 +30,9 @@
 //!
 //! The laws say that the sizes of the parts are known by counts, that each symbol leads to its name, that a stub or
 //! slot leads to a symbol of its goal's name, that a bound goal and a winner that other images see have one symbol
-//! each, and that a winner's word tells the symbol that won. A body that lists atoms by key, one that takes the last
-//! name of an atom, one that writes a winner at its own literal, and one that tells no symbol for an import don't meet
-//! the contracts.
+//! each, that a winner's word tells the symbol that won, and that a map is one. A body that lists atoms by key, one
+//! that takes the last name of an atom, one that writes a winner at its own literal, and one that tells no symbol for
+//! an import don't meet the contracts.
 #![tactic(auto)]
 
 mod entry;
@@ -48,7 +48,7 @@ mod sites;
 mod sizes;
 
 pub use laws::{
-    bound_goals_have_one_symbol, exported_winners_have_one_symbol, sizes_are_counts,
+    bound_goals_have_one_symbol, exported_winners_have_one_symbol, maps_are_one, sizes_are_counts,
     slots_lead_to_symbols, symbols_lead_to_their_names, winners_lead_to_their_symbols,
 };
 pub use map::write_map;
