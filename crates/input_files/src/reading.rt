@@ -11,9 +11,7 @@ ghost use Rattle.input_files.specs.Files.{HasUnwinds, IsLoadFault};
 use crate::fault::LoadFault;
 use crate::form::is_later;
 use mo_obj::{LinkObject, read_for_link};
-use mo_types::{
-    Bytes, Feature, FileId, Kind, LoadedFile, ObjFault, Refusal, Rule, kind_of,
-};
+use mo_types::{Bytes, Feature, FileId, Kind, LoadedFile, ObjFault, Refusal, Rule, kind_of};
 use std::alloc::Global;
 
 // The answer for a file that has a fault.
