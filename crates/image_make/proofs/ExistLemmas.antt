@@ -1,5 +1,5 @@
 -- Each plan has an image, or a reason why there is none.
-use Rattle.std.proofs.Common.{◌≡◌, ℕ, ◌-◌, ◌<◌, ◌^◌, ◌⊎◌, inl, inr, pos, ℤ, Bool, true, false, List, [], length, take, drop, Option, Some, None, Ok, Err, refl, arith, if◌then◌else◌}
+use Rattle.std.proofs.Common.{◌≡◌, ℕ, ◌-◌, ◌<◌, ◌^◌, ◌⊎◌, inl, inr, pos, ℤ, Bool, true, false, List, [], take, drop, Option, Some, None, Ok, Err, refl, arith, if◌then◌else◌}
 use Rattle.std.specs.Prelude.{◌==◌, All, slice_get}
 use Rattle.std.specs.Option.{option_map_or}
 use Rattle.std.proofs.lemmas.Bool.{cases_lt}

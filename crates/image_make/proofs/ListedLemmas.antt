@@ -1,7 +1,7 @@
 -- The references of an atom, by their indices in their file's list.
-use Rattle.std.proofs.Common.{◌≡◌, ℕ, ◌+◌, Bool, true, false, cond, List, [], ◌∷◌, ◌++◌, length, map, slice_get, Some, refl, sym, ap, ◌∙◌, arith, append_assoc, length-append, nat_eq}
-use Rattle.std.specs.List.{filter, flat_map, range_with_len}
-use Rattle.std.specs.Option.{option_map_or, option_to_list}
+use Rattle.std.proofs.Common.{◌≡◌, ℕ, ◌+◌, Bool, true, false, cond, List, [], ◌∷◌, ◌++◌, length, slice_get, Some, None, refl, sym, ap, ◌∙◌, arith, append_assoc, length-append, nat_eq}
+use Rattle.std.specs.List.{cons_option, filter, filter_map, flat_map, range_with_len}
+use Rattle.std.specs.Option.{option_and_then, option_map_or, option_to_list}
 use Rattle.std.specs.Prelude.{Option}
 use Rattle.liveness.specs.Order.{is_at, place_at, place_of, refs_of_atom}
 use Rattle.mo_types.specs.declared.goal.Goal.{Goal}
@@ -23,9 +23,14 @@ at_front front back r n is = rw is (behind front r back)
 longer : (front : List Ref) (r : Ref) (n : ℕ) → n ≡ length front → n + 1 ≡ length (front ++ r ∷ [])
 longer front r n is = omega (arith, is, length-append front (r ∷ []))
 
+-- what is found goes before what follows
+found_first : (found : Option Met) (rest others : List Met) → rest ≡ others → option_to_list found ++ rest ≡ cons_option found others
+found_first None rest others e = e
+found_first (Some met) rest others e = ap (λ (ys : List Met). met ∷ ys) e
+
 -- the indices of what stands behind some references, of one atom
 each_of : (scene : Addressing) (goals : List Goal) (refs : List Ref) (section offset : ℕ) (front back : List Ref) (n : ℕ) → refs ≡ front ++ back → n ≡ length front
-    → flat_map (mets_at scene goals refs) (filter (is_at refs section offset) (range_with_len n (length back))) ≡ map (met_of scene goals) (filter (is_ref_of section offset) back)
+    → flat_map (mets_at scene goals refs) (filter (is_at refs section offset) (range_with_len n (length back))) ≡ filter_map (met_of scene goals) (filter (is_ref_of section offset) back)
 unfolding mets_at place_at
 each_of scene goals refs section offset front [] n are is = refl
 each_of scene goals refs section offset front (r ∷ back) n are is =
@@ -38,10 +43,10 @@ each_of scene goals refs section offset front (r ∷ back) n are is =
     here : slice_get refs n ≡ Some r
     here = ap (λ (xs : List Ref). slice_get xs n) are ∙ at_front front back r n is
 
-    step : flat_map (mets_at scene goals refs) left ≡ map (met_of scene goals) (filter (is_ref_of section offset) back) → (b : Bool) → flat_map (mets_at scene goals refs) (cond b (n ∷ left) left) ≡ map (met_of scene goals) (cond b (r ∷ filter (is_ref_of section offset) back) (filter (is_ref_of section offset) back))
+    step : flat_map (mets_at scene goals refs) left ≡ filter_map (met_of scene goals) (filter (is_ref_of section offset) back) → (b : Bool) → flat_map (mets_at scene goals refs) (cond b (n ∷ left) left) ≡ filter_map (met_of scene goals) (cond b (r ∷ filter (is_ref_of section offset) back) (filter (is_ref_of section offset) back))
     step rest true =
-        ap (λ (o : Option Ref). map (met_of scene goals) (option_to_list o) ++ flat_map (mets_at scene goals refs) left) here
-        ∙ ap (λ (ys : List Met). met_of scene goals r ∷ ys) rest
+        ap (λ (o : Option Ref). option_to_list (option_and_then (met_of scene goals) o) ++ flat_map (mets_at scene goals refs) left) here
+        ∙ found_first (met_of scene goals r) (flat_map (mets_at scene goals refs) left) (filter_map (met_of scene goals) (filter (is_ref_of section offset) back)) rest
     step rest false = rest
 
 pub atom_mets : (scene : Addressing) (goals : List Goal) (refs : List Ref) (indices : List ℕ) (key : AtomKey) → indices ≡ refs_of_atom refs key.section key.offset

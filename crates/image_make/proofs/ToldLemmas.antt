@@ -1,5 +1,5 @@
 -- The addresses of goals modulo 2^64, which are those of near ones.
-use Rattle.std.proofs.Common.{◌≡◌, ℕ, ◌+◌, ◌<◌, ◌≤◌, ◌^◌, ◌%◌, All, List, [], ◌∷◌, ◌++◌, length, map, take, get_or, refl, sym, ap, ◌∙◌, subst, arith, Option, Some, None}
+use Rattle.std.proofs.Common.{◌≡◌, ℕ, ◌+◌, ◌<◌, ◌≤◌, ◌^◌, All, List, [], ◌∷◌, ◌++◌, length, map, take, get_or, refl, sym, ap, ◌∙◌, subst, arith, Option, Some, None}
 use Rattle.std.specs.Prelude.{slice_get, unwrap_or}
 use Rattle.std.specs.Option.{option_map, option_map_or}
 use Rattle.std.proofs.Math.Nat.{mod-eq_of_lt}
@@ -23,28 +23,28 @@ use Rattle.image_make.specs.Near.{HasNearEnds, HaveNearEnds, IsNear, IsNearTarge
 use Rattle.image_make.specs.Rows.{goals_at}
 use Rattle.image_make.specs.inner.Told.{goal_told, told}
 
-pub told_is : (n m : ℕ) → n < 2 ^ 64 → n ≡ m → n ≡ told m
-told_is n m low is = is ∙ sym (mod-eq_of_lt (subst (λ (k : ℕ). k < 2 ^ 64) is low))
+pub told_is : (n m : ℕ) → n < 2 ^ 64 → n ≡ m → Some n ≡ Some (told m)
+told_is n m low is = ap Some (is ∙ sym (mod-eq_of_lt (subst (λ (k : ℕ). k < 2 ^ 64) is low)))
 
 pub ruleset tells = (told_is)
 
 -- ---- of a near one
 
-exact_place : (placed : List Placed) (atom : AtomKey) (offset : ℕ) → AreLowPlaces placed → offset < 2 ^ 63 → told (place_address placed atom offset) ≡ place_address placed atom offset
+exact_place : (placed : List Placed) (atom : AtomKey) (offset : ℕ) → AreLowPlaces placed → offset < 2 ^ 63 → option_map told (place_address placed atom offset) ≡ place_address placed atom offset
 exact_place placed atom offset low near = by (address_in placed atom) refl
   where
-    by : (o : Option ℕ) → address_in placed atom ≡ o → told (option_map_or (λ at. at + offset) o 0) ≡ option_map_or (λ at. at + offset) o 0
-    by None e = let few : 0 < 2 ^ 64 = omega arith in mod-eq_of_lt few
-    by (Some at) e = let stands = low atom at e in let few : at + offset < 2 ^ 64 = omega (arith, stands, near) in mod-eq_of_lt few
+    by : (o : Option ℕ) → address_in placed atom ≡ o → option_map told (option_map (λ at. at + offset) o) ≡ option_map (λ at. at + offset) o
+    by None e = refl
+    by (Some at) e = let stands = low atom at e in let few : at + offset < 2 ^ 64 = omega (arith, stands, near) in ap Some (mod-eq_of_lt few)
 
 pub exact : (base : ℕ) (placed : List Placed) (goal : Goal) → base < 2 ^ 64 → AreLowPlaces placed → IsNear goal → goal_told base placed goal ≡ goal_address base placed goal
 unfolding goal_told
 exact base placed (Def atom offset) small low near = exact_place placed atom offset low near
 exact base placed (WeakSelf name atom offset) small low near = exact_place placed atom offset low near
-exact base placed Header small low near = mod-eq_of_lt small
-exact base placed (Import name ordinal by_weak optional) small low near = let few : 0 < 2 ^ 64 = omega arith in mod-eq_of_lt few
-exact base placed (Flat name) small low near = let few : 0 < 2 ^ 64 = omega arith in mod-eq_of_lt few
-exact base placed Nobody small low near = let few : 0 < 2 ^ 64 = omega arith in mod-eq_of_lt few
+exact base placed Header small low near = ap Some (mod-eq_of_lt small)
+exact base placed (Import name ordinal by_weak optional) small low near = refl
+exact base placed (Flat name) small low near = refl
+exact base placed Nobody small low near = refl
 
 at_slice : {X : Type 0} (P : X → Type 0) (xs : List X) (k : ℕ) (x : X) → All P xs → slice_get xs k ≡ Some x → P x
 at_slice P xs k x all is = subst P (get_or_from_slice_get xs k x x is) (all k x (slice_get_within xs k x is))
@@ -78,38 +78,38 @@ goals_near goals at some near is = subst (λ (gs : List Goal). All IsNear gs) (s
 
 -- ---- of all goals
 
-pub record AreToldTo (base : ℕ) (placed : List Placed) (goals : List Goal) (at : ℕ) (addresses : List ℕ) : Type 0 where
+pub record AreToldTo (base : ℕ) (placed : List Placed) (goals : List Goal) (at : ℕ) (addresses : List (Option ℕ)) : Type 0 where
   pub are : addresses ≡ map (goal_told base placed) (take at goals)
 
-pub told_start : (base : ℕ) (placed : List Placed) (goals : List Goal) (addresses : List ℕ) → addresses ≡ [] → AreToldTo base placed goals 0 addresses
+pub told_start : (base : ℕ) (placed : List Placed) (goals : List Goal) (addresses : List (Option ℕ)) → addresses ≡ [] → AreToldTo base placed goals 0 addresses
 told_start base placed goals addresses none = record { are = none }
 
-pub told_more : (base : ℕ) (placed : List Placed) (goals : List Goal) (at : ℕ) (addresses new : List ℕ) (goal : Goal) (address : ℕ) → AreToldTo base placed goals at addresses → at < length goals → goal ≡ get_or goals at goal → address ≡ goal_told base placed goal → new ≡ addresses ++ address ∷ [] → AreToldTo base placed goals (at + 1) new
+pub told_more : (base : ℕ) (placed : List Placed) (goals : List Goal) (at : ℕ) (addresses new : List (Option ℕ)) (goal : Goal) (address : Option ℕ) → AreToldTo base placed goals at addresses → at < length goals → goal ≡ get_or goals at goal → address ≡ goal_told base placed goal → new ≡ addresses ++ address ∷ [] → AreToldTo base placed goals (at + 1) new
 told_more base placed goals at addresses new goal address are low is one grown = record {
   are = grown
-      ∙ ap (λ (xs : List ℕ). xs ++ address ∷ []) are.are
-      ∙ ap (λ (x : ℕ). map (goal_told base placed) (take at goals) ++ x ∷ []) (one ∙ ap (goal_told base placed) is)
+      ∙ ap (λ (xs : List (Option ℕ)). xs ++ address ∷ []) are.are
+      ∙ ap (λ (x : Option ℕ). map (goal_told base placed) (take at goals) ++ x ∷ []) (one ∙ ap (goal_told base placed) is)
       ∙ sym (ap (map (goal_told base placed)) (take_more goals at goal low) ∙ map-append (goal_told base placed) (take at goals) (get_or goals at goal ∷ []));
 }
 
-pub told_end : (base : ℕ) (placed : List Placed) (goals : List Goal) (at : ℕ) (addresses : List ℕ) → AreToldTo base placed goals at addresses → length goals ≤ at → addresses ≡ map (goal_told base placed) goals
+pub told_end : (base : ℕ) (placed : List Placed) (goals : List Goal) (at : ℕ) (addresses : List (Option ℕ)) → AreToldTo base placed goals at addresses → length goals ≤ at → addresses ≡ map (goal_told base placed) goals
 told_end base placed goals at addresses are past = are.are ∙ ap (map (goal_told base placed)) (take_all at goals past)
 
 pub ruleset told_all = (told_start, told_more, told_end)
 
 -- ---- of a symbol
 
-pub named_there : (base : ℕ) (placed : List Placed) (pool : List Goal) (places : List ℕ) (index place : ℕ) (addresses : List ℕ) (d : ℕ) → addresses ≡ map (goal_told base placed) pool → index < length places → place ≡ get_or places index place → place < length pool → get_or addresses place d ≡ goal_told base placed (unwrap_or (slice_get (goals_in pool places) index) Nobody)
+pub named_there : (base : ℕ) (placed : List Placed) (pool : List Goal) (places : List ℕ) (index place : ℕ) (addresses : List (Option ℕ)) (d : Option ℕ) → addresses ≡ map (goal_told base placed) pool → index < length places → place ≡ get_or places index place → place < length pool → get_or addresses place d ≡ goal_told base placed (unwrap_or (slice_get (goals_in pool places) index) Nobody)
 unfolding goals_in
 named_there base placed pool places index place addresses d are low is within =
-    ap (λ (xs : List ℕ). get_or xs place d) are
+    ap (λ (xs : List (Option ℕ)). get_or xs place d) are
     ∙ get_or-map (goal_told base placed) pool place Nobody d within
     ∙ ap (goal_told base placed)
     (sym (goal_within pool place Nobody within)
     ∙ ap (λ (g : Option Goal). unwrap_or g Nobody)
     (sym (slice_get-map (goal_in pool) places index ∙ ap (option_map (goal_in pool)) (slice_get-get_or places index place low ∙ ap (λ (p : ℕ). Some p) (sym is)))))
 
-pub named_nowhere : (base : ℕ) (placed : List Placed) (pool : List Goal) (places : List ℕ) (index : ℕ) → length places ≤ index → 0 ≡ goal_told base placed (unwrap_or (slice_get (goals_in pool places) index) Nobody)
+pub named_nowhere : (base : ℕ) (placed : List Placed) (pool : List Goal) (places : List ℕ) (index : ℕ) → length places ≤ index → None ≡ goal_told base placed (unwrap_or (slice_get (goals_in pool places) index) Nobody)
 unfolding goals_in goal_told
 named_nowhere base placed pool places index past =
     ap (λ (g : Option Goal). goal_told base placed (unwrap_or g Nobody)) (sym (slice_get-map (goal_in pool) places index ∙ ap (option_map (goal_in pool)) (slice_get_past places index past)))

@@ -2,7 +2,7 @@
 use Rattle.std.proofs.Common.{◌≡◌, ℕ, zero, suc, ◌+◌, ◌-◌, ◌<◌, ◌≤◌, ◌^◌, ◌==◌, ◌⊎◌, inl, inr, Bool, true, false, List, [], ◌∷◌, length, map, take, drop, Option, Some, None, Ok, Contains, refl, sym, ap, ◌∙◌, subst, arith}
 use Rattle.std.specs.Prelude.{All, slice_get}
 use Rattle.std.specs.List.{AllPairs, enumerate_from, filter, filter_map, flat_map}
-use Rattle.std.specs.Option.{option_map_or}
+use Rattle.std.specs.Option.{option_and_then, option_map, option_map_or}
 use Rattle.std.specs.Ordering.{is_eq}
 use Rattle.std.proofs.lemmas.Bool.{eqb-true}
 use Rattle.std.proofs.lemmas.List.{length-take, take-append-drop}
@@ -10,7 +10,6 @@ use Rattle.std.proofs.lemmas.List.Elements.{All-contains, All-from_recursion, Al
 use Rattle.std.proofs.lemmas.List.Sorted.{Contains-permutation}
 use Rattle.list_lemmas.proofs.Members.{Contains_from_in, In, all_from_in, all_in, find_some, from_filter, from_filter_map, from_flat, from_map, in_either}
 use Rattle.mo_types.specs.AtomBytes.{atom_bytes}
-use Rattle.mo_types.specs.Atoms.{atoms_of}
 use Rattle.mo_types.specs.Keys.{compare_keys}
 use Rattle.mo_types.specs.Loaded.{IsWholeFile}
 use Rattle.mo_types.specs.Refs.{refs_of}
@@ -45,13 +44,13 @@ use Rattle.patch.specs.Patched.{AreApart, size_of}
 use Rattle.patch.specs.Range.{AreStanding, AreWork, HasFields, IsStanding, bytes_of}
 use Rattle.patch.specs.declared.met.Met.{Met}
 use Rattle.patch.specs.declared.range.PlacedWork.{PlacedWork}
-use Rattle.patch.proofs.ChosenLemmas.{Pairs, all_pairs, in_slice, pairs_filter, pairs_join, pairs_map, pairs_weaker}
+use Rattle.patch.proofs.ChosenLemmas.{Pairs, all_pairs, in_slice, pairs_filter, pairs_join, pairs_weaker}
 use Rattle.patch.proofs.ReferenceLemmas.{LieApart, apart_refs, atom_low, low_offset, within_atom}
-use Rattle.image_make.specs.Addresses.{Addressing}
+use Rattle.image_make.specs.Addresses.{Addressing, target_address}
 use Rattle.image_make.specs.Atoms.{AreLow, AreRising, atom_of, kept_as, kept_at, kept_atoms, kept_in, raised}
 use Rattle.image_make.specs.Made.{IsLaid, ImageInputs, blank, blank_of, front_of, kept_of, mets_of, plan_for, plan_with, rows_of, scene_of, sizes_of}
 use Rattle.image_make.specs.Mets as mets
-use Rattle.image_make.specs.Mets.{is_ref_of, met_of}
+use Rattle.image_make.specs.Mets.{is_ref_of, met_at, met_of, minus_address}
 use Rattle.image_make.specs.Rows.{goals_at, has_bytes, kept_mets, row_at, row_of, rows, section_rows}
 use Rattle.image_make.specs.declared.kept.KeptAtom.{KeptAtom}
 use Rattle.image_make.proofs.LaidLemmas.{low_atoms}
@@ -311,41 +310,63 @@ chosen_of file atom r whole listed h =
     let same = low_key file.object atom r (omega (arith, low)) (omega (arith, small)) passed.1 in
     (passed.0, same.0, same.1)
 
+-- a reference that is met has its own place and kind
+pub as_met : (scene : Addressing) (goals : List Goal) (r : Ref) (met : Met) → met_of scene goals r ≡ Some met → (value : ℕ) × (minus : ℕ) × (met_at r value minus ≡ met)
+unfolding met_of
+as_met scene goals r met e = by (target_address scene goals r.target) (minus_address scene goals r) e
+  where
+    by : (value minus : Option ℕ) → option_and_then (λ v. option_map (met_at r v) minus) value ≡ Some met → (value : ℕ) × (minus : ℕ) × (met_at r value minus ≡ met)
+    by None minus f = absurd cc
+    by (Some value) None f = absurd cc
+    by (Some value) (Some minus) f = (value, minus, cc)
+
 fields_within : (scene : Addressing) (goals : List Goal) (file : LoadedFile) (atom : Atom) → IsWholeFile file → In atom file.atoms → All (λ (met : Met). met.place + size_of met ≤ length (atom_bytes file.object atom)) (mets.mets_of scene goals file.refs atom.key)
-unfolding mets.mets_of met_of
+unfolding mets.mets_of
 fields_within scene goals file atom whole listed =
     let Fit : Met → Type 0 = λ (met : Met). met.place + size_of met ≤ length (atom_bytes file.object atom) in
-    All-from_recursion Fit (map (met_of scene goals) (chosen file atom.key)) (all_from_in Fit (map (met_of scene goals) (chosen file atom.key)) each)
+    All-from_recursion Fit (filter_map (met_of scene goals) (chosen file atom.key)) (all_from_in Fit (filter_map (met_of scene goals) (chosen file atom.key)) each)
   where
-    each : (met : Met) → In met (map (met_of scene goals) (chosen file atom.key)) → met.place + size_of met ≤ length (atom_bytes file.object atom)
+    each : (met : Met) → In met (filter_map (met_of scene goals) (chosen file atom.key)) → met.place + size_of met ≤ length (atom_bytes file.object atom)
     each met h =
-        let m = from_map (met_of scene goals) (chosen file atom.key) met h in
+        let m = from_filter_map (met_of scene goals) (chosen file atom.key) met h in
+        let found = as_met scene goals m.0 met m.2 in
         let of = chosen_of file atom m.0 whole listed m.1 in
         let fits : m.0.place + field_size m.0.kind ≤ length (atom_bytes file.object atom) = within_atom file.object file.id file.refs atom m.0 whole.object whole.refs (subst (λ (xs : List Atom). In atom xs) whole.atoms listed) of.0 of.1 of.2 in
-        subst (λ (x : Met). x.place + size_of x ≤ length (atom_bytes file.object atom)) m.2 fits
+        subst (λ (x : Met). x.place + size_of x ≤ length (atom_bytes file.object atom)) found.2 fits
 
 -- the references of a file are those of its object, or there are none
 abbrev pub HasRefs : LoadedFile → Type 0
 HasRefs file = (refs_of file.object file.id ≡ Ok file.refs) ⊎ (file.refs ≡ [])
 
+-- what is found of pairs
+pairs_found : {X Y : Type 0} (f : X → Option Y) (R : X → X → Type 0) (S : Y → Y → Type 0) (xs : List X) → ((a b : X) (x y : Y) → In a xs → In b xs → f a ≡ Some x → f b ≡ Some y → R a b → S x y) → Pairs R xs → Pairs S (filter_map f xs)
+pairs_found f R S [] leads pairs = tt
+pairs_found {Y = Y} f R S (a ∷ xs) leads pairs = by (f a) refl (pairs_found f R S xs (λ b c x y h k. leads b c x y (inr h) (inr k)) pairs.1)
+  where
+    by : (o : Option Y) → f a ≡ o → Pairs S (filter_map f xs) → Pairs S (filter_map f (a ∷ xs))
+    by None e rest = rw e rest
+    by (Some x) e rest = rw e ((λ y h. let found = from_filter_map f xs y h in leads a found.0 x y (inl refl) (inr found.1) e found.2 (pairs.0 found.0 found.1)), rest)
+
 fields_apart : (scene : Addressing) (goals : List Goal) (file : LoadedFile) (key : AtomKey) → HasRefs file → AllPairs AreApart (mets.mets_of scene goals file.refs key)
-unfolding mets.mets_of met_of
+unfolding mets.mets_of
 fields_apart scene goals file key (inr none) = rw none (λ i j d low high. absurd (omega (arith, high)))
 fields_apart scene goals file key (inl refs) =
-    all_pairs AreApart (map (met_of scene goals) (chosen file key))
-    (pairs_map (met_of scene goals) AreApart (chosen file key)
-    (pairs_weaker LieApart (λ a b. AreApart (met_of scene goals a) (met_of scene goals b)) (chosen file key) meets
-    (pairs_filter LieApart (is_ref_of key.section key.offset) file.refs (apart_refs file.object file.id file.refs refs))))
+    all_pairs AreApart (filter_map (met_of scene goals) (chosen file key))
+    (pairs_found (met_of scene goals) LieApart AreApart (chosen file key) meets
+    (pairs_filter LieApart (is_ref_of key.section key.offset) file.refs (apart_refs file.object file.id file.refs refs)))
   where
-    meets : (a b : Ref) → In a (chosen file key) → In b (chosen file key) → LieApart a b → AreApart (met_of scene goals a) (met_of scene goals b)
-    meets a b h k apart =
+    meets : (a b : Ref) (x y : Met) → In a (chosen file key) → In b (chosen file key) → met_of scene goals a ≡ Some x → met_of scene goals b ≡ Some y → LieApart a b → AreApart x y
+    meets a b x y h k as_x as_y apart =
+        let met_a = as_met scene goals a x as_x in
+        let met_b = as_met scene goals b y as_y in
         let first = from_filter (is_ref_of key.section key.offset) file.refs a h in
         let second = from_filter (is_ref_of key.section key.offset) file.refs b k in
         let low = low_offset file.object file.id file.refs a refs first.0 in
         let small = low_offset file.object file.id file.refs b refs second.0 in
         let one = eqb-true (place_of a.atom.section a.atom.offset) (place_of key.section key.offset) first.1 in
         let other = eqb-true (place_of b.atom.section b.atom.offset) (place_of key.section key.offset) second.1 in
-        apart (omega (arith, one, other, low, small)) (omega (arith, one, other, low, small))
+        let lie : AreApart (met_at a met_a.0 met_a.1) (met_at b met_b.0 met_b.1) = apart (omega (arith, one, other, low, small)) (omega (arith, one, other, low, small)) in
+        subst (λ (z : Met). AreApart x z) met_b.2 (subst (λ (z : Met). AreApart z (met_at b met_b.0 met_b.1)) met_a.2 lie)
 
 bytes_are : (m : ImageInputs) (row : PlacedWork) (of : IsOfFile m row) → bytes_of m.files row ≡ atom_bytes of.file.object of.among
 unfolding bytes_of raised

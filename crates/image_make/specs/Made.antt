@@ -1,6 +1,6 @@
 -- The image of the atoms that are kept (`loader.h`).
-use Rattle.std.specs.Prelude.{ℕ, ◌+◌, ◌-◌, ◌<◌, ◌^◌, false, List, [], ◌∷◌, length, map, slice_get, All, Result, Ok, Err}
-use Rattle.std.specs.Option.{option_map_or}
+use Rattle.std.specs.Prelude.{ℕ, ◌+◌, ◌-◌, ◌<◌, ◌^◌, false, List, [], ◌∷◌, length, map, slice_get, unwrap_or, All, Option, Result, Ok, Err}
+use Rattle.std.specs.Option.{option_map, option_map_or}
 use Rattle.image_make.specs.Addresses.{Addressing, goal_address}
 use Rattle.image_make.specs.Atoms.{atom_of, kept_atoms}
 use Rattle.image_make.specs.Rows.{kept_mets, rows}
@@ -74,18 +74,20 @@ pub record IsLaid (m : ImageInputs) (layout : Layout) : Type 0 where
   pub layout_of : IsLayoutOf m.command (plan_for m) layout
   pub small : image_size (plan_for m) < 2 ^ 32
 
--- the offset of a goal from the start of `__TEXT`
-abbrev pub offset_of : Command → Layout → Goal → ℕ
-offset_of command layout goal = goal_address (base_of command) layout.placed goal - base_of command
+-- the offset of a goal that the image has from the start of `__TEXT`
+abbrev pub offset_of : Command → Layout → Goal → Option ℕ
+offset_of command layout goal = option_map (λ address. address - base_of command) (goal_address (base_of command) layout.placed goal)
 
 -- that of the first instruction
-abbrev pub entry_offset : ImageInputs → Layout → ℕ
+abbrev pub entry_offset : ImageInputs → Layout → Option ℕ
 entry_offset m layout = offset_of m.command layout m.entry
 
 abbrev pub no_place : PartPlace
 no_place = record { offset = 0; size = 0 }
 
-abbrev pub parts_of : ℕ → ℕ → PartSizes
+-- The flags and the entry's offset are told beside the layout. A library has no load command for the offset; a program whose
+-- image hasn't its entry would tell 0.
+abbrev pub parts_of : ℕ → Option ℕ → PartSizes
 parts_of flags entryoff = record {
   there = no_parts;
   fixups = no_place;
@@ -97,7 +99,7 @@ parts_of flags entryoff = record {
   locals = 0;
   exported = 0;
   undefined = 0;
-  entryoff = entryoff;
+  entryoff = unwrap_or entryoff 0;
   flags = flags;
 }
 

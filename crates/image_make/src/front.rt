@@ -27,7 +27,7 @@ pub(crate) fn base_of(command: &Command) -> u64
 const NO_PLACE: PartPlace = PartPlace { offset: 0, size: 0 };
 
 // The parts of an image and what else its load commands tell.
-fn parts_of(flags: u32, entryoff: u64) -> PartSizes
+fn parts_of(flags: u32, entryoff: Option<u64>) -> PartSizes
     ensures { result ≡ spec.parts_of flags entryoff }
 {
     PartSizes {
@@ -41,9 +41,21 @@ fn parts_of(flags: u32, entryoff: u64) -> PartSizes
         locals: 0,
         exported: 0,
         undefined: 0,
-        entryoff,
+        entryoff: entryoff.unwrap_or(0),
         flags,
     }
+}
+
+// The offset of a goal that the image has from the start of `__TEXT`.
+fn offset_of(command: &Command, layout: &Layout, goal: &Goal) -> Option<u64>
+    requires once { AreOnce layout.now.placed }
+    requires low { AreLowPlaces layout.now.placed }
+    requires near { IsNear goal.now }
+    ensures { result ≡ spec.offset_of command.now layout.now goal.now }
+{
+    let base = base_of(command);
+    let address = goal_address(layout, base, goal)?;
+    Some(address.saturating_sub(base))
 }
 
 /// The header, of these flags, with the load commands of an image that begins at a goal.
@@ -62,8 +74,6 @@ pub(crate) fn front_of(
     ensures { IfOk result (λ front. front
         ≡ commands_of layout.now (spec.parts_of flags (spec.offset_of command.now layout.now entry.now)) command.now libs.now) }
 {
-    let base = base_of(command);
-    let start = goal_address(layout, base, entry);
-    let parts = parts_of(flags, start.saturating_sub(base));
+    let parts = parts_of(flags, offset_of(command, layout, entry));
     commands(alloc, layout, &parts, command, libs)
 }

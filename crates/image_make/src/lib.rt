@@ -10,16 +10,16 @@
 //!
 //! `kept_atoms` answers the atoms whose keys are kept, file by file, a literal with the greatest alignment of those
 //! for which it stands (`specs/Atoms.antt`). `work_of` answers those with bytes in the file, in the order of the
-//! image, with their places (`specs/Rows.antt`). `AtomReferences` says what their references mean (`specs/Mets.antt`),
-//! and `goal_address` where one goal stands (`specs/Addresses.antt`). These are to be near, so that no address has more
-//! than 64 bits.
+//! image, with their places (`specs/Rows.antt`). `AtomReferences` says what their references mean that lead to what has
+//! an address in the image (`specs/Mets.antt`), and `goal_address` where one goal stands, if it does
+//! (`specs/Addresses.antt`). These are to be near, so that no address has more than 64 bits.
 //!
 //! The module `laying` makes the layout, `front` the header, and `filling` puts the atoms into a blank image; `making`
 //! is the line of these three. The laws say that whole files have an image or a fault (`an_image_or_a_fault_exists`),
 //! as what is laid out stands apart (`what_is_laid_is_work`). What images mean to the loader is said in `loader_laws`.
 //!
-//! Their contracts refuse a body that leads to a merged literal itself, one that tells the entry as an address, and
-//! one that subtracts a reference's own target.
+//! Their contracts refuse a body that leads to a merged literal itself, one by which an import stands at 0, and one
+//! that subtracts a reference's own target.
 #![tactic(auto)]
 
 mod addresses;

@@ -30,7 +30,7 @@ pub struct AtomReferences<'a> {
     layout: &'a Layout,
     base: u64,
     goals: &'a GoalTable,
-    addresses: Vec<u64>,
+    addresses: Vec<Option<u64>>,
 }
 
 // Puts the references of an atom behind others.

@@ -7,4 +7,4 @@ pub returns : goal.returns
 returns c =
     let small : c.args.setting.now.base < 2 ^ 64 = omega arith in
     c.told_target.ensures
-    ∙ exact_target (scene_of c.args.setting.now) (goals_there c.args.setting.now c.args.places.now) c.args.target.now small c.requires.low c.requires.goals c.requires.near
+    ∙ exact_target (scene_of c.args.setting.now) (goals_there c.args.setting.now c.args.places.now) c.args.target.now small c.requires.ready.low c.requires.ready.goals c.requires.near
