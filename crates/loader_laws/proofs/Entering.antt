@@ -1,5 +1,6 @@
 -- The command that tells where a program begins.
-use Rattle.std.proofs.Common.{◌≡◌, ◌≢◌, ℕ, ◌+◌, ◌<◌, ◌^◌, ◌==◌, ◌&&◌, nat_le, Bool, true, false, List, [], ◌∷◌, ◌++◌, map, length, take, drop, Option, Some, None, refl, sym, ap, ◌∙◌, arith, tests, if◌then◌else◌, append_assoc, length-append}
+use Rattle.std.proofs.Common.{◌≡◌, ◌≢◌, ℕ, ◌+◌, ◌<◌, ◌^◌, ◌==◌, ◌&&◌, nat_le, Bool, true, false, List, [], ◌∷◌, ◌++◌, map, length, take, drop, Option, Some, None, refl, sym, ap, ◌∙◌, subst, arith, tests, if◌then◌else◌, append_assoc, length-append}
+use Rattle.std.specs.Prelude.{unwrap_or}
 use Rattle.std.specs.List.{AllByRecursion, flat_map}
 use Rattle.mo_bytes.specs.Number.{number, number_bytes}
 use Rattle.mo_bytes.proofs.Numbers.{number-number_bytes}
@@ -114,11 +115,13 @@ program_list parts command libs program = rw program refl
 if_there : (b : Bool) (image : List ℕ) (places : List ℕ) (command : EntryPointCommand) → b ≡ true → first_some (entry_at image) places ≡ Some command → (if b then first_some (entry_at image) places else None) ≡ Some command
 if_there b image places command p q = rw (p, q) refl
 
-pub entry_found : (m : ImageInputs) (layout : Layout) (image : List ℕ) → AreRising m → IsImage m layout image → m.command.dylib ≡ false → entry_offset m layout < 2 ^ 64 → entry_of image ≡ Some (entry_command (entry_offset m layout))
+pub entry_found : (m : ImageInputs) (layout : Layout) (image : List ℕ) (offset : ℕ) → AreRising m → IsImage m layout image → m.command.dylib ≡ false → entry_offset m layout ≡ Some offset → offset < 2 ^ 64 → entry_of image ≡ Some (entry_command offset)
 unfolding entry_of
-entry_found m layout image rising is program low =
-    let entryoff = entry_offset m layout in
+entry_found m layout image offset rising is program offset_is few =
     let parts = parts_for m layout in
+    let entryoff : ℕ = parts.entryoff in
+    let same : entryoff ≡ offset = ap (λ (o : Option ℕ). unwrap_or o 0) offset_is in
+    let low : parts.entryoff < 2 ^ 64 = subst (λ (n : ℕ). n < 2 ^ 64) (sym same) few in
     let segments = segment_list parts (stub_count layout.sections) (slot_count layout.sections) layout.segments layout.sections in
     let before : List (List ℕ) = dylinker_bytes ∷ version_bytes m.command ∷ [] in
     let behind : List (List ℕ) = map (library_bytes m.libs) m.libs.libraries ++ map rpath_bytes m.command.rpaths in
@@ -142,3 +145,4 @@ entry_found m layout image rising is program low =
     (ap (first_some (entry_at image)) (places_there image (commands_list m layout) front ∙ ap (places_from 32) all)
     ∙ ap (λ (n : ℕ). first_some (entry_at image) (places_from n ((segments ++ before) ++ (entry_bytes parts ∷ behind)))) (sym front.long)
     ∙ past ∙ first)
+    ∙ ap (λ (n : ℕ). Some (entry_command n)) same

@@ -3,7 +3,7 @@ use Rattle.std.proofs.Common.{◌≡◌, ℕ, ◌+◌, ◌≤◌, Bool, true, fa
 use Rattle.std.specs.FinMap as finite
 use Rattle.std.specs.FinMap.{get-from_entries}
 use Rattle.std.specs.List.{find}
-use Rattle.std.specs.Option.{option_map, option_map_or}
+use Rattle.std.specs.Option.{option_map}
 use Rattle.std.specs.Ordering.{is_eq, ordering_reverse}
 use Rattle.std.specs.declared.cmp.Ordering.{Ordering}
 use Rattle.std.specs.declared.cmp.Ordering.TheVariants.{Less, Equal, Greater}
@@ -91,23 +91,20 @@ address_found placed key = get-from_entries compare_keys_total (map (λ (p : Pla
 some_is : {X : Type 0} (x y : X) → Some x ≡ Some y → x ≡ y
 some_is x y e = cc
 
-placed_at : (placed : List Placed) (key : AtomKey) (offset address : ℕ) → in_atom (addresses_of placed) key offset ≡ Some address → work.place_address placed key offset ≡ address
-placed_at placed key offset address e = by (address_in placed key) (ap (option_map (λ (start : ℕ). start + offset)) (sym (address_found placed key)) ∙ e)
-  where
-    by : (found : Option ℕ) → option_map (λ (start : ℕ). start + offset) found ≡ Some address → option_map_or (λ (at : ℕ). at + offset) found 0 ≡ address
-    by None is = absurd cc
-    by (Some start) is = some_is (start + offset) address is
+place_same : (placed : List Placed) (key : AtomKey) (offset : ℕ) → work.place_address placed key offset ≡ in_atom (addresses_of placed) key offset
+place_same placed key offset = ap (option_map (λ (start : ℕ). start + offset)) (sym (address_found placed key))
 
 pub none_at : {X : Type 0} (address : ℕ) → None ≡ Some address → X
 none_at address e = absurd cc
 
-pub goal_there : (m : ImageInputs) (layout : Layout) (image : List ℕ) (goal : Goal) (address : ℕ) → AreRising m → IsImage m layout image → goal_address image (addresses_of layout.placed) goal ≡ Some address → work.goal_address (layouts.base_of m.command) layout.placed goal ≡ address
-goal_there m layout image (Def key offset) address rising is e = placed_at layout.placed key offset address e
-goal_there m layout image (WeakSelf name key offset) address rising is e = placed_at layout.placed key offset address e
-goal_there m layout image Header address rising is e = some_is (layouts.base_of m.command) address (sym (base_is m layout image rising is) ∙ e)
-goal_there m layout image (Import name ordinal by_weak optional) address rising is e = none_at address e
-goal_there m layout image (Flat name) address rising is e = none_at address e
-goal_there m layout image Nobody address rising is e = none_at address e
+-- the reader of an image finds a goal where it was put, or nowhere as it was put nowhere
+pub goal_same : (m : ImageInputs) (layout : Layout) (image : List ℕ) (goal : Goal) → AreRising m → IsImage m layout image → work.goal_address (layouts.base_of m.command) layout.placed goal ≡ goal_address image (addresses_of layout.placed) goal
+goal_same m layout image (Def key offset) rising is = place_same layout.placed key offset
+goal_same m layout image (WeakSelf name key offset) rising is = place_same layout.placed key offset
+goal_same m layout image Header rising is = sym (base_is m layout image rising is)
+goal_same m layout image (Import name ordinal by_weak optional) rising is = refl
+goal_same m layout image (Flat name) rising is = refl
+goal_same m layout image Nobody rising is = refl
 
 -- ---- none stands before the image
 

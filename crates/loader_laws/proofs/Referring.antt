@@ -15,14 +15,13 @@ use Rattle.patch.specs.Reading.{GivesPage, LeadsTo, Tells}
 use Rattle.patch.specs.declared.met.Met.{Met}
 use Rattle.image_read.specs.Denotes.{DenotesBy, Places, TellsBranch, TellsDistance, TellsLowBits, TellsTarget, distance_of, itself, page_of_address, wrapped}
 use Rattle.image_read.specs.Held.{AtomMap, goal_address, target_of}
-use Rattle.image_read.specs.Meaning.{denote}
 use Rattle.image_read.specs.Reaches.{StopsBy, is_looked_up, is_zero}
 use Rattle.image_read.specs.declared.meaning.Meaning.TheVariants.{Difference, Low12}
 use Rattle.loader_laws.specs.Means.{AreInMemory}
 use Rattle.loader_laws.specs.References.{IsDirectBy, Stands, StandsFrom}
 use Rattle.loader_laws.proofs.Telling.{branch_told, diff32_told, diff64_told, long_there, low12_same, low12_told, page_told, word_there}
 
-some_of : (found : Option ℕ) → IsSome found → (n : ℕ) × (found ≡ Some n)
+pub some_of : (found : Option ℕ) → IsSome found → (n : ℕ) × (found ≡ Some n)
 some_of None is = absurd cc
 some_of (Some n) is = (n, refl)
 
@@ -34,6 +33,12 @@ IsMet image addresses goal value = (address : ℕ) → goal_address image addres
 abbrev pub IsMetFrom : List ℕ → AtomMap → Option Goal → ℕ → Type 0
 IsMetFrom image addresses None value = Unit {0}
 IsMetFrom image addresses (Some goal) value = IsMet image addresses goal value
+
+-- where the kind is that of a difference
+abbrev pub IsMetFromBy : RefKind → List ℕ → AtomMap → Option Goal → ℕ → Type 0
+IsMetFromBy Diff32 image addresses minus value = IsMetFrom image addresses minus value
+IsMetFromBy Diff64 image addresses minus value = IsMetFrom image addresses minus value
+IsMetFromBy _ image addresses minus value = Unit {0}
 
 -- where the image has the goal, its target is the one that was met
 target_met : (image : List ℕ) (addresses : AtomMap) (goal : Goal) (met : Met) → IsMet image addresses goal met.value → Stands image addresses goal → target_of image addresses goal met.addend ≡ Some (fields.target_of met)
@@ -97,7 +102,7 @@ pub record IsToldAt (image : List ℕ) (kind : RefKind) (address place : ℕ) (m
   pub low : address + length bytes < 2 ^ 64
   pub tells : Tells kind (address + place) (number (field_size kind) bytes place) met
 
-pub denotes_by : (kind : RefKind) (image : List ℕ) (places : Places) (address place section : ℕ) (goal : Goal) (minus : Option Goal) (met : Met) → IsToldAt image kind address place met → IsMet image places.addresses goal met.value → IsMetFrom image places.addresses minus met.minus → IsDirectBy kind image places.addresses goal met.addend minus → DenotesBy kind image places (address + place) section goal met.addend minus
+pub denotes_by : (kind : RefKind) (image : List ℕ) (places : Places) (address place section : ℕ) (goal : Goal) (minus : Option Goal) (met : Met) → IsToldAt image kind address place met → IsMet image places.addresses goal met.value → IsMetFromBy kind image places.addresses minus met.minus → IsDirectBy kind image places.addresses goal met.addend minus → DenotesBy kind image places (address + place) section goal met.addend minus
 denotes_by Branch image places address place section goal minus met told is is_from direct =
     branch_denotes image places.addresses (address + place) (number 4 told.bytes place) goal met (word_there image told.bytes address place told.there told.room told.low) told.tells is direct.0 direct.1
 denotes_by Page image places address place section goal minus met told is is_from direct =

@@ -1,5 +1,5 @@
 -- Kept atoms of files stand in memory, each byte as its object has it but for the fields of its references.
-use Rattle.std.proofs.Common.{◌≡◌, ◌≢◌, ℕ, ◌+◌, ◌<◌, ◌≤◌, ◌⊎◌, inl, inr, Bool, true, false, List, [], length, Option, Some, Contains, refl, sym, ap, ◌∙◌, arith, subst, if◌then◌else◌}
+use Rattle.std.proofs.Common.{◌≡◌, ℕ, ◌+◌, ◌<◌, ◌≤◌, ◌⊎◌, inl, inr, Bool, true, false, List, [], length, Option, Some, Contains, refl, sym, ap, ◌∙◌, arith, subst, if◌then◌else◌}
 use Rattle.std.specs.Prelude.{All, slice_get, unwrap_or}
 use Rattle.std.specs.List.{enumerate_from, filter, filter_map}
 use Rattle.std.specs.Option.{option_map_or}
@@ -7,7 +7,7 @@ use Rattle.std.specs.Ordering.{is_eq}
 use Rattle.std.proofs.lemmas.Bool.{cases_lt, false≢true}
 use Rattle.std.proofs.lemmas.Cmp.{tied_itself}
 use Rattle.std.proofs.lemmas.Option.{slice_get-get_or, slice_get_past}
-use Rattle.list_lemmas.proofs.Members.{Contains_from_in, In, any_from_in, from_filter, from_filter_map, from_map, in_either, in_from_Contains}
+use Rattle.list_lemmas.proofs.Members.{Contains_from_in, In, any_from_in, from_filter, from_filter_map, in_either, in_from_Contains}
 use Rattle.mo_types.proofs.KeyOrder.{compare_keys_total}
 use Rattle.mo_types.specs.AtomBytes.{atom_bytes}
 use Rattle.mo_types.specs.Atoms as cuts
@@ -37,9 +37,10 @@ use Rattle.sect_place.specs.declared.layout.Layout.{Layout}
 use Rattle.image_make.specs.Atoms.{kept_at, raised}
 use Rattle.image_make.specs.Made.{ImageInputs, kept_of, rows_of, scene_of}
 use Rattle.image_make.specs.Made as made
-use Rattle.image_make.specs.Mets.{is_ref_of, met_of, mets_of}
+use Rattle.image_make.specs.Mets.{is_ref_of, met_at, met_of, mets_of}
 use Rattle.image_make.specs.Rows.{goals_at}
 use Rattle.image_make.proofs.OrderLemmas.{kept_mets_of}
+use Rattle.image_make.proofs.WorkLemmas.{as_met}
 use Rattle.image_make.specs.declared.kept.KeptAtom.{KeptAtom}
 use Rattle.image_read.specs.Mapped.{mapped}
 use Rattle.loader_laws.specs.LinkOf.{IsAtomInMemory, IsFree, atoms_of, byte_of, common_atom}
@@ -117,7 +118,7 @@ row_bytes files at file atom row is same_file same_atom =
 -- a byte that no reference of the atom fills in is outside all fields of its row
 free_fields : (command : Command) (libs : LibraryGraph) (files : List LoadedFile) (flags : ℕ) (keys : List AtomKey) (layout : Layout) (row : PlacedWork) (file : LoadedFile) (atom : Atom) (k : ℕ) → AreRising (making command libs files flags keys) → made.IsLaid (making command libs files flags keys) layout → In row (rows_of (making command libs files flags keys) layout)
     → IsWholeFile file → slice_get files row.file ≡ Some file → row.atom.key ≡ atom.key → IsFree file atom k → All (IsOutside k) (made.mets_of (making command libs files flags keys) layout row)
-unfolding making mets_of met_of
+unfolding making mets_of
 free_fields command libs files flags keys layout row file atom k rising laid h whole there key free = all_places (IsOutside k) (made.mets_of m layout row) each
   where
     m : ImageInputs
@@ -131,11 +132,12 @@ free_fields command libs files flags keys layout row file atom k rising laid h w
 
     each : (met : Met) → In met (made.mets_of m layout row) → IsOutside k met
     each met among =
-        let from = from_map (met_of (scene_of m layout) goals) (filter test file.refs) met (subst (λ (xs : List Met). In met xs) (kept_mets_of (scene_of m layout) m.files m.goals row file goals there refl) among) in
+        let from = from_filter_map (met_of (scene_of m layout) goals) (filter test file.refs) met (subst (λ (xs : List Met). In met xs) (kept_mets_of (scene_of m layout) m.files m.goals row file goals there refl) among) in
         let chosen = from_filter test file.refs from.0 from.1 in
         let same = ref_key files keys row file from.0 (row_kept command libs files flags keys layout row (row_in m layout row rising laid h)) whole there chosen.0 chosen.1 in
-        let outside : IsOutside k (met_of (scene_of m layout) goals from.0) = free from.0 (Contains_from_in file.refs from.0 chosen.0) (same ∙ key) in
-        subst (IsOutside k) from.2 outside
+        let found = as_met (scene_of m layout) goals from.0 met from.2 in
+        let outside : IsOutside k (met_at from.0 found.0 found.1) = free from.0 (Contains_from_in file.refs from.0 chosen.0) (same ∙ key) in
+        subst (IsOutside k) {x = met_at from.0 found.0 found.1} found.2 outside
 
 -- the bytes that an object has of an atom
 byte_there : (file : LoadedFile) (atom : Atom) (k : ℕ) → k < length (atom_bytes file.object atom) → slice_get (atom_bytes file.object atom) k ≡ Some (byte_of file atom k)

@@ -1,6 +1,5 @@
 -- Kept atoms stand in the segments to which their sections go.
-use Rattle.std.proofs.Common.{◌≡◌, ℕ, ◌+◌, ◌<◌, ◌≤◌, true, List, Some, refl, sym, ap, ◌∙◌, arith, subst}
-use Rattle.std.specs.FinMap.{get}
+use Rattle.std.proofs.Common.{◌≡◌, ℕ, ◌+◌, ◌<◌, ◌≤◌, true, List, Some, sym, ap, ◌∙◌, arith}
 use Rattle.list_lemmas.proofs.Members.{Contains_from_in, In}
 use Rattle.mark_core.specs.Kept.{has}
 use Rattle.mo_types.specs.declared.atom.Atom.{Atom}

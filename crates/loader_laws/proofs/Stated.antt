@@ -17,7 +17,7 @@ use Rattle.image_read.specs.Mapped.{mapped}
 use Rattle.loader_laws.specs.Entry.{BeginsAt}
 use Rattle.loader_laws.specs.Means.{AreRising, AreZeros, HasGoals, IsGoalAt, IsImage, IsSectionInMemory, IsZerofill}
 use Rattle.loader_laws.proofs.Entering.{entry_command, entry_found}
-use Rattle.loader_laws.proofs.Goals.{address_found, base_is, goal_above, goal_there}
+use Rattle.loader_laws.proofs.Goals.{address_found, base_is, goal_above, goal_same}
 use Rattle.loader_laws.proofs.Begun.{all_places}
 use Rattle.loader_laws.proofs.Mapping.{section_stored, section_zeros}
 use Rattle.loader_laws.proofs.Rowed.{atom_within, kept_found, row_in}
@@ -72,13 +72,13 @@ header_is_goal m layout image rising is = base_is m layout image rising is
 
 pub begins_at : (m : ImageInputs) (layout : Layout) (image : List ℕ) (address : ℕ) → AreRising m → IsImage m layout image → m.command.dylib ≡ false → IsGoalAt image layout m.entry address → address < 2 ^ 64 → BeginsAt image address
 begins_at m layout image address rising is program e low =
-    let there = goal_there m layout image m.entry address rising is e in
     let above = goal_above m layout image m.entry address rising is e in
-    let offset : entry_offset m layout ≡ address - layouts.base_of m.command = ap (λ (n : ℕ). n - layouts.base_of m.command) there in
+    let offset : entry_offset m layout ≡ Some (address - layouts.base_of m.command) =
+    ap (option_map (λ (n : ℕ). n - layouts.base_of m.command)) (goal_same m layout image m.entry rising is ∙ e) in
     record {
-      command = entry_command (entry_offset m layout);
+      command = entry_command (address - layouts.base_of m.command);
       base = layouts.base_of m.command;
-      told = entry_found m layout image rising is program (omega (arith, offset, low));
+      told = entry_found m layout image (address - layouts.base_of m.command) rising is program offset (omega (arith, low));
       begins = base_is m layout image rising is;
-      leads = omega (arith, offset, above);
+      leads = omega (arith, above);
     }
