@@ -1,5 +1,5 @@
 -- Sets of pairs: their members, and how many of them pass a test.
-use Rattle.std.proofs.Common.{◌≡◌, ℕ, ◌+◌, ◌<◌, ◌≤◌, ◌⊎◌, ◌==◌, ◌&&◌, Bool, true, false, cond, List, [], ◌∷◌, ◌++◌, length, get_or, Contains, count_by, refl, sym, ap, subst, ◌∙◌, inl, inr, arith}
+use Rattle.std.proofs.Common.{◌≡◌, ℕ, ◌+◌, ◌<◌, ◌≤◌, ◌⊎◌, ◌==◌, ◌&&◌, Bool, true, false, cond, List, [], ◌∷◌, ◌++◌, length, get_or, Contains, count_by, refl, sym, ap, subst, ◌∙◌, inl, inr, arith, Some, slice_get}
 use Rattle.std.specs.List.{HoldsAt, dedup}
 use Rattle.std.specs.List.Sorted.{IsNonDecreasingBy, IsPartitionPoint, IsPermutation, IsSorted, IsStrictlySortedBy}
 use Rattle.std.specs.declared.cmp.Ordering.TheVariants.{Less, Equal, Greater}
@@ -7,6 +7,7 @@ use Rattle.std.specs.Cmp.{IsEquivalence, IsTotalOrder}
 use Rattle.std.specs.Ordering.{eq_by_cmp, is_eq, nat_cmp, ordering_index}
 use Rattle.std.proofs.lemmas.Bool.{cases_Bool, cases_lt, eqb-true, eq-eqb}
 use Rattle.std.proofs.lemmas.Cmp.{nat_cmp_total, on_total, then_total, tied_itself}
+use Rattle.std.proofs.lemmas.Option.{slice_get-get_or}
 use Rattle.std.proofs.lemmas.List.Kept.{Contains-dedup, Contains-from_dedup, IsStrictlySortedBy-dedup}
 use Rattle.std.proofs.lemmas.List.Sorted.{Contains-permutation, IsPermutation-sym, searchable_from_sorted}
 use Rattle.std.proofs.lemmas.List.Sums.{sum_by-append}
@@ -72,9 +73,13 @@ same_has xs ys pair f g =
 pub found_has : (set : List Pair) (pair : Pair) (at : ℕ) → at < length set → HoldsAt (λ (p : Pair). compare_pairs p pair ≡ Equal) set at → true ≡ has set pair
 found_has set pair at within holds = sym (has_from_in set pair (in_from_Contains set pair (at, within, tied_pairs (get_or set at pair) pair (holds pair))))
 
-pub missing_has : (set : List Pair) (pair : Pair) (at : ℕ) → IsStrictlySortedBy compare_pairs set
-    → (IsNonDecreasingBy (λ (p : Pair). ordering_index (compare_pairs p pair)) set → IsPartitionPoint (λ (p : Pair). compare_pairs p pair ≡ Less) (λ (p : Pair). compare_pairs p pair ≡ Greater) set at) → false ≡ has set pair
-missing_has set pair at rising parted = by (cases_Bool (has set pair))
+pub found_pair : (set : List Pair) (pair : Pair) (at : ℕ) → at < length set → HoldsAt (λ (p : Pair). compare_pairs p pair ≡ Equal) set at → slice_get set at ≡ Some pair
+found_pair set pair at within holds = slice_get-get_or set at pair within ∙ ap Some (tied_pairs (get_or set at pair) pair (holds pair))
+
+pub missing_pair : (set : List Pair) (pair : Pair) (at : ℕ) → IsStrictlySortedBy compare_pairs set
+    → (IsNonDecreasingBy (λ (p : Pair). ordering_index (compare_pairs p pair)) set
+    → IsPartitionPoint (λ (p : Pair). compare_pairs p pair ≡ Less) (λ (p : Pair). compare_pairs p pair ≡ Greater) set at) → Contains set pair → ⊥
+missing_pair set pair at rising parted h = where_is (cases_lt h.0 at)
   where
     parts : IsPartitionPoint (λ (p : Pair). compare_pairs p pair ≡ Less) (λ (p : Pair). compare_pairs p pair ≡ Greater) set at
     parts = parted (searchable_from_sorted compare_pairs_total (λ (p : Pair). p) set pair (sorted_from_rising compare_pairs_total set rising))
@@ -85,18 +90,20 @@ missing_has set pair at rising parted = by (cases_Bool (has set pair))
     others : Greater ≡ Equal → ⊥
     others e = cc
 
-    nowhere : Contains set pair → ⊥
-    nowhere h = where_is (cases_lt h.0 at)
-      where
-        equal : compare_pairs (get_or set h.0 pair) pair ≡ Equal
-        equal = ap (λ (p : Pair). compare_pairs p pair) h.2 ∙ tied_itself compare_pairs_total pair
+    equal : compare_pairs (get_or set h.0 pair) pair ≡ Equal
+    equal = ap (λ (p : Pair). compare_pairs p pair) h.2 ∙ tied_itself compare_pairs_total pair
 
-        where_is : (h.0 < at) ⊎ (at ≤ h.0) → ⊥
-        where_is (inl down) = let less = parts.0 h.0 pair (omega arith) down in two (sym less ∙ equal)
-        where_is (inr up) = let greater = parts.1 h.0 pair up h.1 in others (sym greater ∙ equal)
+    where_is : (h.0 < at) ⊎ (at ≤ h.0) → ⊥
+    where_is (inl down) = let less = parts.0 h.0 pair (omega arith) down in two (sym less ∙ equal)
+    where_is (inr up) = let greater = parts.1 h.0 pair up h.1 in others (sym greater ∙ equal)
 
+pub missing_has : (set : List Pair) (pair : Pair) (at : ℕ) → IsStrictlySortedBy compare_pairs set
+    → (IsNonDecreasingBy (λ (p : Pair). ordering_index (compare_pairs p pair)) set
+    → IsPartitionPoint (λ (p : Pair). compare_pairs p pair ≡ Less) (λ (p : Pair). compare_pairs p pair ≡ Greater) set at) → false ≡ has set pair
+missing_has set pair at rising parted = by (cases_Bool (has set pair))
+  where
     by : (has set pair ≡ true) ⊎ (has set pair ≡ false) → false ≡ has set pair
-    by (inl here) = absurd (nowhere (Contains_from_in set pair (in_from_has set pair here)))
+    by (inl here) = absurd (missing_pair set pair at rising parted (Contains_from_in set pair (in_from_has set pair here)))
     by (inr away) = sym away
 
 -- ---- pairs in order, each once

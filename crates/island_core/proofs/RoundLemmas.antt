@@ -1,5 +1,5 @@
 -- The rounds: what they find is in every closed set, and where they find no more it is closed itself.
-use Rattle.std.proofs.Common.{◌≡◌, ℕ, ◌+◌, ◌<◌, ◌≤◌, ◌⊎◌, ◌++◌, ◌&&◌, ◌==◌, Bool, true, false, not, cond, List, [], ◌∷◌, length, get_or, take, map, append-nil, All, count_by, refl, sym, ap, subst, ◌∙◌, inl, inr, arith}
+use Rattle.std.proofs.Common.{Err, Global, IfOk, Ok, Result, Vec, ◌≡◌, ℕ, ◌+◌, ◌<◌, ◌≤◌, ◌⊎◌, ◌++◌, ◌&&◌, ◌==◌, Bool, true, false, not, cond, List, [], ◌∷◌, length, get_or, take, map, append-nil, All, count_by, refl, sym, ap, subst, ◌∙◌, inl, inr, arith}
 use Rattle.std.specs.List.{filter}
 use Rattle.std.specs.List.Sorted.{IsStrictlySortedBy}
 use Rattle.std.proofs.lemmas.Bool.{cases_Bool, eqb-true}
@@ -7,8 +7,8 @@ use Rattle.std.proofs.lemmas.List.{map-append, nil_from_length, take_all, take_m
 use Rattle.std.proofs.lemmas.List.Elements.{All-contains, All-from_recursion, filter-append}
 use Rattle.std.proofs.lemmas.List.Sums.{sum_by-append}
 use Rattle.list_lemmas.proofs.Members.{In, Contains_from_in, all_from_in, from_filter, from_map, in_either, in_filter, in_left, in_map, in_right}
-use Rattle.island_core.specs.Far.{IsClosed, IsFar, IsInTurn, IsScale, IsSet, compare_pairs, has, needs, IsRow, in_reach, in_reach_by, takes}
-use Rattle.island_core.specs.inner.Rounds.{IsMoves, is_new, new_pairs_of}
+use Rattle.island_core.specs.Far.{ArePairs, IsClosed, IsFar, IsInTurn, IsScale, IsSet, compare_pairs, has, is_grouped, needs, IsRow, in_reach, in_reach_by, takes}
+use Rattle.island_core.specs.inner.Rounds.{IsMoves, is_new, new_pairs_of, picked}
 use Rattle.island_core.specs.declared.row.Pair.{Pair}
 use Rattle.island_core.specs.declared.row.Row.{Row}
 use Rattle.island_core.specs.declared.row.Scale.{Scale}
@@ -28,7 +28,7 @@ unfolding IsStrictlySortedBy
 starts scale rows = record { rises = tt; least = λ other once closed. All-from_recursion (IsIn other) [] tt }
 
 new_pair : (scale : Scale) (set : List Pair) (rows : List Row) (pair : Pair) → In pair (new_pairs_of scale set rows) → (row : Row) × In row rows × (needs scale set row ≡ true) × (has set row.pair ≡ false) × (row.pair ≡ pair)
-unfolding new_pairs_of
+unfolding picked
 new_pair scale set rows pair h =
     let found : (row : Row) × In row (filter (is_new scale set) rows) × (row.pair ≡ pair) = from_map (λ (row : Row). row.pair) (filter (is_new scale set) rows) pair h in
     let passed = from_filter (is_new scale set) rows found.0 found.1 in
@@ -58,7 +58,7 @@ next scale rows set pairs all is turns below new same rises = record {
         (All-contains (λ (row : Row). needs scale other row ≡ true → has other row.pair ≡ true) rows found.0 closed (Contains_from_in rows found.0 found.1) more)
 
 pub ends : (scale : Scale) (rows : List Row) (set pairs : List Pair) → IsBelow scale rows set → pairs ≡ new_pairs_of scale set rows → pairs ≡ [] → IsFar scale rows set
-unfolding new_pairs_of
+unfolding picked
 ends scale rows set pairs below new none = record {
   closed = All-from_recursion (λ (row : Row). needs scale set row ≡ true → has set row.pair ≡ true) rows
       (all_from_in (λ (row : Row). needs scale set row ≡ true → has set row.pair ≡ true) rows (λ row h out. by row h out (cases_Bool (has set row.pair))));
@@ -101,31 +101,39 @@ pub not_empty : (xs : List Pair) → false ≡ (length xs == 0) → xs ≡ [] �
 not_empty [] e none = cc
 not_empty (x ∷ xs) e none = cc
 
-pub more_new : (scale : Scale) (set : List Pair) (rows : List Row) (i : ℕ) (d : Row) (pairs all : List Pair) → i < length rows → is_new scale set (get_or rows i d) ≡ true
-    → pairs ≡ new_pairs_of scale set (take i rows) → all ≡ pairs ++ (get_or rows i d).pair ∷ [] → all ≡ new_pairs_of scale set (take (i + 1) rows)
-unfolding new_pairs_of
-more_new scale set rows i d pairs all low new so pushed =
+pub more_picked : (test : Row → Bool) (rows : List Row) (i : ℕ) (d : Row) (pairs all : List Pair) → i < length rows → test (get_or rows i d) ≡ true
+    → pairs ≡ picked test (take i rows) → all ≡ pairs ++ (get_or rows i d).pair ∷ [] → all ≡ picked test (take (i + 1) rows)
+unfolding picked
+more_picked test rows i d pairs all low passes so pushed =
     let row : Row = get_or rows i d in
-    let last : filter (is_new scale set) (row ∷ []) ≡ row ∷ [] = rw new refl in
+    let last : filter test (row ∷ []) ≡ row ∷ [] = rw passes refl in
     pushed ∙ (ap (λ (ps : List Pair). ps ++ row.pair ∷ []) so
-    ∙ sym (ap (λ (rs : List Row). map (λ (r : Row). r.pair) (filter (is_new scale set) rs)) (take_more rows i d low)
-    ∙ (ap (λ (rs : List Row). map (λ (r : Row). r.pair) rs) (filter-append (is_new scale set) (take i rows) (row ∷ []))
-    ∙ (map-append (λ (r : Row). r.pair) (filter (is_new scale set) (take i rows)) (filter (is_new scale set) (row ∷ []))
-    ∙ ap (λ (rs : List Row). map (λ (r : Row). r.pair) (filter (is_new scale set) (take i rows)) ++ map (λ (r : Row). r.pair) rs) last))))
+    ∙ sym (ap (λ (rs : List Row). map (λ (r : Row). r.pair) (filter test rs)) (take_more rows i d low)
+    ∙ (ap (λ (rs : List Row). map (λ (r : Row). r.pair) rs) (filter-append test (take i rows) (row ∷ []))
+    ∙ (map-append (λ (r : Row). r.pair) (filter test (take i rows)) (filter test (row ∷ []))
+    ∙ ap (λ (rs : List Row). map (λ (r : Row). r.pair) (filter test (take i rows)) ++ map (λ (r : Row). r.pair) rs) last))))
 
-pub none_new : (scale : Scale) (set : List Pair) (rows : List Row) (i : ℕ) (d : Row) (pairs all : List Pair) → i < length rows → is_new scale set (get_or rows i d) ≡ false
-    → pairs ≡ new_pairs_of scale set (take i rows) → all ≡ pairs → all ≡ new_pairs_of scale set (take (i + 1) rows)
-unfolding new_pairs_of
-none_new scale set rows i d pairs all low old so stays =
+pub none_picked : (test : Row → Bool) (rows : List Row) (i : ℕ) (d : Row) (pairs all : List Pair) → i < length rows → test (get_or rows i d) ≡ false
+    → pairs ≡ picked test (take i rows) → all ≡ pairs → all ≡ picked test (take (i + 1) rows)
+unfolding picked
+none_picked test rows i d pairs all low fails so stays =
     let row : Row = get_or rows i d in
-    let last : filter (is_new scale set) (row ∷ []) ≡ [] = rw old refl in
-    stays ∙ (so ∙ sym (ap (λ (rs : List Row). map (λ (r : Row). r.pair) (filter (is_new scale set) rs)) (take_more rows i d low)
-    ∙ (ap (λ (rs : List Row). map (λ (r : Row). r.pair) rs) (filter-append (is_new scale set) (take i rows) (row ∷ []))
-    ∙ (map-append (λ (r : Row). r.pair) (filter (is_new scale set) (take i rows)) (filter (is_new scale set) (row ∷ []))
-    ∙ (ap (λ (rs : List Row). map (λ (r : Row). r.pair) (filter (is_new scale set) (take i rows)) ++ map (λ (r : Row). r.pair) rs) last ∙ append-nil _)))))
+    let last : filter test (row ∷ []) ≡ [] = rw fails refl in
+    stays ∙ (so ∙ sym (ap (λ (rs : List Row). map (λ (r : Row). r.pair) (filter test rs)) (take_more rows i d low)
+    ∙ (ap (λ (rs : List Row). map (λ (r : Row). r.pair) rs) (filter-append test (take i rows) (row ∷ []))
+    ∙ (map-append (λ (r : Row). r.pair) (filter test (take i rows)) (filter test (row ∷ []))
+    ∙ (ap (λ (rs : List Row). map (λ (r : Row). r.pair) (filter test (take i rows)) ++ map (λ (r : Row). r.pair) rs) last ∙ append-nil _)))))
 
-pub no_row : (scale : Scale) (set : List Pair) (rows : List Row) (i : ℕ) (pairs : List Pair) → length rows ≤ i → pairs ≡ new_pairs_of scale set (take i rows) → pairs ≡ new_pairs_of scale set rows
-no_row scale set rows i pairs past so = so ∙ ap (λ (rs : List Row). new_pairs_of scale set rs) (take_all i rows past)
+pub all_picked : (test : Row → Bool) (rows : List Row) (i : ℕ) (pairs : List Pair) → length rows ≤ i → pairs ≡ picked test (take i rows) → pairs ≡ picked test rows
+all_picked test rows i pairs past so = so ∙ ap (picked test) (take_all i rows past)
+
+-- the pairs that were picked, in order and each once
+pub set_of : {E : Type 0} (rows : List Row) (pairs : List Pair) (result : Result (Vec Pair Global) E) → pairs ≡ picked (λ (row : Row). is_grouped row.case) rows
+    → IfOk result (λ (set : Vec Pair Global). (pair : Pair) → has set.items pair ≡ has pairs pair) → IfOk result (λ (set : Vec Pair Global). IsStrictlySortedBy compare_pairs set.items)
+    → IfOk result (λ (set : Vec Pair Global). ArePairs rows set.items)
+unfolding picked
+set_of rows pairs (Ok set) is same rises = record { rises = rises; same = λ pair. same pair ∙ ap (λ (ps : List Pair). has ps pair) is }
+set_of rows pairs (Err e) is same rises = tt
 
 -- ---- each round leaves fewer branches that could be found
 

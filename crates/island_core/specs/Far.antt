@@ -1,7 +1,7 @@
 -- Which branches take islands: the least set of pairs, of a group and a target of its branches, that leaves no other
 -- branch out of reach.
-use Rattle.std.specs.Prelude.{ℕ, zero, suc, ◌≡◌, ◌≢◌, ◌≤◌, ◌<◌, ◌+◌, ◌^◌, ◌%◌, ◌==◌, ◌&&◌, Bool, true, false, not, nat_le, List, All, count_by}
-use Rattle.std.specs.List.{AllPairs, list_any}
+use Rattle.std.specs.Prelude.{ℕ, zero, suc, ◌≡◌, ◌≢◌, ◌≤◌, ◌<◌, ◌+◌, ◌^◌, ◌%◌, ◌==◌, ◌&&◌, Bool, true, false, not, nat_le, List, All, count_by, map}
+use Rattle.std.specs.List.{AllPairs, filter, list_any}
 use Rattle.std.specs.List.Sorted.{IsStrictlySortedBy}
 use Rattle.std.specs.Ordering.{nat_cmp, ordering_then}
 use Rattle.std.specs.declared.cmp.Ordering.{Ordering}
@@ -68,6 +68,18 @@ pub record IsFar (scale : Scale) (rows : List Row) (far : List Pair) : Type 0 wh
   pub closed : IsClosed scale rows far
   pub least : (other : List Pair) → IsSet other → IsClosed scale rows other → All (λ (pair : Pair). has other pair ≡ true) far
   pub rises : IsStrictlySortedBy compare_pairs far
+
+-- whether a branch stands in a group
+abbrev pub is_grouped : Case → Bool
+is_grouped Outside = false
+is_grouped Away = true
+is_grouped Plain = true
+is_grouped Added = true
+
+-- The pairs of the branches that stand in groups, in order.
+pub record ArePairs (rows : List Row) (pairs : List Pair) : Type 0 where
+  pub rises : IsStrictlySortedBy compare_pairs pairs
+  pub same : (pair : Pair) → has pairs pair ≡ has (map (λ (row : Row). row.pair) (filter (λ (row : Row). is_grouped row.case) rows)) pair
 
 -- ---- what branches are asked about
 

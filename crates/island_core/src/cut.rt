@@ -1,5 +1,5 @@
 //! The groups of atoms that have islands together.
-ghost use Rattle.std.specs.Prelude.{ℕ, ◌≡◌, ◌+◌, ◌<◌, ◌≤◌, ◌^◌, List, All, IfOk, length, slice_index_or};
+ghost use Rattle.std.specs.Prelude.{ℕ, ◌≡◌, ◌+◌, ◌<◌, ◌≤◌, ◌^◌, List, All, IfOk};
 ghost use Rattle.island_core.specs.Groups as spec;
 ghost use Rattle.island_core.specs.declared.cut.Extent.{Extent};
 
@@ -36,5 +36,6 @@ pub fn cut_atoms(alloc: Global, extents: &[Extent], most: u128) -> Result<Vec<us
 
 /// Atoms whose ends rise are cut in one way.
 pub fn groups_are_one_cutting()
-    ensures { (most : ℕ) (extents : List Extent) (a b : List ℕ) → spec.EndsRise extents → spec.AreEnds most extents a → spec.AreEnds most extents b → a ≡ b }
+    ensures { (most : ℕ) (extents : List Extent) (a b : List ℕ) → spec.EndsRise extents
+        → spec.AreEnds most extents a → spec.AreEnds most extents b → a ≡ b }
 {}

@@ -1,20 +1,19 @@
 //! The least closed set of pairs, round by round from below.
-ghost use Rattle.std.specs.Prelude.{◌≡◌, ℕ, ◌+◌, ◌*◌, ◌<◌, ◌≤◌, ◌^◌, ◌++◌, ◌&&◌, ◌||◌, All, IfOk, length, map, not, slice_index, vec_len};
-ghost use Rattle.std.specs.List.{filter};
+ghost use Rattle.std.specs.Prelude.{◌≡◌, ◌+◌, ◌*◌, ◌<◌, ◌≤◌, ◌^◌, ◌++◌, All, IfOk, length, not, slice_index};
 ghost use Rattle.std.specs.List.Sorted.{IsStrictlySortedBy};
 ghost use Rattle.island_core.specs.Far as spec;
 ghost use Rattle.island_core.specs.inner.Rounds.{AreCounts, IsMoves, new_pairs_of};
 ghost use Rattle.island_core.specs.declared.row.Pair.{Pair};
-ghost use Rattle.island_core.specs.declared.row.Row.{Row};
 ghost use Rattle.sect_place.specs.Places.{islands_bytes};
 ghost use Rattle.tlv_plan.specs.Template.{aligned};
 
+use crate::pairs::{has, in_order};
 use crate::row::{Case, Pair, Row, Scale};
 use mo_types::OutOfMemory;
 use std::alloc::Global;
 
-/// The pairs of a group and a target that have islands, by group and then by target: no more than it takes for each branch
-/// that needs an island to have one, where areas have the islands of these pairs.
+/// The pairs of a group and a target that have islands, by group and then by target: no more than it takes for each
+/// branch that needs an island to have one, where areas have the islands of these pairs.
 pub fn far_pairs(alloc: Global, rows: &[Row], scale: &Scale) -> Result<Vec<Pair>, OutOfMemory>
     requires scale { spec.IsScale scale.now }
     requires rows { All (spec.IsRow scale.now) rows.now }
@@ -141,7 +140,8 @@ fn needs(row: &Row, scale: &Scale, moves: &[u128]) -> bool
     requires scale { (scale.now.reach < 2 ^ 64) × (scale.now.slack < 2 ^ 127) }
     requires near { (row.now.from < 2 ^ 66) × (row.now.to < 2 ^ 66) }
     ensures { result ≡ spec.takes row.now.case
-        (not (spec.in_reach scale.now.reach (row.now.from + slice_index moves.now row.now.pair.group) (row.now.to + slice_index moves.now row.now.zone)))
+        (not (spec.in_reach scale.now.reach
+        (row.now.from + slice_index moves.now row.now.pair.group) (row.now.to + slice_index moves.now row.now.zone)))
         (not (spec.in_reach_by scale.now.reach scale.now.slack row.now.from row.now.to)) }
 {
     match row.case {
@@ -152,17 +152,6 @@ fn needs(row: &Row, scale: &Scale, moves: &[u128]) -> bool
             !in_reach(scale.reach, from, row.to + moved(moves, row.zone))
         }
         Case::Added => !in_reach_by(scale.reach, scale.slack, row.from, row.to),
-    }
-}
-
-// Whether a set has a pair.
-fn has(set: &[Pair], pair: &Pair) -> bool
-    requires { IsStrictlySortedBy spec.compare_pairs set.now }
-    ensures { result ≡ spec.has set.now pair.now }
-{
-    match set.binary_search(pair) {
-        Ok(_) => true,
-        Err(_) => false,
     }
 }
 
@@ -196,9 +185,7 @@ fn joined(set: Vec<Pair>, pairs: &[Pair]) -> Result<Vec<Pair>, OutOfMemory>
 {
     let mut all = set;
     all.extend_from_slice(pairs)?;
-    all.sort()?;
-    all.dedup();
-    Ok(all)
+    in_order(all)
 }
 
 // How far the areas of a set move what stands behind none, one, and more of the groups.
@@ -216,4 +203,14 @@ fn moves(alloc: Global, set: &[Pair], scale: &Scale) -> Result<Vec<u128>, OutOfM
     }
     moves.push(bytes)?;
     Ok(moves)
+}
+
+/// How far the islands of some pairs move what is behind all groups, in bytes.
+pub fn moved_by(alloc: Global, pairs: &[Pair], scale: &Scale) -> Result<u128, OutOfMemory>
+    requires { scale.now.unit ≤ 14 }
+    ensures exact { IfOk result (λ bytes. bytes ≡ spec.bytes_before scale.now.unit pairs.now scale.now.groups) }
+    ensures small { IfOk result (λ bytes. bytes < 2 ^ 127) }
+{
+    let moves = moves(alloc, pairs, scale)?;
+    Ok(moved(moves.as_slice(), scale.groups))
 }

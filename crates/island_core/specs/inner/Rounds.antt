@@ -20,6 +20,10 @@ pub record IsMoves (scale : Scale) (set : List Pair) (moves : List ℕ) : Type 0
 abbrev pub is_new : Scale → List Pair → Row → Bool
 is_new scale set row = needs scale set row && not (has set row.pair)
 
--- the pairs of those branches
-unfoldable pub new_pairs_of : Scale → List Pair → List Row → List Pair
-new_pairs_of scale set rows = map (λ row. row.pair) (filter (is_new scale set) rows)
+-- the pairs of the branches that pass a test
+unfoldable pub picked : (Row → Bool) → List Row → List Pair
+picked test rows = map (λ row. row.pair) (filter test rows)
+
+-- the pairs of the branches that need islands and have none
+abbrev pub new_pairs_of : Scale → List Pair → List Row → List Pair
+new_pairs_of scale set rows = picked (is_new scale set) rows

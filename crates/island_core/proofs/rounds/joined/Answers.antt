@@ -1,14 +1,12 @@
-use Rattle.std.proofs.Common.{List, ap, ◌∙◌}
-use Rattle.std.proofs.lemmas.List.Filters.{dedup_is}
+use Rattle.std.proofs.Common.{◌≡◌, ◌++◌, Global, List, Vec, ap, ◌∙◌}
+use Rattle.std.proofs.lemmas.Result.{IfOk-weaker}
 use Rattle.island_core.specs.Far.{has}
 use Rattle.island_core.specs.declared.row.Pair.{Pair}
-use Rattle.island_core.proofs.PairLemmas.{once_has, once_rises}
 use Rattle.island_core.proofs.rounds.joined.Goals as goal
 
 pub returns-clause-same : goal.returns-clause-same
-returns-clause-same c = λ pair.
-    once_has c.extend_from_slice.new.self.items _ _ c.in_ok-sort.ensures.permutation (dedup_is _ _ _ c.dedup.ensures.filtered) pair
-    ∙ ap (λ (ps : List Pair). has ps pair) c.in_ok-extend_from_slice.ensures.items
-
-pub returns-clause-rises : goal.returns-clause-rises
-returns-clause-rises c = once_rises _ _ c.in_ok-sort.ensures.sorted (dedup_is _ _ _ c.dedup.ensures.filtered)
+returns-clause-same c =
+    IfOk-weaker c.in_order.result
+    (λ (all : Vec Pair Global). (pair : Pair) → has all.items pair ≡ has c.extend_from_slice.new.self.items pair)
+    (λ (all : Vec Pair Global). (pair : Pair) → has all.items pair ≡ has (c.args.set.items ++ c.args.pairs.now) pair)
+    (λ all same pair. same pair ∙ ap (λ (ps : List Pair). has ps pair) c.in_ok-extend_from_slice.ensures.items) c.in_order.ensures.same

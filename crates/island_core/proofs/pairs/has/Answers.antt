@@ -1,5 +1,5 @@
 use Rattle.island_core.proofs.PairLemmas.{found_has, missing_has}
-use Rattle.island_core.proofs.rounds.has.Goals as goal
+use Rattle.island_core.proofs.pairs.has.Goals as goal
 
 pub returns-in-Ok : goal.returns-in-Ok
 returns-in-Ok c = found_has c.args.set.now c.args.pair.now c.in-Ok.field-0 c.in-Ok.ensures.bound c.in-Ok.ensures.ok
