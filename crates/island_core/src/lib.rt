@@ -17,7 +17,7 @@
 //! without any one of its pairs it isn't closed (`each_pair_is_needed`), and that it is empty where all branches reach
 //! without islands (`no_islands_where_all_reach`).
 //!
-//! A body that stops after one round isn't proved, nor one that forgets the slack of a branch with an addend, one whose
+//! A body whose islands push nothing isn't proved, nor one that forgets the slack of a branch with an addend, one whose
 //! branches reach a word farther, and one that cuts groups by where their atoms begin.
 #![tactic(auto)]
 

@@ -3,7 +3,7 @@ ghost use Rattle.std.specs.Prelude.{◌≡◌, true, All};
 ghost use Rattle.island_core.specs.Far.{IsInTurn, IsRow, IsScale};
 
 use crate::first_wrong;
-use island_core::{Case, Pair, Row, Scale, far_pairs};
+use island_core::{Case, Pair, Row, Scale, far_pairs, moved_by, pairs_of, place_of};
 use mo_types::OutOfMemory;
 use std::alloc::Global;
 use std::test::Fail;
@@ -155,12 +155,41 @@ fn branches_alone(rt: HostRuntime) -> Result<(), Fail> {
     Ok(())
 }
 
+// Whether branches have two pairs, whose islands take so many bytes; the second is that of the first group and target 1.
+fn pairs_hold(
+    alloc: Global,
+    scale: &Scale,
+    rows: &[Row],
+    bytes: u128,
+) -> Result<bool, OutOfMemory> {
+    if !scale_fits(scale) {
+        return Ok(false);
+    }
+    let pairs = pairs_of(alloc, rows)?;
+    let moved = moved_by(alloc, pairs.as_slice(), scale)?;
+    let there = place_of(
+        pairs.as_slice(),
+        &Pair {
+            group: 0,
+            target: 1,
+        },
+    );
+    let away = place_of(
+        pairs.as_slice(),
+        &Pair {
+            group: 0,
+            target: 2,
+        },
+    );
+    Ok(pairs.len() == 2 && moved == bytes && there == Some(1) && away.is_none())
+}
+
 // Branches that others push out of reach.
 #[test]
 fn branches_together(rt: HostRuntime) -> Result<(), Fail> {
     let alloc = rt.alloc();
     let scale = small();
-    // the second group begins at 2,048, and its third function and the stubs stand 2,048 bytes apart
+    // from the first of three functions of 2,048 bytes to the third, and to a stub behind them
     let two = [
         first(Case::Plain, 1, 0, 4096, 2),
         first(Case::Plain, 0, 4, 6144, 3),
@@ -198,6 +227,15 @@ fn branches_together(rt: HostRuntime) -> Result<(), Fail> {
         (
             "two out of reach",
             are_far(alloc, &scale, &two, &[(0, 0), (0, 1)])?,
+        ),
+        (
+            "pairs of two and of one in no group",
+            pairs_hold(
+                alloc,
+                &scale,
+                &[two[0], two[1], two[0], first(Case::Outside, 2, 0, 0, 0)],
+                28,
+            )?,
         ),
         ("one that fits", are_far(alloc, &scale, &fits, &[])?),
         (
