@@ -1,9 +1,11 @@
 //! The files that a link loads, and the image to which they link.
-ghost use Rattle.std.specs.Prelude.{All, IfOk};
+ghost use Rattle.std.specs.Prelude.{◌≡◌, All, IfOk};
 ghost use Rattle.link_engine.specs.Verdict.{IsImage, files_for};
-ghost use Rattle.link_steps.specs.Steps.{Meets, Returns};
+ghost use Rattle.link_files.specs.Names.{wanted};
+ghost use Rattle.link_steps.specs.Steps.{Meets, ReturnsAs};
 ghost use Rattle.input_files.specs.Files.{HasLowAtoms};
 ghost use Rattle.mo_types.specs.Loaded.{IsWholeLoaded};
+ghost use Rattle.name_ids.specs.Names.{AreNames, numbers_of};
 
 use crate::stop::{Stop, load_fault, refused};
 use command_line::Command;
@@ -13,11 +15,13 @@ use link_files::{link_files, wanted_names};
 use link_steps::StepFault;
 use member_rounds::load;
 use mo_outside::Gate;
-use mo_types::{Bytes, Loaded};
+use mo_types::Bytes;
+use name_ids::NamedFiles;
 use std::alloc::Global;
 use std::thread::Threads;
 
-/// The files that are loaded, round by round, until no more are asked for; or the refusal of the first round that has one.
+/// The files that are loaded, round by round, until no more are asked for, with the numbers of their names and of those that
+/// the command line wants; or the refusal of the first round that has one.
 pub fn load_rounds<R: Threads + Sync, G: Gate + Sync>(
     rt: &R,
     alloc: Global,
@@ -26,10 +30,12 @@ pub fn load_rounds<R: Threads + Sync, G: Gate + Sync>(
     command: &Command,
     inputs: Inputs,
     libs: &Libraries,
-) -> Result<Loaded, StepFault<Stop>>
-    ensures exact { Returns (files_for command.now inputs.inputs libs.now) result }
-    ensures whole { IfOk result IsWholeLoaded }
-    ensures low { IfOk result (λ loaded. All HasLowAtoms loaded.files) }
+) -> Result<NamedFiles, StepFault<Stop>>
+    ensures exact { ReturnsAs (λ named. named.loaded) (files_for command.now inputs.inputs libs.now) result }
+    ensures whole { IfOk result (λ named. IsWholeLoaded named.loaded) }
+    ensures low { IfOk result (λ named. All HasLowAtoms named.loaded.files) }
+    ensures names { IfOk result (λ named. AreNames named.loaded.files (wanted command.now) named.numbered.names) }
+    ensures numbers { IfOk result (λ named. named.numbered.numbers ≡ numbers_of named.numbered.names named.loaded.files) }
 {
     let wanted = wanted_names(alloc, command)?;
     load(rt, alloc, gate, threads, inputs, libs, &wanted).map_err(load_fault)
@@ -43,11 +49,13 @@ pub fn image_of<R: Threads + Sync, G: Gate + Sync>(
     threads: u32,
     command: &Command,
     libs: &Libraries,
-    loaded: &Loaded,
+    named: &NamedFiles,
 ) -> Result<Bytes, StepFault<Stop>>
-    requires whole { IsWholeLoaded loaded.now }
-    requires low { All HasLowAtoms loaded.now.files }
-    ensures { Meets (IsImage command.now libs.now loaded.now.files) result }
+    requires whole { IsWholeLoaded named.now.loaded }
+    requires low { All HasLowAtoms named.now.loaded.files }
+    requires names { AreNames named.now.loaded.files (wanted command.now) named.now.numbered.names }
+    requires numbers { named.now.numbered.numbers ≡ numbers_of named.now.numbered.names named.now.loaded.files }
+    ensures { Meets (IsImage command.now libs.now named.now.loaded.files) result }
 {
-    link_files(rt, alloc, gate, threads, command, libs, loaded).map_err(refused)
+    link_files(rt, alloc, gate, threads, command, libs, named).map_err(refused)
 }

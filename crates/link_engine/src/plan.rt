@@ -98,8 +98,8 @@ fn plan_with<R: Threads + Sync, G: Gate + Sync>(
 ) -> Result<Plan, StepFault<Stop>>
     ensures { (start : List (List ℕ)) → Acts (lines.after_libraries line.now.command inputs.inputs libs.now) start result start }
 {
-    let loaded = load_rounds(rt, alloc, gate, line.threads, &line.command, inputs, libs)?;
-    let image = image_of(rt, alloc, gate, line.threads, &line.command, libs, &loaded)?;
+    let named = load_rounds(rt, alloc, gate, line.threads, &line.command, inputs, libs)?;
+    let image = image_of(rt, alloc, gate, line.threads, &line.command, libs, &named)?;
     plan_of(alloc, &line.command, image)
 }
 

@@ -7,7 +7,7 @@ use Rattle.image_make.specs.declared.fault.MakeFault.{MakeFault}
 use Rattle.image_make.specs.declared.fault.MakeFault.TheVariants as make
 use Rattle.liveness.specs.Undefined.{undefined}
 use Rattle.lib_bind.specs.declared.library.LibraryGraph.{LibraryGraph}
-use Rattle.link_steps.proofs.StepLemmas.{checks_stops, gives_stops, some_stops, unless_stops}
+use Rattle.link_steps.proofs.StepLemmas.{checks_stops, some_stops, unless_stops}
 use Rattle.link_steps.specs.Steps.{Stops}
 use Rattle.command_line.specs.declared.command.Command.{Command}
 use Rattle.mo_types.specs.declared.answer.Refusal.{Refusal}
@@ -30,7 +30,7 @@ use Rattle.link_files.specs.Missing.{Asks, HoldsOfNone, IsFirstFile}
 use Rattle.link_files.specs.Names.{wanted}
 use Rattle.link_files.proofs.MissingLemmas.{asks_searched, lost_from, lost_to, one_first}
 use Rattle.link_files.specs.Refusals.{IsToldAs}
-use Rattle.link_files.proofs.NameLemmas.{atoms_stop, names_are, names_stop, same_some}
+use Rattle.link_files.proofs.NameLemmas.{atoms_stop, names_stop, same_some}
 
 lost_stop : (command : Command) (libs : LibraryGraph) (files : List LoadedFile) (keys : List AtomKey) (why : Refusal) → (undefined_refusal command libs files (goal_table files libs command) keys ≡ Some why) ↔ IsLost command libs files keys why
 unfolding undefined_refusal
@@ -106,7 +106,7 @@ image_stop command libs files symbols keys why = (to, from)
 
 pub link_stops : (command : Command) (libs : LibraryGraph) (files : List LoadedFile) → Stops (IsLinked command libs files) (LinkCause command libs files)
 link_stops command libs files =
-    gives_stops _ _ _ _ _ (names_stop files (wanted command)) (names_are files (wanted command)) (λ names are.
+    unless_stops _ _ _ _ (names_stop files (wanted command)) (λ few_names.
     unless_stops _ _ _ _ (atoms_stop files) (λ few.
     checks_stops _ _ _ _ (λ why. ((λ twice. twice), (λ twice. twice))) (λ once.
     some_stops _ _ _ (λ symbols is.

@@ -1,12 +1,12 @@
 -- Files link to something.
-use Rattle.std.proofs.Common.{◌≡◌, ℕ, ◌⊎◌, inl, inr, ℤ, List, Option, Some, None, Result, Ok, Err, refl, ap, ◌∙◌}
+use Rattle.std.proofs.Common.{ℕ, ◌⊎◌, ◌++◌, inl, inr, ℤ, List, [], Option, Some, None, Ok, Err, refl}
 use Rattle.std.specs.Prelude.{All}
 use Rattle.image_make.specs.Atoms.{AreLow as AreLowKept, AreRising}
 use Rattle.image_make.specs.Made.{IsMade, ImageInputs, kept_of}
 use Rattle.image_make.specs.declared.fault.MakeFault.TheVariants as make
 use Rattle.image_make.proofs.ExistLemmas.{answered}
 use Rattle.lib_bind.specs.declared.library.LibraryGraph.{LibraryGraph}
-use Rattle.link_steps.proofs.StepLemmas.{checks_some, gives_some, some_some, unless_some}
+use Rattle.link_steps.proofs.StepLemmas.{checks_some, some_some, unless_some}
 use Rattle.link_steps.specs.Steps.{IsSome}
 use Rattle.command_line.specs.declared.command.Command.{Command}
 use Rattle.literal_merge.specs.Representatives.{representatives_of}
@@ -21,41 +21,38 @@ use Rattle.mo_types.specs.declared.goal.Goal.{Goal}
 use Rattle.mo_types.specs.declared.key.AtomKey.{AtomKey}
 use Rattle.mo_types.specs.declared.key.FileId.{FileId}
 use Rattle.mo_types.specs.declared.loaded.LoadedFile.{LoadedFile}
-use Rattle.name_ids.specs.Names.{gathered}
-use Rattle.name_ids.specs.declared.fault.GatherFault.{GatherFault}
+use Rattle.name_ids.proofs.Once.{all}
+use Rattle.name_ids.specs.Names.{external_names, numbered}
 use Rattle.patch.specs.declared.met.RangeFault.{RangeFault}
 use Rattle.resolve.specs.Goals.{goal_of_name, goal_table}
 use Rattle.sect_place.specs.declared.size.PlaceFault.TheVariants as place
 use Rattle.symbol_winners.specs.Duplicates.{IsDuplicate}
-use Rattle.symbol_winners.specs.Found.{AreNamed}
 use Rattle.symbol_winners.specs.SymbolTable.{IsSymbolTable, SymbolTable}
 use Rattle.symbol_winners.proofs.ExistLemmas.{duplicate_exists, table_exists}
-use Rattle.symbol_winners.proofs.NamedLemmas.{gathered_named}
+use Rattle.symbol_winners.proofs.NamedLemmas.{named_by}
 use Rattle.link_files.specs.Flags.{header_flags}
 use Rattle.link_files.specs.Later.{later_refusal}
 use Rattle.link_files.specs.Linked.{AreLinkable, AsImage, IsLinked, making}
 use Rattle.link_files.specs.Lost.{undefined_refusal}
-use Rattle.link_files.specs.Names.{atoms_refusal, label_of, names_of, or_too_many, wanted}
+use Rattle.link_files.specs.Names.{atoms_refusal, label_of, names_refusal, wanted}
 use Rattle.link_files.specs.Refusals.{IsDuplicateTold}
 use Rattle.link_files.specs.Resolved.{AreKept}
 use Rattle.link_files.proofs.KeptLemmas.{IsCut, kept_low, kept_rise}
 
 -- ---- names that two strong definitions have
 
-names_named : (files : List LoadedFile) (extra names : List (List ℕ)) → names_of files extra ≡ Ok names → AreNamed names files
-unfolding names_of
-names_named files extra names is = by (gathered files extra) refl is
-  where
-    by : (r : Result (List (List ℕ)) GatherFault) → gathered files extra ≡ r → or_too_many r ≡ Ok names → AreNamed names files
-    by (Ok all) e f = let same : all ≡ names = cc in gathered_named files extra names (e ∙ ap Ok same)
-    by (Err fault) e f = absurd cc
+abbrev all_of : List LoadedFile → List (List ℕ)
+all_of files = numbered (external_names files ++ [])
 
-told_exists : (files : List LoadedFile) (names : List (List ℕ)) → AreNamed names files → (found : Option Refusal) × IsDuplicateTold files names found
-told_exists files names named = by (duplicate_exists files names named)
+told_exists : (files : List LoadedFile) → (found : Option Refusal) × IsDuplicateTold files found
+told_exists files = by (duplicate_exists files (all_of files) (named_by files [] (all_of files) (all (external_names files ++ []))))
   where
-    by : (found : Option (ℕ × FileId × FileId)) × IsDuplicate files names found → (found : Option Refusal) × IsDuplicateTold files names found
+    by : (found : Option (ℕ × FileId × FileId)) × IsDuplicate files (all_of files) found → (found : Option Refusal) × IsDuplicateTold files found
     by (None, none) = (None, none)
-    by (Some d, least) = (Some (Duplicate least.name (label_of files d.1) (label_of files d.2)), record { id = d.0; pair = (d.1, d.2); least = least; told = refl })
+    by (Some d, least) = (
+      Some (Duplicate least.name (label_of files d.1) (label_of files d.2)),
+      record { name = least.name; pair = (d.1, d.2); twice = least.twice; least = least.least; told = refl },
+    )
 
 -- ---- the image
 
@@ -85,9 +82,9 @@ image_exists command libs files symbols keys are =
 
 pub link_exists : (command : Command) (libs : LibraryGraph) (files : List LoadedFile) → AreLinkable files → IsSome (IsLinked command libs files)
 link_exists command libs files are =
-    gives_some (names_of files (wanted command)) _ (λ names is.
+    unless_some (names_refusal files (wanted command)) _ (λ few_names.
     unless_some (atoms_refusal files) _ (λ few.
-    checks_some (IsDuplicateTold files names) _ (told_exists files names (names_named files (wanted command) names is)) (λ once.
+    checks_some (IsDuplicateTold files) _ (told_exists files) (λ once.
     some_some (IsSymbolTable command files) _ (table_exists command files) (λ symbols are_symbols.
     let goals : List (List Goal) = goal_table files libs command in
     let entry : Goal = goal_of_name files libs command command.entry in

@@ -2,7 +2,7 @@
 use Rattle.std.proofs.Common.{◌≡◌, ℕ, List, Option, Some, None, Ok, refl}
 use Rattle.liveness.specs.Undefined.{undefined}
 use Rattle.lib_bind.specs.declared.library.LibraryGraph.{LibraryGraph}
-use Rattle.link_steps.proofs.StepLemmas.{checks_passed, gives_passed, unless_passed}
+use Rattle.link_steps.proofs.StepLemmas.{checks_passed, unless_passed}
 use Rattle.command_line.specs.declared.command.Command.{Command}
 use Rattle.mo_types.specs.declared.answer.Refusal.TheVariants as refusal
 use Rattle.mo_types.specs.declared.cause.Feature.TheVariants.{Later}
@@ -16,7 +16,7 @@ use Rattle.link_files.specs.Later.{first_later, later_refusal}
 use Rattle.link_files.specs.Linked.{IsLinked}
 use Rattle.link_files.specs.Lost.{lost_wanted, undefined_refusal}
 use Rattle.link_files.specs.Names.{wanted}
-use Rattle.link_files.proofs.NameLemmas.{atoms_few, names_are}
+use Rattle.link_files.proofs.NameLemmas.{atoms_few, names_few}
 
 none_lost : (command : Command) (libs : LibraryGraph) (files : List LoadedFile) (goals : List (List Goal)) (keys : List AtomKey) → undefined_refusal command libs files goals keys ≡ None → undefined keys files goals (lost_wanted command libs files) ≡ None
 unfolding undefined_refusal
@@ -38,8 +38,8 @@ pub went_through : (command : Command) (libs : LibraryGraph) (files : List Loade
 went_through command libs files image linked =
     let goals : List (List Goal) = goal_table files libs command in
     let entry : Goal = goal_of_name files libs command command.entry in
-    let named = gives_passed _ _ _ linked in
-    let few = unless_passed _ _ _ named.2 in
+    let named = unless_passed _ _ _ linked in
+    let few = unless_passed _ _ _ named.1 in
     let once = checks_passed _ _ _ few.1 in
     let symbols = once.1 in
     let kept = symbols.follows in
@@ -49,7 +49,7 @@ went_through command libs files image linked =
       flags = header_flags command libs symbols.value kept.value;
       keys = kept.value;
       inside = record {
-        few_names = ((names_are files (wanted command) named.0).0 named.1).0;
+        few_names = names_few files (wanted command) named.0;
         few_atoms = atoms_few files few.0;
         once = once.0;
         symbols = symbols.value;

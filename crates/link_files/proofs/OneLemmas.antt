@@ -28,10 +28,10 @@ use Rattle.mo_types.specs.declared.key.FileId.{FileId}
 use Rattle.mo_types.specs.declared.loaded.LoadedFile.{LoadedFile}
 use Rattle.mo_types.specs.declared.reference.Ref.{Ref}
 use Rattle.mo_types.specs.declared.reference_fault.RefFault.{RefFault}
-use Rattle.name_ids.specs.Names.{IsNumbering}
 use Rattle.patch.specs.Range.{IsLeastFault}
 use Rattle.patch.specs.declared.met.RangeFault.{RangeFault}
-use Rattle.symbol_winners.proofs.OneListLemmas.{one_duplicate, winners_are_one}
+use Rattle.symbol_winners.specs.Duplicates.{duplicate_of}
+use Rattle.symbol_winners.proofs.OneListLemmas.{is_some, neither_greater, winners_are_one}
 use Rattle.liveness.specs.Edges.{edges_by, supports_by}
 use Rattle.resolve.specs.Goals.{goal_of_name, goal_table}
 use Rattle.symbol_winners.specs.SymbolTable.{IsSymbolTable, SymbolTable}
@@ -49,36 +49,34 @@ use Rattle.link_files.specs.Flags.{header_flags, is_weak_export, kind_flag, weak
 use Rattle.link_files.specs.Later.{later_refusal}
 use Rattle.link_files.specs.Linked.{AreCut, AreLow, AreOrdered, AreReferred, AsImage, AsMade, IsLinked, making}
 use Rattle.link_files.specs.Lost.{undefined_refusal}
-use Rattle.link_files.specs.Names.{label_of, wanted}
+use Rattle.link_files.specs.Names.{label_of}
 use Rattle.link_files.specs.Refusals.{AreOnce, IsDuplicateTold, IsToldAs, IsTwice}
 use Rattle.link_files.specs.Resolved.{AreKept}
 use Rattle.link_files.proofs.ApartLemmas.{work_apart}
 use Rattle.link_files.proofs.KeptLemmas.{kept_low, kept_rise}
-use Rattle.link_files.proofs.NameLemmas.{are_numbering, same_some}
-use Rattle.link_steps.proofs.StepLemmas.{checks_agree, gives_agree, some_agree, unless_agree}
+use Rattle.link_files.proofs.NameLemmas.{same_some}
+use Rattle.link_steps.proofs.StepLemmas.{checks_agree, some_agree, unless_agree}
 use Rattle.link_steps.specs.Steps.{Agree}
 
 -- ---- names that two strong definitions have
 
-twice_same : (files : List LoadedFile) (names : List (List ℕ)) (a b : Refusal) → IsNumbering names → IsTwice files names a → IsTwice files names b → a ≡ b
-twice_same files names a b numbers p q =
-    let first : ℕ × FileId × FileId = (p.id, p.pair.0, p.pair.1) in
-    let other : ℕ × FileId × FileId = (q.id, q.pair.0, q.pair.1) in
-    let same : first ≡ other = same_some (one_duplicate files names (Some first) (Some other) numbers p.least q.least) in
-    let name : p.least.name ≡ q.least.name = same_some (sym p.least.numbered ∙ ap (λ (d : ℕ × FileId × FileId). slice_get names d.0) same ∙ q.least.numbered) in
+twice_same : (files : List LoadedFile) (a b : Refusal) → IsTwice files a → IsTwice files b → a ≡ b
+twice_same files a b p q =
+    let name : p.name ≡ q.name = neither_greater p.name q.name (p.least q.name (is_some (duplicate_of files q.name) q.pair q.twice)) (q.least p.name (is_some (duplicate_of files p.name) p.pair p.twice)) in
+    let pair : p.pair ≡ q.pair = same_some (sym p.twice ∙ ap (duplicate_of files) name ∙ q.twice) in
     p.told
     ∙ ap (λ (n : List ℕ). Duplicate n (label_of files p.pair.0) (label_of files p.pair.1)) name
-    ∙ ap (λ (d : ℕ × FileId × FileId). Duplicate q.least.name (label_of files d.1) (label_of files d.2)) same
+    ∙ ap (λ (d : FileId × FileId). Duplicate q.name (label_of files d.0) (label_of files d.1)) pair
     ∙ sym q.told
 
-not_twice : (files : List LoadedFile) (names : List (List ℕ)) (why : Refusal) → AreOnce files → IsTwice files names why → ⊥
-not_twice files names why once twice = absurd (let e : None ≡ Some twice.pair = sym (once twice.least.name) ∙ twice.least.twice in cc)
+not_twice : (files : List LoadedFile) (why : Refusal) → AreOnce files → IsTwice files why → ⊥
+not_twice files why once twice = absurd (let e : None ≡ Some twice.pair = sym (once twice.name) ∙ twice.twice in cc)
 
-duplicates_same : (files : List LoadedFile) (names : List (List ℕ)) → IsNumbering names → (a b : Option Refusal) → IsDuplicateTold files names a → IsDuplicateTold files names b → a ≡ b
-duplicates_same files names numbers None None p q = refl
-duplicates_same files names numbers None (Some why) p q = absurd (not_twice files names why p q)
-duplicates_same files names numbers (Some why) None p q = absurd (not_twice files names why q p)
-duplicates_same files names numbers (Some a) (Some b) p q = ap Some (twice_same files names a b numbers p q)
+duplicates_same : (files : List LoadedFile) (a b : Option Refusal) → IsDuplicateTold files a → IsDuplicateTold files b → a ≡ b
+duplicates_same files None None p q = refl
+duplicates_same files None (Some why) p q = absurd (not_twice files why p q)
+duplicates_same files (Some why) None p q = absurd (not_twice files why q p)
+duplicates_same files (Some a) (Some b) p q = ap Some (twice_same files a b p q)
 
 -- ---- the atoms that are kept
 
@@ -278,9 +276,9 @@ image_same command libs files symbols other keys others are is also same a b p q
 
 one_link : (command : Command) (libs : LibraryGraph) (files : List LoadedFile) → AreLoaded files → Agree (IsLinked command libs files) (IsLinked command libs files)
 one_link command libs files loaded =
-    gives_agree _ _ _ _ refl (λ names are.
+    unless_agree _ _ _ _ refl (λ few_names.
     unless_agree _ _ _ _ refl (λ few.
-    checks_agree _ _ _ _ (duplicates_same files names (are_numbering files (wanted command) names are)) (λ once.
+    checks_agree _ _ _ _ (duplicates_same files) (λ once.
     some_agree _ _ _ _ (λ symbols other is also.
     let goals : List (List Goal) = goal_table files libs command in
     let entry : Goal = goal_of_name files libs command command.entry in

@@ -1,11 +1,11 @@
 -- Why loaded files are refused: the causes in the order of the steps.
-use Rattle.std.specs.Prelude.{ℕ, ◌≡◌, ◌<◌, ◌≤◌, ◌^◌, ◌++◌, ◌⊎◌, pos, true, false, List, [], length, slice_get, Some, None, Ok}
+use Rattle.std.specs.Prelude.{ℕ, ◌≡◌, ◌<◌, ◌≤◌, ◌^◌, ◌⊎◌, pos, true, false, List, [], length, slice_get, Some, None, Ok}
 use Rattle.std.specs.Cmp.Lexicographic.{slice_cmp}
 use Rattle.std.specs.Ordering.{is_lt, nat_cmp}
 use Rattle.image_make.specs.Made.{IsLaid, ImageInputs, mets_of, plan_for, rows_of}
 use Rattle.liveness.specs.Undefined.{undefined}
 use Rattle.lib_bind.specs.declared.library.LibraryGraph.{LibraryGraph}
-use Rattle.link_steps.specs.Steps.{Cause, ◌>>=◌, ◌>>◌, always, passes, refuses, stands, taken}
+use Rattle.link_steps.specs.Steps.{Cause, ◌>>=◌, ◌>>◌, always, passes, refuses, taken}
 use Rattle.command_line.specs.declared.command.Command.{Command}
 use Rattle.mo_types.specs.declared.answer.Refusal.{Refusal}
 use Rattle.mo_types.specs.declared.answer.Refusal.TheVariants.{Limit, Range, Undefined, Unsupported}
@@ -15,7 +15,6 @@ use Rattle.mo_types.specs.declared.cause.Which.TheVariants.{Atoms, Names}
 use Rattle.mo_types.specs.declared.goal.Goal.{Goal}
 use Rattle.mo_types.specs.declared.key.AtomKey.{AtomKey}
 use Rattle.mo_types.specs.declared.loaded.LoadedFile.{LoadedFile}
-use Rattle.name_ids.specs.Names.{external_names, numbered}
 use Rattle.patch.specs.Range.{IsLeastFault}
 use Rattle.patch.specs.declared.met.RangeFault.{RangeFault}
 use Rattle.resolve.specs.Goals.{goal_of_name, goal_table}
@@ -27,21 +26,13 @@ use Rattle.link_files.specs.Later.{first_later, is_outer}
 use Rattle.link_files.specs.Linked.{AsMade, making}
 use Rattle.link_files.specs.Lost.{lost_wanted}
 use Rattle.link_files.specs.Missing.{Asks, HoldsOfNone, IsFirstFile, IsWantedInVain, Misses}
-use Rattle.link_files.specs.Names.{atoms_in, label_of, wanted}
+use Rattle.link_files.specs.Names.{all_names, atoms_in, label_of, wanted}
 use Rattle.link_files.specs.Refusals.{AreOnce, IsTwice}
 use Rattle.link_files.specs.Resolved.{AreKept}
 
--- the distinct names of the files' external symbols and of those that the command line wants
-abbrev pub all_names : List LoadedFile → List (List ℕ) → List (List ℕ)
-all_names files wanted = numbered (external_names files ++ wanted)
-
--- there are 2^24 or more
+-- there are 2^24 names or more
 abbrev pub HaveManyNames : List LoadedFile → List (List ℕ) → Cause Refusal
 HaveManyNames files wanted why = (2 ^ 24 ≤ length (all_names files wanted)) × (why ≡ Limit Names)
-
--- there are fewer, and these are they
-abbrev pub AreNames : List LoadedFile → List (List ℕ) → List (List ℕ) → Type 0
-AreNames files wanted names = (length (all_names files wanted) < 2 ^ 24) × (names ≡ all_names files wanted)
 
 -- there are 2^24 atoms or more
 abbrev pub HaveManyAtoms : List LoadedFile → Cause Refusal
@@ -96,9 +87,9 @@ IsUnfit m why = IsTooLong m why ⊎ IsOutOfRange m why
 -- the cause of each refusal, where none before it stands
 abbrev pub LinkCause : Command → LibraryGraph → List LoadedFile → Cause Refusal
 LinkCause command libs files = do
-  names ← stands (HaveManyNames files (wanted command)) (AreNames files (wanted command))
+  refuses (HaveManyNames files (wanted command))
   refuses (HaveManyAtoms files)
-  passes (IsTwice files names) (AreOnce files)
+  passes (IsTwice files) (AreOnce files)
   symbols ← taken (IsSymbolTable command files)
   goals ← always (goal_table files libs command)
   keys ← taken (AreKept command files symbols goals)

@@ -6,7 +6,7 @@ use Rattle.image_make.specs.Whole.{AreBytesIn}
 use Rattle.image_make.specs.declared.fault.MakeFault.{MakeFault}
 use Rattle.input_files.specs.Files.{or_none}
 use Rattle.lib_bind.specs.declared.library.LibraryGraph.{LibraryGraph}
-use Rattle.link_steps.specs.Steps.{Answer, ◌>>=◌, ◌>>◌, always, checks, gives, some, unless}
+use Rattle.link_steps.specs.Steps.{Answer, ◌>>=◌, ◌>>◌, always, checks, some, unless}
 use Rattle.command_line.specs.declared.command.Command.{Command}
 use Rattle.mo_types.specs.Atoms.{atoms_of}
 use Rattle.mo_types.specs.Loaded.{IsBefore, IsWholeFile}
@@ -22,7 +22,7 @@ use Rattle.slot_plan.specs.declared.list.Slots.{Slots}
 use Rattle.link_files.specs.Flags.{header_flags}
 use Rattle.link_files.specs.Later.{later_refusal}
 use Rattle.link_files.specs.Lost.{undefined_refusal}
-use Rattle.link_files.specs.Names.{atoms_refusal, names_of, wanted}
+use Rattle.link_files.specs.Names.{atoms_refusal, names_refusal, wanted}
 use Rattle.link_files.specs.Refusals.{IsDuplicateTold, IsToldAs}
 use Rattle.link_files.specs.Resolved.{AreKept}
 
@@ -74,12 +74,9 @@ AsMade command libs files flags keys (Err why) =
 abbrev pub AsImage : Command → LibraryGraph → List LoadedFile → SymbolTable → List AtomKey → Answer Refusal (List ℕ)
 AsImage command libs files symbols keys = AsMade command libs files (header_flags command libs symbols keys) keys
 
--- with the names by their numbers
-abbrev pub AsNamed : Command → LibraryGraph → List LoadedFile → List (List ℕ) → Answer Refusal (List ℕ)
-AsNamed command libs files names = do
-  unless (atoms_refusal files)
-  checks (IsDuplicateTold files names)
-  symbols ← some (IsSymbolTable command files)
+-- with the winners of the names
+abbrev pub AsWon : Command → LibraryGraph → List LoadedFile → SymbolTable → Answer Refusal (List ℕ)
+AsWon command libs files symbols = do
   goals ← always (goal_table files libs command)
   entry ← always (goal_of_name files libs command command.entry)
   keys ← some (AreKept command files symbols goals)
@@ -92,8 +89,11 @@ AsNamed command libs files names = do
 -- nowhere, and the loader looks up none of their goals. Then follows the image, by its layout and its fields.
 abbrev pub IsLinked : Command → LibraryGraph → List LoadedFile → Answer Refusal (List ℕ)
 IsLinked command libs files = do
-  names ← gives (names_of files (wanted command))
-  AsNamed command libs files names
+  unless (names_refusal files (wanted command))
+  unless (atoms_refusal files)
+  checks (IsDuplicateTold files)
+  symbols ← some (IsSymbolTable command files)
+  AsWon command libs files symbols
 
 -- Files as a link has them: whole ones in order, none of whose atoms is aligned to more than a page, and of bytes.
 pub record AreLinkable (files : List LoadedFile) : Type 0 where

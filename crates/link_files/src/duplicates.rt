@@ -10,7 +10,7 @@ ghost use Rattle.link_files.specs.Refusals.{IsDuplicateTold, IsTwice};
 use crate::labels::label_of;
 use link_steps::StepFault;
 use mo_types::{Bytes, FileId, Loaded, OutOfMemory, Refusal};
-use name_ids::{NameTable, Numbered};
+use name_ids::{NameTable, NamedFiles};
 use std::alloc::Global;
 use symbol_winners::duplicate;
 
@@ -22,7 +22,7 @@ fn twice(
     found: (u32, FileId, FileId),
 ) -> Result<Refusal, OutOfMemory>
     requires { IsLeastDuplicate loaded.now.files names.now found.0 (found.1, found.2) }
-    ensures { IfOk result (IsTwice loaded.now.files names.now) }
+    ensures { IfOk result (IsTwice loaded.now.files) }
 {
     let files = loaded.files.as_slice();
     Ok(Refusal::Duplicate {
@@ -33,16 +33,13 @@ fn twice(
 }
 
 /// No name has two strong definitions, or the least that has is refused, with the files of its first two.
-pub(crate) fn defined_once(
-    alloc: Global,
-    loaded: &Loaded,
-    numbered: &Numbered,
-) -> Result<(), StepFault<Refusal>>
-    requires whole { IsWholeLoaded loaded.now }
-    requires named { AreNamed numbered.now.names loaded.now.files }
-    requires numbers { numbered.now.numbers ≡ numbers_of numbered.now.names loaded.now.files }
-    ensures { FindsBy (IsDuplicateTold loaded.now.files numbered.now.names) result }
+pub(crate) fn defined_once(alloc: Global, named: &NamedFiles) -> Result<(), StepFault<Refusal>>
+    requires whole { IsWholeLoaded named.now.loaded }
+    requires named { AreNamed named.now.numbered.names named.now.loaded.files }
+    requires numbers { named.now.numbered.numbers ≡ numbers_of named.now.numbered.names named.now.loaded.files }
+    ensures { FindsBy (IsDuplicateTold named.now.loaded.files) result }
 {
+    let NamedFiles { loaded, numbered } = named;
     match duplicate(alloc, loaded, &numbered.names, &numbered.numbers)? {
         Some(found) => Err(StepFault::Stop(twice(alloc, loaded, &numbered.names, found)?)),
         None => Ok(()),

@@ -6,13 +6,13 @@ ghost use Rattle.link_steps.specs.Steps.{Finds};
 ghost use Rattle.mo_types.specs.Keys.{compare_keys};
 ghost use Rattle.mo_types.specs.declared.answer.Refusal.TheVariants.{Undefined};
 ghost use Rattle.link_files.specs.Lost as spec;
-ghost use Rattle.link_files.specs.Names as names;
 ghost use Rattle.link_files.specs.Resolved.{IsResolved, files_of, table_of};
 
+use crate::names::wanted_names;
 use crate::resolved::Resolved;
 use link_steps::StepFault;
 use liveness::{Lost, undefined};
-use mo_types::{Bytes, Goal, KeyList, NameList, OutOfMemory, Refusal};
+use mo_types::{Bytes, Goal, KeyList, OutOfMemory, Refusal};
 use resolve::goal_of_name;
 use std::alloc::Global;
 
@@ -66,14 +66,13 @@ fn told(alloc: Global, lost: Lost) -> Result<Refusal, OutOfMemory>
 pub(crate) fn all_defined(
     alloc: Global,
     resolved: &Resolved,
-    wanted: &NameList,
     keys: &KeyList,
 ) -> Result<(), StepFault<Refusal>>
     requires resolved { IsResolved resolved.now }
-    requires wanted { wanted.now ≡ names.wanted resolved.now.command.now }
     requires keys { IsStrictlySortedBy compare_keys keys.now }
     ensures { Finds (spec.undefined_refusal resolved.now.command.now resolved.now.libs.now (files_of resolved.now) (table_of resolved.now) keys.now) result }
 {
+    let wanted = wanted_names(alloc, resolved.command)?;
     let names = lost_among(alloc, resolved, wanted.as_slice())?;
     match undefined(resolved.loaded, resolved.goals, keys, names.as_slice()) {
         Some(lost) => Err(StepFault::Stop(told(alloc, lost)?)),

@@ -1,14 +1,11 @@
-//! The names and atoms of a link, and their limits.
+//! The names that a link wants, and the limit of its atoms.
 ghost use Rattle.std.specs.Prelude.{◌≡◌, ◌++◌, IfOk};
-ghost use Rattle.link_steps.specs.Steps.{Finds, Shows};
-ghost use Rattle.name_ids.specs.Names.{numbers_of};
-ghost use Rattle.symbol_winners.specs.Found.{AreNamed};
+ghost use Rattle.link_steps.specs.Steps.{Finds};
 ghost use Rattle.link_files.specs.Names as spec;
 
 use command_line::Command;
 use link_steps::StepFault;
-use mo_types::{Bytes, Loaded, LoadedFile, NameList, OutOfMemory, Refusal, Which};
-use name_ids::{GatherFault, Numbered, gather};
+use mo_types::{Bytes, LoadedFile, NameList, OutOfMemory, Refusal, Which};
 use std::alloc::Global;
 
 // There are fewer atoms.
@@ -35,26 +32,6 @@ pub fn wanted_names(alloc: Global, command: &Command) -> Result<NameList, OutOfM
     }
     let names = add_names(names, command.roots.as_slice())?;
     Ok(NameList::from_vec(names))
-}
-
-/// The names of files and of the command line, by their numbers, and those of each file's symbols.
-#[tactic(auto, unfolding(crate::specs::Names::names_of))]
-pub(crate) fn names_of<'a>(
-    alloc: Global,
-    loaded: &'a Loaded,
-    wanted: &'a NameList,
-) -> Result<Numbered<'a>, StepFault<Refusal>>
-    ensures exact { Shows (λ it. it.names) (spec.names_of loaded.now.files wanted.now) result }
-    ensures named { IfOk result (λ it. AreNamed it.names loaded.now.files) }
-    ensures numbers { IfOk result (λ it. it.numbers ≡ numbers_of it.names loaded.now.files) }
-{
-    match gather(alloc, loaded, wanted) {
-        Ok(numbered) => Ok(numbered),
-        Err(GatherFault::Names) => Err(StepFault::Stop(Refusal::Limit {
-            which: Which::Names,
-        })),
-        Err(GatherFault::OutOfMemory) => Err(StepFault::OutOfMemory),
-    }
 }
 
 /// That files have too many atoms, where they have.

@@ -2,16 +2,17 @@
 use command_line::Command;
 use lib_bind::Libraries;
 use mo_types::{Goal, Loaded};
+use name_ids::NamedFiles;
 use resolve::GoalTable;
 use symbol_winners::SymbolTable;
 
-/// Loaded files, with how many workers link them, by which command, and with which libraries.
+/// Loaded files with the numbers of their names, with how many workers link them, by which command, and with which libraries.
 #[derive(Clone, Copy)]
 pub(crate) struct Inputs<'c, 'l, 'f> {
     pub threads: u32,
     pub command: &'c Command,
     pub libs: &'l Libraries,
-    pub loaded: &'f Loaded,
+    pub named: &'f NamedFiles,
 }
 
 /// Loaded files with the winners of their names, and with where their symbols and the program's entry lead.

@@ -28,11 +28,32 @@ fn returning_zero() -> &'static [u8] {
     \x00\x00\x00\x00\x00\x00\x00\x00\x00_main\x00"
 }
 
-// The same object with `_help` in place of `_main`.
-fn helping(alloc: Global) -> Result<Bytes, OutOfMemory> {
+// The same object with another symbol of five bytes in place of `_main`.
+fn defining(alloc: Global, symbol: &[u8]) -> Result<Vec<u8>, OutOfMemory> {
     let object = returning_zero();
     let mut bytes = Vec::from_slice(alloc, &object[..object.len().saturating_sub(6)])?;
-    bytes.extend_from_slice(b"_help\x00")?;
+    bytes.extend_from_slice(symbol)?;
+    bytes.push(0)?;
+    Ok(bytes)
+}
+
+// The head of an archive as `llvm-ar --format=darwin` writes it of such an object: a table with one symbol, whose name follows.
+const TABLE: &[u8] = b"!<arch>\n\
+#1/12           0           0     0     0       36        `\n\
+__.SYMDEF\x00\x00\x00\x08\x00\x00\x00\x00\x00\x00\x00\x68\x00\x00\x00\x06\x00\x00\x00";
+
+// The header of its one member.
+const MEMBER: &[u8] = b"\x00\x00\x00\
+#1/4            0           0     0     644     244       `\n\
+x.o\x00";
+
+// An archive of the object that defines a symbol.
+fn archive_of(alloc: Global, symbol: &[u8]) -> Result<Bytes, OutOfMemory> {
+    let object = defining(alloc, symbol)?;
+    let mut bytes = Vec::from_slice(alloc, TABLE)?;
+    for part in [symbol, MEMBER, object.as_slice(), b"\n".as_slice()] {
+        bytes.extend_from_slice(part)?;
+    }
     Bytes::from_vec(bytes)
 }
 
@@ -55,15 +76,19 @@ fn one_call(alloc: Global, number: u64) -> Result<CallList, OutOfMemory> {
     Ok(calls)
 }
 
-fn both_files(alloc: Global) -> Result<FileList, OutOfMemory>
+// Two objects and two archives of one member each.
+fn all_files(alloc: Global) -> Result<FileList, OutOfMemory>
     ensures { IfOk result (λ pairs. AllPairs (λ one other. one.0 ≢ other.0) pairs) }
 {
+    let help = Bytes::from_vec(defining(alloc, b"_help")?)?;
     let mut pairs = Items::new(alloc);
     pairs.push((
         Bytes::from_static(b"main.o"),
         Bytes::from_static(returning_zero()),
     ))?;
-    pairs.push((Bytes::from_static(b"b.o"), helping(alloc)?))?;
+    pairs.push((Bytes::from_static(b"b.o"), help))?;
+    pairs.push((Bytes::from_static(b"l.a"), archive_of(alloc, b"_left")?))?;
+    pairs.push((Bytes::from_static(b"m.a"), archive_of(alloc, b"_wrap")?))?;
     Ok(pairs)
 }
 
@@ -81,7 +106,7 @@ struct Run {
 
 fn mem_files(alloc: Global, failing: u64) -> Result<MemFiles, OutOfMemory> {
     let calls = one_call(alloc, failing)?;
-    let pairs = both_files(alloc)?;
+    let pairs = all_files(alloc)?;
     Ok(MemFiles::new(pairs, calls))
 }
 
@@ -244,35 +269,46 @@ fn image_by<R: AllocGlobal + Threads + Sync, G: Gate + Sync>(
     image_of(rt.alloc(), code, &out)
 }
 
-// The image of both objects, by so many workers that pass a gate.
+// The image of a command's inputs, by so many workers that pass a gate.
 fn linked<R: AllocGlobal + Threads + Sync, G: Gate + Sync>(
     rt: &R,
-    words: &str,
+    inputs: &str,
+    workers: &str,
     gate: &G,
 ) -> Result<Vec<u8>, OutOfMemory> {
-    let words = words_of(rt.alloc(), words)?;
+    let mut words = words_of(rt.alloc(), inputs)?;
+    for word in ["-threads", workers] {
+        words.push(Arg::new(String::from_str(rt.alloc(), word)?))?;
+    }
     let mut files = mem_files(rt.alloc(), 0)?;
     image_by(rt, &words, &mut files, gate)
 }
 
 fn two_make_what_one_makes<R: AllocGlobal + Threads + Sync, G: Gate + Sync>(
     rt: &R,
+    inputs: &str,
     gate: &G,
 ) -> Result<bool, OutOfMemory> {
-    let by_two = linked(rt, "main.o b.o -threads 2", gate)?;
-    let by_one = linked(rt, "main.o b.o -threads 1", &FreeGate)?;
+    let by_two = linked(rt, inputs, "2", gate)?;
+    let by_one = linked(rt, inputs, "1", &FreeGate)?;
     Ok(by_two.len() == IMAGE_SIZE && by_two.as_slice() == by_one.as_slice())
 }
 
-// Two workers come to the gate, and the image is that of one worker alone. They meet three times: each reads one of the two
-// objects, races for the names of one, and writes one of the two atoms.
+// Inputs, and how often two workers who link them meet. Of two objects each worker reads one, races for the names of one, and
+// writes the atoms of half the image. With two archives each reads two inputs and one member; in the round that loads the
+// members, and once more when all are there, it races for the names of two files; and it writes half the image.
+const MEETINGS: &[(&str, u64)] = &[("main.o b.o", 3), ("main.o b.o l.a m.a -all_load", 8)];
+
+// Two workers come to the gate at each of a link's steps that workers take, and the image is that of one worker alone.
 #[test]
 fn workers_meet(rt: HostRuntime) -> Result<(), Fail> {
     let gate = MeetGate::new(1_000_000_000);
-    assert!(rt; two_make_what_one_makes(&rt, &gate)?);
+    assert!(rt; two_make_what_one_makes(&rt, "main.o b.o", &gate)?);
     assert!(rt; gate.met());
-    let each = EachGate::new(1_000_000_000);
-    assert!(rt; two_make_what_one_makes(&rt, &each)?);
-    assert!(rt; each.meetings() == Some(3));
+    for (inputs, meetings) in MEETINGS {
+        let each = EachGate::new(1_000_000_000);
+        assert!(rt; two_make_what_one_makes(&rt, inputs, &each)?);
+        assert!(rt; each.meetings() == Some(*meetings), "{inputs}");
+    }
     Ok(())
 }

@@ -1,12 +1,13 @@
 pub mod AnswerLemmas
 pub mod AskLemmas
-pub mod CountLemmas
 pub mod FirstLemmas
 pub mod GrowthLemmas
+pub mod KnownLemmas
 pub mod LinkLemmas
 pub mod LowLemmas
-pub mod NoteLemmas
+pub mod NameLemmas
 pub mod OfferedLemmas
+pub mod OrderLemmas
 pub mod PieceLemmas
 pub mod RiseLemmas
 pub mod RoundLemmas
@@ -15,4 +16,5 @@ pub mod SettledLemmas
 pub mod StateLemmas
 pub mod StepLemmas
 pub mod TakeLemmas
+pub mod WordLemmas
 pub mod WorkLemmas

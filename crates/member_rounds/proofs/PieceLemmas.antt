@@ -1,8 +1,8 @@
 -- What workers read, put in order.
-use Rattle.std.proofs.Common.{◌≡◌, ℕ, suc, ◌+◌, ◌<◌, ◌≤◌, ◌++◌, List, [], ◌∷◌, All, IfOk, Result, Ok, Err, length, map, take, drop, take-add, inl, inr, refl, sym, ap, subst, ◌∙◌, append-nil, append_assoc, arith}
+use Rattle.std.proofs.Common.{◌≡◌, ℕ, ◌+◌, ◌≤◌, ◌++◌, List, [], All, IfOk, Result, Ok, Err, length, map, take, drop, take-add, inl, inr, refl, sym, ap, subst, ◌∙◌, arith}
 use Rattle.std.proofs.lemmas.List.{map-append, take-append-drop, take_all}
 use Rattle.list_lemmas.proofs.Members.{In, in_either}
-use Rattle.mo_types.specs.Gives.{◌>>=◌, Gives}
+use Rattle.mo_types.specs.Gives.{Gives}
 use Rattle.mo_types.specs.Loaded.{IsWholeFile}
 use Rattle.mo_types.specs.declared.key.FileId.{FileId}
 use Rattle.mo_types.specs.declared.loaded.LoadedFile.{LoadedFile}

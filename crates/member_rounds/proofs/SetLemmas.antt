@@ -9,8 +9,6 @@ use Rattle.std.specs.declared.cmp.Ordering.TheVariants.{Equal, Greater, Less}
 use Rattle.std.proofs.lemmas.Bool.{ltb-true}
 use Rattle.std.proofs.lemmas.List.{take_all}
 use Rattle.std.proofs.lemmas.List.Folds.{list_any_more}
-use Rattle.std.proofs.lemmas.Slice.Eq.{bytes_eq-Decides}
-use Rattle.std.specs.Str.{bytes_eq}
 use Rattle.mo_types.specs.Keys.{compare_files}
 use Rattle.mo_types.specs.declared.key.FileId.{FileId}
 use Rattle.member_rounds.specs.Growth.{is_in, same_file}
@@ -66,17 +64,3 @@ note_step before now next test xs i x so low is more = record {
 
 pub note_end : {Q X : Type 0} (before now : Q → Bool) (test : Q → X → Bool) (xs : List X) (i : ℕ) → IsNoting before now test xs i → length xs ≤ i → (q : Q) → now q ≡ (before q || list_any (test q) xs)
 note_end before now test xs i so past q = so.each q ∙ ap (λ l. before q || list_any (test q) l) (take_all i xs past)
-
-pub if_or : (hit old : Bool) → (if hit then true else old) ≡ (old || hit)
-if_or true true = refl
-if_or true false = refl
-if_or false true = refl
-if_or false false = refl
-
-not_true : (b : Bool) → (b ≡ true → false ≡ true) → b ≡ false
-not_true true never = sym (never refl)
-not_true false never = refl
-
-pub turned : (a b : List ℕ) (t : Bool) → bytes_eq b a ≡ t → bytes_eq a b ≡ t
-turned a b true is = (bytes_eq-Decides a b).1 (sym ((bytes_eq-Decides b a).0 is))
-turned a b false is = not_true (bytes_eq a b) (λ e. sym is ∙ (bytes_eq-Decides b a).1 (sym ((bytes_eq-Decides a b).0 e)))

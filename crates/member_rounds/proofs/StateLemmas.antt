@@ -1,5 +1,5 @@
 -- A link from round to round.
-use Rattle.std.proofs.Common.{◌≡◌, ℕ, zero, suc, ◌<◌, ◌||◌, ◌++◌, Bool, true, not, List, [], ◌∷◌, All, Some, None, Result, Ok, Err, length, map, get_or, refl, sym, ap, ◌∙◌, subst, inl, inr, arith}
+use Rattle.std.proofs.Common.{◌≡◌, ℕ, zero, suc, ◌||◌, ◌++◌, Bool, true, not, List, [], ◌∷◌, Some, None, Result, Ok, Err, length, map, refl, sym, ap, ◌∙◌, subst, inl, inr}
 use Rattle.std.specs.List.{AllByRecursion, flat_map, list_any}
 use Rattle.std.specs.List.Sorted.{IsPermutation, IsStrictlySortedBy}
 use Rattle.std.specs.Cmp.Lexicographic.{nat_list_eq_equiv}
@@ -151,7 +151,7 @@ in_numbered files wanted name there = in_from_Contains (numbered (external_names
 pub in_named : (files : List LoadedFile) (wanted : List (List ℕ)) (name : List ℕ) → In name (external_names files ++ wanted) → list_any (bytes_eq name) (numbered (external_names files ++ wanted)) ≡ true
 in_named files wanted name there = any_from_in (bytes_eq name) (numbered (external_names files ++ wanted)) name (in_from_Contains (numbered (external_names files ++ wanted)) name (all (external_names files ++ wanted) name (Contains_from_in (external_names files ++ wanted) name there))) ((bytes_eq-Decides name name).1 refl)
 
-more_names : (xs ys : List LoadedFile) (wanted : List (List ℕ)) → ((file : LoadedFile) → In file xs → In file ys) → (name : List ℕ) → In name (external_names xs ++ wanted) → In name (external_names ys ++ wanted)
+pub more_names : (xs ys : List LoadedFile) (wanted : List (List ℕ)) → ((file : LoadedFile) → In file xs → In file ys) → (name : List ℕ) → In name (external_names xs ++ wanted) → In name (external_names ys ++ wanted)
 unfolding external_names
 more_names xs ys wanted more name there = elim (in_either (flat_map (λ (f : LoadedFile). external_of f.object.symbols) xs) wanted name there) [
   | inl f ↦

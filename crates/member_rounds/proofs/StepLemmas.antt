@@ -29,7 +29,7 @@ use Rattle.input_files.specs.Files.{all_ids, file_of, is_first}
 use Rattle.member_rounds.specs.Rounds.{asked_by, asks, files_of, has_candidate, loaded_ids, loaded_of, names_fault, new_ids, round, round_fault, undefined_in}
 use Rattle.input_files.specs.declared.fault.LoadFault.{LoadFault}
 use Rattle.input_files.specs.declared.input.Input.{Input}
-use Rattle.member_rounds.specs.inner.Working.{AreKept, AreSettled, HaveAsked, IsBetween, asked_of, first_names, lists, read_each}
+use Rattle.member_rounds.specs.inner.Working.{AreKept, AreSettled, HaveAsked, IsBetween, asked_of, first_names, read_each}
 use Rattle.member_rounds.proofs.GrowthLemmas.{has_from_in, in_from_has, round_ends}
 use Rattle.member_rounds.proofs.SettledLemmas.{after_settled, asked_alike, noted_settled}
 use Rattle.member_rounds.proofs.WorkLemmas.{asking, fresh_in, fresh_or_before, or_cases, next_is, round_brings, same_tests, stays_in}
@@ -170,21 +170,21 @@ module _ (inputs : List Input) (libs : LibraryGraph) (wanted : List (List ℕ)) 
       or_right true b e = refl
       or_right false b e = e
 
-  pub read_fails : (k : ℕ) (kept : List LoadedFile) (settled : List (List ℕ)) (left new : List FileId) (fault : LoadFault) → IsBetween inputs libs wanted k kept settled left new → read_each inputs new ≡ Err fault → k < ended + 1 → loaded_of inputs libs wanted ≡ Err fault
+  pub read_fails : (k : ℕ) (kept : List LoadedFile) (settled : List ℕ → Bool) (left new : List FileId) (fault : LoadFault) → IsBetween inputs libs wanted k kept settled left new → read_each inputs new ≡ Err fault → k < ended + 1 → loaded_of inputs libs wanted ≡ Err fault
   read_fails k kept settled left new fault so is low = loaded_fails k fault low so.no_fault (fault_of_file k fault (each_err inputs (fresh k) fault (subst (λ (ids : List FileId). read_each inputs ids ≡ Err fault) so.new_are is)))
 
-  pub names_fail : (k : ℕ) (kept files more : List LoadedFile) (settled : List (List ℕ)) (left new : List FileId) (fault : LoadFault) → IsBetween inputs libs wanted k kept settled left new → read_each inputs new ≡ Ok files → more ≡ kept ++ files → names_fault more wanted ≡ Some fault → k < ended + 1 → loaded_of inputs libs wanted ≡ Err fault
+  pub names_fail : (k : ℕ) (kept files more : List LoadedFile) (settled : List ℕ → Bool) (left new : List FileId) (fault : LoadFault) → IsBetween inputs libs wanted k kept settled left new → read_each inputs new ≡ Ok files → more ≡ kept ++ files → names_fault more wanted ≡ Some fault → k < ended + 1 → loaded_of inputs libs wanted ≡ Err fault
   names_fail k kept files more settled left new fault so is grown faulty low =
       let read : read_each inputs (fresh k) ≡ Ok files = subst (λ (ids : List FileId). read_each inputs ids ≡ Ok files) so.new_are is in
       let are : AreKept inputs (among k) more = kept_more inputs libs wanted k kept files more so.files read grown in
       loaded_fails k fault low so.no_fault (fault_of_names k (Some fault) (each_ok inputs (fresh k) files read).0 (sym (kept_names inputs (among k) more wanted are) ∙ faulty))
 
-  pub next_round : (k : ℕ) (kept files more : List LoadedFile) (settled noted after : List (List ℕ)) (left rest new next asked : List FileId)
+  pub next_round : (k : ℕ) (kept files more : List LoadedFile) (settled noted after : List ℕ → Bool) (left rest new next asked : List FileId)
       → IsStrictlySortedBy compare_files (all_ids inputs)
       → IsBetween inputs libs wanted k kept settled left new
       → read_each inputs new ≡ Ok files
       → more ≡ kept ++ files
-      → ((name : List ℕ) (id : FileId) → asked_by inputs libs name ≡ Some id → lists noted name ≡ (lists settled name || has_candidate files name))
+      → ((name : List ℕ) (id : FileId) → asked_by inputs libs name ≡ Some id → noted name ≡ (settled name || has_candidate files name))
       → names_fault more wanted ≡ None
       → HaveAsked inputs libs [] noted asked after (flat_map undefined_in files ++ first_names wanted k)
       → ((id : FileId) → is_in rest id ≡ (is_in left id && not (is_in asked id)))
@@ -235,7 +235,7 @@ module _ (inputs : List Input) (libs : LibraryGraph) (wanted : List (List ℕ)) 
           step_by : (xs ys : List FileId) (a b : ℕ) → among a ≡ xs → among b ≡ ys → xs ≡ ys → among (suc a) ≡ among (suc b)
           step_by xs ys a b ea eb e = next_is (all_ids inputs) (is_first inputs) (asks inputs libs wanted) a ∙ ap (λ (zs : List FileId). filter (λ x. is_in zs x || asks inputs libs wanted zs x) (all_ids inputs)) (ea ∙ e ∙ sym eb) ∙ sym (next_is (all_ids inputs) (is_first inputs) (asks inputs libs wanted) b)
 
-  pub ends_early : (k : ℕ) (kept : List LoadedFile) (settled : List (List ℕ)) (left new : List FileId) → IsStrictlySortedBy compare_files (all_ids inputs) → IsBetween inputs libs wanted (suc k) kept settled left new → new ≡ [] → (loaded_of inputs libs wanted ≡ Ok (record { files = files_of inputs (loaded_ids inputs libs wanted) })) × AreKept inputs (loaded_ids inputs libs wanted) kept
+  pub ends_early : (k : ℕ) (kept : List LoadedFile) (settled : List ℕ → Bool) (left new : List FileId) → IsStrictlySortedBy compare_files (all_ids inputs) → IsBetween inputs libs wanted (suc k) kept settled left new → new ≡ [] → (loaded_of inputs libs wanted ≡ Ok (record { files = files_of inputs (loaded_ids inputs libs wanted) })) × AreKept inputs (loaded_ids inputs libs wanted) kept
   ends_early k kept settled left new rise so none =
       let no_new : fresh (suc k) ≡ [] = sym so.new_are ∙ none in
       let same : among (suc k) ≡ among k = same_ids (among (suc k)) (among k) (round_rises inputs libs wanted (suc k) rise) (round_rises inputs libs wanted k rise) (λ id. round_then k id ∙ ap (λ (ids : List FileId). is_in (among k) id || is_in ids id) no_new ∙ or_nothing (is_in (among k) id)) in
@@ -267,7 +267,7 @@ module _ (inputs : List Input) (libs : LibraryGraph) (wanted : List (List ℕ)) 
           let nothing : fresh (suc i) ≡ [] = ap₂ (λ (xs ys : List FileId). filter (λ id. not (is_in xs id)) ys) one (two ∙ sym same) ∙ no_new in
           fault_of_names (suc i) None (ap (first_some (λ id. result_err (file_of inputs id))) nothing) (ap (λ (ids : List FileId). names_fault (files_of inputs ids) wanted) two ∙ names_of_fault k (before_none k (omega arith)))
 
-  pub ends_late : (kept : List LoadedFile) (settled : List (List ℕ)) (left new : List FileId) → IsBetween inputs libs wanted (suc ended) kept settled left new → (loaded_of inputs libs wanted ≡ Ok (record { files = files_of inputs (loaded_ids inputs libs wanted) })) × AreKept inputs (loaded_ids inputs libs wanted) kept
+  pub ends_late : (kept : List LoadedFile) (settled : List ℕ → Bool) (left new : List FileId) → IsBetween inputs libs wanted (suc ended) kept settled left new → (loaded_of inputs libs wanted ≡ Ok (record { files = files_of inputs (loaded_ids inputs libs wanted) })) × AreKept inputs (loaded_ids inputs libs wanted) kept
   ends_late kept settled left new so =
       (loaded_holds (λ j low. so.no_fault j (omega (arith, low))), subst (λ (ids : List FileId). AreKept inputs ids kept) (round_ends (all_ids inputs) (is_first inputs) (asks inputs libs wanted) ended (le_refl ended)) so.files)
 

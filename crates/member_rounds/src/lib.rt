@@ -7,32 +7,33 @@
 //! so many workers, whose number doesn't change the answer. Refusals come for the first round that has one: the fault
 //! of the least of its files that has one, and then that of 2^24 names or more. The other error is want of memory.
 //!
+//! With the files come all names of the link, each numbered once in the round in which it comes first (`AreNames`), and
+//! the numbers of the files' symbols. Where an archive offers anything, each round's files join a race of the names,
+//! whose start is the last round's words (`words_after`): a name without a word has no candidate, and asks.
+//!
 //! `asked_by` answers the member for which a name asks: the least-numbered one that the table of the first archive
 //! with the name gives to it; `None` exactly where no archive has it, where a library that stands before the archive
 //! provides it, and for names of the image's header. It takes no memory, and finds the name by an `OfferIndex`.
 //!
-//! The module `first_reading` reads the first round, `asking` and `taking` find what a further one brings, and
-//! `round_reading` reads that. The laws say that rounds grow and end (`rounds_end`), that what is loaded was asked
-//! for, and that it asks for nothing more (`what_is_loaded_asks_for_nothing_more`).
-//!
-//! The contracts refuse a body that loads in a later round a member that is loaded already, one that lets a library
-//! behind an archive provide a name in the archive's stead, and one that tells the fault of a later file.
+//! The laws say that rounds grow and end (`rounds_end`), that what is loaded was asked for, and that it asks for nothing
+//! more (`what_is_loaded_asks_for_nothing_more`). The contracts refuse a body that loads in a later round a member that
+//! is loaded already, one that asks with the words of the round before the last, one that lets a library behind an
+//! archive provide a name in the archive's stead, and one that tells the fault of a later file.
 #![tactic(auto)]
 
 mod asked;
 mod asking;
-mod counting;
 mod files_by_name;
 mod first_reading;
 mod id_set;
 mod in_order;
 mod laws;
 mod loading;
-mod noting;
+mod naming;
 mod offer_index;
+mod round_race;
 mod round_reading;
 mod round_rules;
-mod settled_names;
 mod taking;
 
 pub use asked::asked_by;

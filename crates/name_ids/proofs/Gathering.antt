@@ -1,15 +1,23 @@
 -- Names of symbols and of files, added one by one.
-use Rattle.std.proofs.Common.{◌≡◌, ℕ, ◌+◌, ◌<◌, ◌≤◌, ◌^◌, Bool, true, false, List, [], ◌∷◌, ◌++◌, length, nat_lt, Ok, Err, drop, get_or, refl, sym, ap, ◌∙◌}
-use Rattle.std.proofs.lemmas.Bool.{le-ltb, lt-ltb}
-use Rattle.std.proofs.lemmas.List.{drop_all, drop_more}
+use Rattle.std.proofs.Common.{◌≡◌, ℕ, ◌+◌, ◌<◌, ◌≤◌, ◌^◌, Bool, true, false, List, [], ◌∷◌, ◌++◌, length, nat_lt, Result, Ok, Err, drop, get_or, refl, sym, ap, ◌∙◌, arith}
+use Rattle.std.proofs.lemmas.Bool.{le-ltb, lt-ltb, ltb-false, ltb-true}
+use Rattle.std.proofs.lemmas.List.{drop_all, drop_more, length-append}
 use Rattle.std.proofs.lemmas.List.Sums.{fold-append}
 use Rattle.std.specs.Str.{bytes_eq}
 use Rattle.indexmap.specs.IndexSet.{insert_all, insert_key}
 use Rattle.mo_types.specs.declared.loaded.LoadedFile.{LoadedFile}
 use Rattle.mo_types.specs.declared.object.Symbol.{Symbol}
-use Rattle.name_ids.specs.Names.{IsNumbering, external_names, external_of, gathered, limited, numbered}
+use Rattle.list_lemmas.proofs.Inserted.{behind}
+use Rattle.name_ids.specs.Names.{added, external_names, external_of, gathered, limited, numbered}
+use Rattle.name_ids.specs.declared.fault.GatherFault.{GatherFault}
 use Rattle.name_ids.specs.declared.fault.GatherFault.TheVariants.{Names}
-use Rattle.name_ids.proofs.Once.{distinct}
+use Rattle.name_ids.proofs.Once.{same_name}
+
+same_ok : {A E : Type 0} {x y : A} → ◌≡◌ {A = Result A E} (Ok x) (Ok y) → x ≡ y
+same_ok e = cc
+
+same_fault : {A E : Type 0} {x y : E} → ◌≡◌ {A = Result A E} (Err x) (Err y) → x ≡ y
+same_fault e = cc
 
 -- with the rest of the names added to those of now, there are those that all make of those before
 pub record IsAdding (before now all rest : List (List ℕ)) : Type 0 where
@@ -99,32 +107,50 @@ pub ruleset names = (names_start, names_add, names_end)
 
 -- ---- all of them
 
-gathered_are : (empty found all : List (List ℕ)) (files : List LoadedFile) (extra : List (List ℕ)) → empty ≡ [] → found ≡ insert_all bytes_eq empty (external_names files) → all ≡ insert_all bytes_eq found extra → all ≡ numbered (external_names files ++ extra)
-unfolding numbered
-gathered_are empty found all files extra none first second =
-    second ∙ ap (λ ks. insert_all bytes_eq ks extra) (first ∙ ap (λ ks. insert_all bytes_eq ks (external_names files)) none)
-    ∙ sym (fold-append (insert_key bytes_eq) [] (external_names files) extra)
-
--- what was read of the arguments is theirs
-pub all_are : (empty found all : List (List ℕ)) (read files : List LoadedFile) (more extra : List (List ℕ)) → empty ≡ [] → read ≡ files → more ≡ extra → found ≡ insert_all bytes_eq empty (external_names read) → all ≡ insert_all bytes_eq found more → all ≡ numbered (external_names files ++ extra)
-all_are empty found all read files more extra none e f first second =
-    gathered_are empty found all files extra none
-    (first ∙ ap (λ fs. insert_all bytes_eq empty (external_names fs)) e)
-    (second ∙ ap (insert_all bytes_eq found) f)
-
-pub numbering : (names all : List (List ℕ)) → all ≡ numbered names → length all < 2 ^ 24 → IsNumbering all
-numbering names all is few = record { distinct = rw is (distinct names); few = few }
-
 too_long : (all : List (List ℕ)) → 2 ^ 24 ≤ length all → limited all ≡ Err Names
 too_long all past = let e : nat_lt (length all) (2 ^ 24) ≡ false = le-ltb (length all) (2 ^ 24) past in rw e refl
 
 short : (all : List (List ℕ)) → length all < 2 ^ 24 → limited all ≡ Ok all
 short all few = let e : nat_lt (length all) (2 ^ 24) ≡ true = lt-ltb (length all) (2 ^ 24) few in rw e refl
 
-pub too_many : (files : List LoadedFile) (extra all : List (List ℕ)) → all ≡ numbered (external_names files ++ extra) → 2 ^ 24 ≤ length all → gathered files extra ≡ Err Names
-unfolding gathered
-too_many files extra all is past = ap limited (sym is) ∙ too_long all past
+pub limited_is : (all names : List (List ℕ)) → limited all ≡ Ok names → (length all < 2 ^ 24) × (all ≡ names)
+limited_is all names is = by (nat_lt (length all) (2 ^ 24)) refl
+  where
+    by : (b : Bool) → nat_lt (length all) (2 ^ 24) ≡ b → (length all < 2 ^ 24) × (all ≡ names)
+    by true low = let few : length all < 2 ^ 24 = ltb-true (length all) (2 ^ 24) low in (few, same_ok (sym (short all few) ∙ is))
+    by false high = absurd (let e : Err Names ≡ Ok names = sym (too_long all (ltb-false (length all) (2 ^ 24) high)) ∙ is in cc)
 
-pub fitting : (files : List LoadedFile) (extra all : List (List ℕ)) → all ≡ numbered (external_names files ++ extra) → length all < 2 ^ 24 → gathered files extra ≡ Ok all
+pub limited_fault : (all : List (List ℕ)) (fault : GatherFault) → limited all ≡ Err fault → (2 ^ 24 ≤ length all) × (fault ≡ Names)
+limited_fault all fault is = by (nat_lt (length all) (2 ^ 24)) refl
+  where
+    by : (b : Bool) → nat_lt (length all) (2 ^ 24) ≡ b → (2 ^ 24 ≤ length all) × (fault ≡ Names)
+    by true low = absurd (let e : Ok all ≡ Err fault = sym (short all (ltb-true (length all) (2 ^ 24) low)) ∙ is in cc)
+    by false high = let many : 2 ^ 24 ≤ length all = ltb-false (length all) (2 ^ 24) high in (many, same_fault (sym is ∙ too_long all many))
+
+-- further names, and then more, are all of these
+added_twice : (files : List LoadedFile) (extra : List (List ℕ)) → numbered (external_names files ++ extra) ≡ added (added [] (external_names files)) extra
+unfolding numbered
+added_twice files extra = fold-append (insert_key bytes_eq) [] (external_names files) extra
+
+no_fewer : (names more : List (List ℕ)) → length names ≤ length (added names more)
+no_fewer names more =
+    let b : (rest : List (List ℕ)) × (added names more ≡ names ++ rest) = behind bytes_eq same_name names more in
+    let long : length (added names more) ≡ length names + length b.0 = ap length b.1 ∙ length-append names b.0 in
+    omega (arith, long)
+
+pub gathered_ok : (files : List LoadedFile) (extra first all : List (List ℕ)) → limited (added [] (external_names files)) ≡ Ok first → limited (added first extra) ≡ Ok all → gathered files extra ≡ Ok all
 unfolding gathered
-fitting files extra all is few = ap limited (sym is) ∙ short all few
+gathered_ok files extra first all one two =
+    ap limited (added_twice files extra ∙ ap (λ (ks : List (List ℕ)). added ks extra) (limited_is (added [] (external_names files)) first one).1) ∙ two
+
+pub gathered_first : (files : List LoadedFile) (extra : List (List ℕ)) (fault : GatherFault) → limited (added [] (external_names files)) ≡ Err fault → gathered files extra ≡ Err fault
+unfolding gathered
+gathered_first files extra fault is =
+    let f : (2 ^ 24 ≤ length (added [] (external_names files))) × (fault ≡ Names) = limited_fault (added [] (external_names files)) fault is in
+    let more = no_fewer (added [] (external_names files)) extra in
+    ap limited (added_twice files extra) ∙ too_long (added (added [] (external_names files)) extra) (omega (arith, f.0, more)) ∙ ap Err (sym f.1)
+
+pub gathered_then : (files : List LoadedFile) (extra first : List (List ℕ)) (fault : GatherFault) → limited (added [] (external_names files)) ≡ Ok first → limited (added first extra) ≡ Err fault → gathered files extra ≡ Err fault
+unfolding gathered
+gathered_then files extra first fault one two =
+    ap limited (added_twice files extra ∙ ap (λ (ks : List (List ℕ)). added ks extra) (limited_is (added [] (external_names files)) first one).1) ∙ two

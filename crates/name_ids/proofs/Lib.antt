@@ -1,3 +1,4 @@
+pub mod Any
 pub mod Gathering
 pub mod Numbers
 pub mod Once

@@ -36,7 +36,7 @@ distinct_step : (ks : List (List ℕ)) (k : List ℕ) (there : Bool) → list_an
 distinct_step ks k true is distinct = rw is distinct
 distinct_step ks k false is distinct = rw is (distinct_with ks k distinct is)
 
-distinct_all : (ks xs : List (List ℕ)) → IsDistinct bytes_eq ks → IsDistinct bytes_eq (insert_all bytes_eq ks xs)
+pub distinct_all : (ks xs : List (List ℕ)) → IsDistinct bytes_eq ks → IsDistinct bytes_eq (insert_all bytes_eq ks xs)
 distinct_all ks [] distinct = distinct
 distinct_all ks (x ∷ xs) distinct = distinct_all (insert_key bytes_eq ks x) xs (distinct_step ks x (list_any (bytes_eq x) ks) refl distinct)
 

@@ -1,5 +1,5 @@
 -- The names of a link, and their numbers.
-use Rattle.std.specs.Prelude.{ℕ, ◌^◌, ◌<◌, ◌++◌, nat_lt, List, [], length, map, filter, position, unwrap_or, Result, Ok, Err, if◌then◌else◌}
+use Rattle.std.specs.Prelude.{ℕ, ◌≡◌, ◌↔◌, ◌^◌, ◌<◌, ◌++◌, nat_lt, List, [], Contains, length, map, filter, position, unwrap_or, Result, Ok, Err, if◌then◌else◌}
 use Rattle.std.specs.List.{IsDistinct, flat_map}
 use Rattle.std.specs.Str.{bytes_eq}
 use Rattle.indexmap.specs.IndexSet.{insert_all}
@@ -17,10 +17,13 @@ external_of symbols = map (λ symbol. symbol.name) (filter (λ symbol. symbol.ex
 unfoldable pub external_names : List LoadedFile → List (List ℕ)
 external_names files = flat_map (λ file. external_of file.object.symbols) files
 
--- The distinct names of a list in the order in which they come first, which is that of their numbers: each name in
--- turn goes last, unless it is there.
+-- names and further ones: each of these in turn goes last, unless it is there
+abbrev pub added : List (List ℕ) → List (List ℕ) → List (List ℕ)
+added names more = insert_all bytes_eq names more
+
+-- the distinct names of a list in the order in which they come first, which is that of their numbers
 unfoldable pub numbered : List (List ℕ) → List (List ℕ)
-numbered names = insert_all bytes_eq [] names
+numbered names = added [] names
 
 -- no two names are the same, and there are fewer than 2^24
 pub record IsNumbering (names : List (List ℕ)) : Type 0 where
@@ -33,6 +36,12 @@ limited names = if nat_lt (length names) (2 ^ 24) then Ok names else Err Names
 
 unfoldable pub gathered : List LoadedFile → List (List ℕ) → Result (List (List ℕ)) GatherFault
 gathered files extra = limited (numbered (external_names files ++ extra))
+
+-- The names of files' external symbols and further ones have numbers, and no other name has. Which number a name has is
+-- of no matter.
+pub record AreNames (files : List LoadedFile) (extra names : List (List ℕ)) : Type 0 where
+  pub numbering : IsNumbering names
+  pub same : (name : List ℕ) → Contains (external_names files ++ extra) name ↔ Contains names name
 
 -- the number of an external symbol's name, and that of what isn't external
 unfoldable pub number_of : List (List ℕ) → Symbol → ℕ
@@ -50,3 +59,9 @@ numbers_of names files = map (numbers_in names) files
 abbrev pub IsGatherFault : GatherFault → Type 0
 IsGatherFault Names = Unit {0}
 IsGatherFault OutOfMemory = ⊥
+
+-- ---- laws
+
+-- names by which files' external symbols and further ones are numbered are as many as these are, whichever number each has
+abbrev pub AreAsMany : List LoadedFile → List (List ℕ) → List (List ℕ) → Type 0
+AreAsMany files extra names = length names ≡ length (numbered (external_names files ++ extra))

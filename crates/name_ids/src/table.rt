@@ -1,20 +1,31 @@
-ghost use Rattle.std.specs.Prelude.{◌≡◌, ◌<◌, nat_lt, true, length, position, slice_get, Some, None, if◌then◌else◌};
+ghost use Rattle.std.specs.Prelude.{◌≡◌, ◌<◌, nat_lt, true, length, [], position, slice_get, Ok, Err, Some, None, IfOk, IfErr, if◌then◌else◌};
 ghost use Rattle.std.specs.Str.{bytes_eq};
+ghost use Rattle.mo_types.specs.Gives.{Gives};
 ghost use Rattle.mo_types.specs.declared.object.Symbol.{Symbol};
-ghost use Rattle.name_ids.specs.Names.{IsNumbering, number_of};
+ghost use Rattle.name_ids.specs.Names as spec;
+ghost use Rattle.name_ids.specs.Names.{IsGatherFault, IsNumbering, added, external_names, limited, number_of, numbers_of};
 
+use crate::fault::GatherFault;
+use crate::held_name::HeldName;
 use crate::name::Name;
+use crate::numbered::Numbered;
+use crate::numbering::{add_files, add_names};
 use indexmap::IndexSet;
+use mo_types::{Bytes, LoadedFile};
+use std::alloc::Global;
 use std::marker::Model;
 
-/// The distinct names of a link, by their numbers from 0 on. Contracts see the list of the names; it holds no two that are
-/// the same, and fewer than 2^24.
+// There are fewer names.
+const LIMIT: usize = 1 << 24;
+
+/// Distinct names by their numbers from 0 on, to which further ones can be added behind. Contracts see the list of the
+/// names; it holds no two that are the same, and fewer than 2^24. A name shares its bytes with the file that it is from.
 #[derive(Drop)]
-pub struct NameTable<'a> {
-    names: IndexSet<Name<'a>>,
+pub struct NameTable {
+    names: IndexSet<HeldName>,
 }
 
-impl<'a> Model for NameTable<'a> {
+impl Model for NameTable {
     ghost use Rattle.std.specs.Prelude.{List, ℕ};
     ghost use Rattle.name_ids.specs.Names.{IsNumbering};
 
@@ -25,13 +36,47 @@ impl<'a> Model for NameTable<'a> {
     ghost invariant = { λ table. IsNumbering table.names.keys };
 }
 
-impl<'a> NameTable<'a> {
-    // The table of names, each of which is there once.
-    pub(crate) fn from_set(names: IndexSet<Name<'a>>) -> NameTable<'a>
-        requires { IsNumbering names.keys }
-        ensures { result ≡ names.entry.keys }
+// The table of names, unless there are too many.
+fn table_of(names: IndexSet<HeldName>) -> Result<NameTable, GatherFault>
+    ensures { Gives IsGatherFault result (limited names.keys) }
+{
+    if names.len() >= LIMIT {
+        return Err(GatherFault::Names);
+    }
+    Ok(NameTable { names })
+}
+
+impl NameTable {
+    /// No names, without taking memory.
+    pub fn new(alloc: Global) -> NameTable
+        ensures { result ≡ [] }
     {
-        NameTable { names }
+        NameTable {
+            names: IndexSet::new(alloc),
+        }
+    }
+
+    /// With further names: those that aren't there come behind, in the order in which they come first. `Names` exactly where
+    /// there are 2^24 names or more then.
+    pub fn with_names(self, more: &[Bytes]) -> Result<NameTable, GatherFault>
+        ensures { Gives IsGatherFault result (limited (added self more.now)) }
+    {
+        table_of(add_names(self.names, more)?)
+    }
+
+    /// With the names of the external symbols of files, file by file, and the numbers of the names of all their symbols. Each
+    /// name is hashed once where it stands; what isn't external has the number `NO_NUMBER`. `Names` exactly where there are
+    /// 2^24 names or more then.
+    #[tactic(auto, using(crate::proofs::Staying::given))]
+    pub fn with_files(self, alloc: Global, files: &[LoadedFile]) -> Result<Numbered, GatherFault>
+        ensures names { IfOk result (λ all. limited (added self (external_names files.now)) ≡ Ok all.names) }
+        ensures numbers { IfOk result (λ all. all.numbers ≡ numbers_of all.names files.now) }
+        ensures fault { IfErr result (λ fault. IsGatherFault fault → limited (added self (external_names files.now)) ≡ Err fault) }
+    {
+        let NameTable { mut names } = self;
+        let numbers = add_files(alloc, &mut names, files)?;
+        let names = table_of(names)?;
+        Ok(Numbered { names, numbers })
     }
 
     /// How many names there are.
@@ -52,7 +97,7 @@ impl<'a> NameTable<'a> {
         }
     }
 
-    /// The number of an external symbol's name, where `gather` gave it this one: itself, or `None` exactly where the name
+    /// The number of an external symbol's name, where the table gave it this one: itself, or `None` exactly where the name
     /// isn't there.
     #[tactic(auto, using(crate::proofs::Numbers::numbers))]
     pub fn id_of_number(&self, number: u32) -> Option<u32>

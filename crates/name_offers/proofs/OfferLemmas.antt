@@ -22,15 +22,15 @@ use Rattle.name_offers.specs.inner.Offering.{AreOffered, HasOffered, offer_by, o
 nothing_offered : (racer : Holding) → HasOffered [] racer racer
 nothing_offered racer = record { race = refl; passes = refl; offers = sym (append-nil racer.offers) }
 
-no_candidate : (names : List (List ℕ)) (file : LoadedFile) (index : ℕ) (symbol : Symbol) → is_candidate file.object.sections symbol ≡ false → offers_at names file ((index, symbol) ∷ []) ≡ []
+pub no_candidate : (names : List (List ℕ)) (file : LoadedFile) (index : ℕ) (symbol : Symbol) → is_candidate file.object.sections symbol ≡ false → offers_at names file ((index, symbol) ∷ []) ≡ []
 unfolding offers_at candidate_at
 no_candidate names file index symbol is = rw is refl
 
-a_candidate : (names : List (List ℕ)) (file : LoadedFile) (index id : ℕ) (symbol : Symbol) → is_candidate file.object.sections symbol ≡ true → position (bytes_eq symbol.name) names ≡ Some id → offers_at names file ((index, symbol) ∷ []) ≡ (id, word_of file.id index symbol) ∷ []
+pub a_candidate : (names : List (List ℕ)) (file : LoadedFile) (index id : ℕ) (symbol : Symbol) → is_candidate file.object.sections symbol ≡ true → position (bytes_eq symbol.name) names ≡ Some id → offers_at names file ((index, symbol) ∷ []) ≡ (id, word_of file.id index symbol) ∷ []
 unfolding offers_at candidate_at offer_by
 a_candidate names file index id symbol is there = rw (is, there) refl
 
-no_name : (names : List (List ℕ)) (file : LoadedFile) (index : ℕ) (symbol : Symbol) → position (bytes_eq symbol.name) names ≡ None → offers_at names file ((index, symbol) ∷ []) ≡ []
+pub no_name : (names : List (List ℕ)) (file : LoadedFile) (index : ℕ) (symbol : Symbol) → position (bytes_eq symbol.name) names ≡ None → offers_at names file ((index, symbol) ∷ []) ≡ []
 unfolding offers_at candidate_at offer_by
 no_name names file index symbol none = by (is_candidate file.object.sections symbol) refl
   where
@@ -78,17 +78,17 @@ split names file x xs =
     ap (filter_map (offer_by names)) (filter_map-append (candidate_at file) (x ∷ []) xs)
     ∙ filter_map-append (offer_by names) (filter_map (candidate_at file) (x ∷ [])) (filter_map (candidate_at file) xs)
 
-from_more : (names : List (List ℕ)) (file : LoadedFile) (i : ℕ) (symbol : Symbol) → i < length file.object.symbols → symbol ≡ get_or file.object.symbols i symbol → from names file i ≡ offers_at names file ((i, symbol) ∷ []) ++ from names file (i + 1)
+pub from_more : (names : List (List ℕ)) (file : LoadedFile) (i : ℕ) (symbol : Symbol) → i < length file.object.symbols → symbol ≡ get_or file.object.symbols i symbol → from names file i ≡ offers_at names file ((i, symbol) ∷ []) ++ from names file (i + 1)
 unfolding from
 from_more names file i symbol low is =
     ap (λ (xs : List Symbol). offers_at names file (enumerate_from i xs)) (drop_more file.object.symbols i symbol low ∙ ap (λ (y : Symbol). y ∷ drop (i + 1) file.object.symbols) (sym is))
     ∙ split names file (i, symbol) (enumerate_from (i + 1) (drop (i + 1) file.object.symbols))
 
-from_start : (names : List (List ℕ)) (file : LoadedFile) → from names file 0 ≡ offers_in names file
+pub from_start : (names : List (List ℕ)) (file : LoadedFile) → from names file 0 ≡ offers_in names file
 unfolding from offers_at offers_in candidates_of
 from_start names file = refl
 
-from_end : (names : List (List ℕ)) (file : LoadedFile) (i : ℕ) → length file.object.symbols ≤ i → from names file i ≡ []
+pub from_end : (names : List (List ℕ)) (file : LoadedFile) (i : ℕ) → length file.object.symbols ≤ i → from names file i ≡ []
 unfolding from offers_at
 from_end names file i past = rw (drop_all i file.object.symbols past) refl
 

@@ -1,16 +1,15 @@
 //! The offers of files by workers in threads of their own.
-ghost use Rattle.std.specs.Prelude.{◌≡◌, ◌<◌, ◌≤◌, ◌^◌, ℕ, [], ◌∷◌, length, map, take, drop, vec_len, All, IfOk, get_or};
+ghost use Rattle.std.specs.Prelude.{◌≡◌, ◌<◌, ◌≤◌, ◌^◌, ℕ, [], ◌∷◌, length, map, take, drop, vec_len, All, IfOk};
 ghost use Rattle.std.specs.List.{flat_map};
 ghost use Rattle.mo_types.specs.Loaded.{IsWholeLoaded};
 ghost use Rattle.name_ids.specs.Names.{number_of, numbers_in, numbers_of};
-ghost use Rattle.name_ids.specs.declared.numbered.TheConstants.{NO_NUMBER as NO_NAME};
 ghost use Rattle.name_offers.specs.Offers.{GrewBy, bids_of};
 ghost use Rattle.symbol_winners.specs.Found.{AreNamed};
 ghost use Rattle.name_offers.specs.inner.Offering.{AreOffered, HasOffered, HaveOffered, offers_at, offers_in};
 
 use mo_outside::Gate;
 use mo_types::{Loaded, LoadedFile, OutOfMemory, Symbol};
-use name_ids::{NO_NUMBER, NameTable, NumberList, Numbered};
+use name_ids::{NameTable, NumberList, Numbered, number_at, numbers_at};
 use name_race::{NameRace, Racer};
 use par_work::{Task, fan};
 use std::alloc::Global;
@@ -18,26 +17,6 @@ use std::thread::Threads;
 
 // The most jobs that are shared out at once.
 const MOST_JOBS: usize = 1 << 30;
-
-// The number at a place.
-fn number_at(numbers: &[u32], at: usize) -> u32
-    ensures { result ≡ get_or numbers.now at NO_NAME }
-{
-    match numbers.get(at) {
-        Some(number) => *number,
-        None => NO_NUMBER,
-    }
-}
-
-// The numbers at a place.
-fn numbers_at(lists: &[NumberList], at: usize) -> &[u32]
-    ensures { result.now ≡ get_or lists.now at [] }
-{
-    match lists.get(at) {
-        Some(numbers) => numbers.as_slice(),
-        None => &[],
-    }
-}
 
 // So many lists from a place on, or those that there are.
 #[tactic(auto, using(crate::proofs::OfferLemmas::parts))]
@@ -105,14 +84,14 @@ fn offer_file(
 
 // A job for each file: to offer the words of its candidates.
 #[derive(Drop)]
-struct Offering<'a, 'b> {
+struct Offering<'a> {
     race: &'a NameRace,
-    names: &'a NameTable<'b>,
+    names: &'a NameTable,
     files: &'a [LoadedFile],
     numbers: &'a [NumberList],
 }
 
-impl<'a, 'b> Task for Offering<'a, 'b> {
+impl<'a> Task for Offering<'a> {
     ghost use Rattle.std.specs.Prelude.{◌≡◌, ◌≤◌, length};
     ghost use Rattle.mo_types.specs.Loaded.{IsWholeFile};
     ghost use Rattle.name_offers.specs.inner.Offering.{AreOffered, HasOffered, offers_of_job};

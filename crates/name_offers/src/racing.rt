@@ -9,8 +9,9 @@ ghost use Rattle.symbol_winners.specs.Found.{AreNamed};
 ghost use Rattle.name_offers.specs.inner.Offering.{AreRacers};
 
 use crate::offering::offer_all;
+use crate::plain::offer_files;
 use mo_outside::Gate;
-use mo_types::{Loaded, OutOfMemory};
+use mo_types::{Loaded, LoadedFile, OutOfMemory};
 use name_ids::Numbered;
 use name_race::{NameRace, Racer};
 use std::alloc::Global;
@@ -80,5 +81,47 @@ pub fn race_words<R: Threads + Sync, G: Gate + Sync>(
     let racers = offer_all(rt, alloc, gate, &race, racers, files, numbered)?;
     let racer = joined(&race, racers);
     race.settle(racer, words.as_mut_slice());
+    Ok(words)
+}
+
+// Whether files have so few symbols beside the words of names that a race, which takes the words over twice, costs more than
+// to offer those of their candidates one after the other.
+fn are_few(files: &[LoadedFile], words: usize) -> bool {
+    let mut symbols = 0usize;
+    for file in files {
+        symbols = symbols.saturating_add(file.object.symbols.len());
+    }
+    symbols <= words / 4
+}
+
+/// The words of names after further files offered those of their candidates: each is the least of its word before and of
+/// those of the candidates of the files that have its name. The offers are raced by so many workers (none count as one), or,
+/// where the files have few symbols beside the names, made one after the other; the words are the same.
+#[tactic(auto, using(crate::proofs::OfferLemmas::named_offers))]
+pub fn words_after<R: Threads + Sync, G: Gate + Sync>(
+    rt: &R,
+    alloc: Global,
+    gate: &G,
+    workers: u32,
+    before: Vec<u64>,
+    files: &Loaded,
+    numbered: &Numbered,
+) -> Result<Vec<u64>, OutOfMemory>
+    requires whole { IsWholeLoaded files.now }
+    requires named { AreNamed numbered.now.names files.now.files }
+    requires numbers { numbered.now.numbers ≡ numbers_of numbered.now.names files.now.files }
+    requires words { length numbered.now.names ≤ length before.items }
+    ensures { IfOk result (λ words. words.items ≡ run before.items (bids_of numbered.now.names files.now.files)) }
+{
+    if !before.is_empty() && !are_few(files.files.as_slice(), before.len()) {
+        return race_words(rt, alloc, gate, workers, before, files, numbered);
+    }
+    let mut words = before;
+    offer_files(
+        words.as_mut_slice(),
+        &numbered.names,
+        files.files.as_slice(),
+        numbered.numbers.as_slice(),
+    );
     Ok(words)
 }

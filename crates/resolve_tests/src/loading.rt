@@ -96,7 +96,7 @@ fn loaded_of<R: Threads + Sync>(
     };
     let inputs = Inputs { sources, objects };
     match load(rt, alloc, &FreeGate, workers, inputs, &libs, &wanted) {
-        Ok(loaded) => Ok(Some(loaded)),
+        Ok(named) => Ok(Some(named.loaded)),
         Err(fault) => Err(fault),
     }
 }

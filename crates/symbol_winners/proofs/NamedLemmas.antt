@@ -6,7 +6,7 @@ use Rattle.list_lemmas.proofs.Members.{In, Contains_from_in, all_from_in, in_eit
 use Rattle.mo_types.specs.Candidates.{Candidate, candidate_at, candidates, candidates_of, is_candidate, has_place}
 use Rattle.mo_types.specs.declared.loaded.LoadedFile.{LoadedFile}
 use Rattle.mo_types.specs.declared.object.Symbol.{Symbol}
-use Rattle.name_ids.specs.Names.{external_names, external_of, gathered, limited, numbered}
+use Rattle.name_ids.specs.Names.{AreNames, external_names, external_of, gathered, limited, numbered}
 use Rattle.name_ids.specs.declared.fault.GatherFault.TheVariants.{Names}
 use Rattle.name_ids.proofs.Once.{all}
 use Rattle.symbol_winners.specs.Found.{AreNamed}
@@ -52,11 +52,13 @@ in_files (file ∷ files) c h = elim (in_either (candidates_of file) (candidates
   | inr rest ↦ in_right (external_of file.object.symbols) (external_names files) c.symbol.name (in_files files c rest)
 ]
 
-pub are_named : (files : List LoadedFile) (extra : List (List ℕ)) → AreNamed (numbered (external_names files ++ extra)) files
-are_named files extra = All-from_recursion (λ (c : Candidate). Contains (numbered (external_names files ++ extra)) c.symbol.name) (candidates files)
-    (all_from_in (λ (c : Candidate). Contains (numbered (external_names files ++ extra)) c.symbol.name) (candidates files)
-    (λ c h. all (external_names files ++ extra) c.symbol.name
-    (Contains_from_in (external_names files ++ extra) c.symbol.name (in_left (external_names files) extra c.symbol.name (in_files files c h)))))
+pub named_by : (files : List LoadedFile) (extra names : List (List ℕ)) → ((name : List ℕ) → Contains (external_names files ++ extra) name → Contains names name) → AreNamed names files
+named_by files extra names all = All-from_recursion (λ (c : Candidate). Contains names c.symbol.name) (candidates files)
+    (all_from_in (λ (c : Candidate). Contains names c.symbol.name) (candidates files)
+    (λ c h. all c.symbol.name (Contains_from_in (external_names files ++ extra) c.symbol.name (in_left (external_names files) extra c.symbol.name (in_files files c h)))))
+
+pub names_named : (files : List LoadedFile) (extra names : List (List ℕ)) → AreNames files extra names → AreNamed names files
+names_named files extra names are = named_by files extra names (λ name. (are.same name).0)
 
 limited_is : (all names : List (List ℕ)) → limited all ≡ Ok names → all ≡ names
 limited_is all names is = by (nat_lt (length all) (2 ^ 24)) refl
@@ -67,6 +69,6 @@ limited_is all names is = by (nat_lt (length all) (2 ^ 24)) refl
 
 pub gathered_named : (files : List LoadedFile) (extra names : List (List ℕ)) → gathered files extra ≡ Ok names → AreNamed names files
 unfolding gathered
-gathered_named files extra names is = subst (λ (ns : List (List ℕ)). AreNamed ns files) (limited_is (numbered (external_names files ++ extra)) names is) (are_named files extra)
+gathered_named files extra names is = subst (λ (ns : List (List ℕ)). AreNamed ns files) (limited_is (numbered (external_names files ++ extra)) names is) (named_by files extra (numbered (external_names files ++ extra)) (all (external_names files ++ extra)))
 
-pub ruleset names = (gathered_named)
+pub ruleset names = (gathered_named, names_named)

@@ -80,7 +80,7 @@ winners_are_one command files a b p q = same_by_key (λ (w : Winner). w.name) a 
 -- ---- names
 
 -- of two names of which neither is greater, each is the other
-neither_greater : (a b : List ℕ) → is_gt (text_cmp a b) ≡ false → is_gt (text_cmp b a) ≡ false → a ≡ b
+pub neither_greater : (a b : List ℕ) → is_gt (text_cmp a b) ≡ false → is_gt (text_cmp b a) ≡ false → a ≡ b
 neither_greater a b p q = by (text_cmp a b) refl
   where
     by : (o : Ordering) → text_cmp a b ≡ o → a ≡ b
@@ -120,7 +120,7 @@ one_answer {P = P} dup names i j a b p q d e g same h k =
 none_some : {X : Type 0} (o : Option X) (x : X) → o ≡ None → o ≡ Some x → ⊥
 none_some o x e g = cc
 
-is_some : {X : Type 0} (o : Option X) (x : X) → o ≡ Some x → IsSome o
+pub is_some : {X : Type 0} (o : Option X) (x : X) → o ≡ Some x → IsSome o
 is_some o x e = rw e refl
 
 pub one_duplicate : (files : List LoadedFile) (names : List (List ℕ)) (a b : Option (ℕ × FileId × FileId)) → IsNumbering names → IsDuplicate files names a → IsDuplicate files names b → a ≡ b

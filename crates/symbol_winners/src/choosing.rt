@@ -19,12 +19,12 @@ ghost use Rattle.symbol_winners.specs.inner.Tables.{found_of};
 use crate::best::Best;
 use crate::chosen::Chosen;
 use crate::exports::{ExportRules, is_exported};
-use crate::found::{FoundIn, number_at, numbers_at};
+use crate::found::FoundIn;
 use crate::name_index::NameIndex;
 use crate::places::{Place, place_of};
 use crate::winner::Winner;
 use mo_types::{AtomKey, Items, LoadedFile, OutOfMemory};
-use name_ids::{NameTable, NumberList};
+use name_ids::{NameTable, NumberList, number_at, numbers_at};
 use std::alloc::Global;
 
 // Whether a candidate has the least word of its name, by the name's number.
@@ -174,7 +174,7 @@ pub(crate) fn winners_of(
 /// The places of the winning candidates, by the numbers of their names.
 pub(crate) fn index_of<'a>(
     alloc: Global,
-    names: &'a NameTable<'a>,
+    names: &'a NameTable,
     chosen: &[Chosen],
 ) -> Result<NameIndex<'a>, OutOfMemory>
     requires numbering { IsNumbering names.now }

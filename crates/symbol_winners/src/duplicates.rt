@@ -11,9 +11,8 @@ ghost use Rattle.std.specs.Ordering.{is_gt, nat_cmp};
 ghost use Rattle.std.specs.Cmp.Lexicographic.{slice_cmp};
 
 use crate::firsts::Firsts;
-use crate::found::{number_at, numbers_at};
 use mo_types::{FileId, Items, Loaded, LoadedFile, OutOfMemory, Symbol};
-use name_ids::{NameTable, NumberList};
+use name_ids::{NameTable, NumberList, number_at, numbers_at};
 use std::alloc::Global;
 
 // Notes a candidate of a name.

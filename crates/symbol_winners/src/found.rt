@@ -1,14 +1,13 @@
 //! The candidates of files.
-ghost use Rattle.std.specs.Prelude.{◌≡◌, ◌++◌, ◌<◌, ◌^◌, ℕ, List, [], get_or, length, All, IfOk};
+ghost use Rattle.std.specs.Prelude.{◌≡◌, ◌++◌, ◌<◌, ◌^◌, ℕ, List, length, All, IfOk};
 ghost use Rattle.mo_types.specs.Loaded.{IsWholeFile};
 ghost use Rattle.name_ids.specs.Names.{numbers_in, numbers_of};
-ghost use Rattle.name_ids.specs.declared.numbered.TheConstants.{NO_NUMBER as NO_NAME};
 ghost use Rattle.symbol_winners.specs.Found as spec;
 ghost use Rattle.symbol_winners.specs.inner.Numbers.{AreNumbered};
 ghost use Rattle.symbol_winners.specs.inner.Tables.{held};
 
 use mo_types::{Items, LoadedFile, OutOfMemory, Symbol};
-use name_ids::{NO_NUMBER, NumberList};
+use name_ids::{NumberList, number_at, numbers_at};
 use std::alloc::Global;
 
 /// A candidate, with the file that has it.
@@ -19,26 +18,6 @@ pub(crate) struct FoundIn<'a> {
     /// The number of its name.
     pub number: u32,
     pub symbol: &'a Symbol,
-}
-
-/// The number at a place.
-pub(crate) fn number_at(numbers: &[u32], at: usize) -> u32
-    ensures { result ≡ get_or numbers.now at NO_NAME }
-{
-    match numbers.get(at) {
-        Some(number) => *number,
-        None => NO_NUMBER,
-    }
-}
-
-/// The numbers at a place.
-pub(crate) fn numbers_at(lists: &[NumberList], at: usize) -> &[u32]
-    ensures { result.now ≡ get_or lists.now at [] }
-{
-    match lists.get(at) {
-        Some(numbers) => numbers.as_slice(),
-        None => &[],
-    }
 }
 
 // Candidates, and those of a file.

@@ -8,7 +8,7 @@ ghost use Rattle.mo_types.specs.Loaded.{IsWholeLoaded};
 ghost use Rattle.mo_types.specs.declared.key.FileId.{FileId};
 ghost use Rattle.mo_types.specs.declared.loaded.Loaded.{Loaded};
 ghost use Rattle.mo_types.specs.declared.loaded.LoadedFile.{LoadedFile};
-ghost use Rattle.name_ids.specs.Names.{IsNumbering, gathered};
+ghost use Rattle.name_ids.specs.Names.{AreNames, IsNumbering, gathered};
 ghost use Rattle.symbol_winners.specs.Duplicates.{IsDuplicate, duplicate_of, strong_for};
 ghost use Rattle.symbol_winners.specs.Found.{AreNamed};
 ghost use Rattle.symbol_winners.specs.Laws.{AreSameFiles, AreTwoLeast, HasRoom};
@@ -31,10 +31,12 @@ pub fn the_earlier_wins()
     ensures symbol { (a b : Candidate) → strength a.symbol ≡ strength b.symbol → a.file ≡ b.file → a.index < b.index → candidate_word a < candidate_word b }
 {}
 
-/// Each candidate's name is among the names that are gathered of its files.
+/// Each candidate's name is among the names of its files, in whatever order they are numbered, and so among those that are
+/// gathered of them.
 #[tactic(auto, using(crate::proofs::NamedLemmas::names))]
 pub fn candidates_have_numbers()
-    ensures { (files : List LoadedFile) (extra names : List (List ℕ)) → gathered files extra ≡ Ok names → AreNamed names files }
+    ensures names { (files : List LoadedFile) (extra names : List (List ℕ)) → AreNames files extra names → AreNamed names files }
+    ensures gathered { (files : List LoadedFile) (extra names : List (List ℕ)) → gathered files extra ≡ Ok names → AreNamed names files }
 {}
 
 /// All files have a symbol table, whatever the command.

@@ -12,7 +12,7 @@ use std::alloc::Global;
 /// For some of the names of a table a place each.
 #[derive(Drop)]
 pub struct NameIndex<'a> {
-    names: &'a NameTable<'a>,
+    names: &'a NameTable,
     // By the names' numbers.
     places: Vec<Option<u32>>,
 }
@@ -20,7 +20,7 @@ pub struct NameIndex<'a> {
 impl<'a> NameIndex<'a> {
     /// The index in which no name of a table has a place.
     #[tactic(auto, using(crate::proofs::PlaceSteps::nothing))]
-    pub(crate) fn new(alloc: Global, names: &'a NameTable<'a>) -> Result<NameIndex<'a>, OutOfMemory>
+    pub(crate) fn new(alloc: Global, names: &'a NameTable) -> Result<NameIndex<'a>, OutOfMemory>
         ensures nothing { IfOk result (λ index. (name : List ℕ) → known index name ≡ None) }
         ensures names { IfOk result (λ index. index.names.now ≡ names.entry.now) }
         ensures len { IfOk result (λ index. length index.places.items ≡ length names.now) }
@@ -32,7 +32,7 @@ impl<'a> NameIndex<'a> {
     }
 
     /// The names of the table.
-    pub(crate) fn names(&self) -> &NameTable<'a>
+    pub(crate) fn names(&self) -> &NameTable
         ensures { result.now ≡ self.now.names.now }
     {
         self.names

@@ -106,7 +106,7 @@ impl<'a> SymbolTable<'a> {
     }
 
     /// All names, by their numbers.
-    pub fn names(&self) -> &NameTable<'a>
+    pub fn names(&self) -> &NameTable
         ensures { result.now ≡ self.now.names }
     {
         self.index.names()

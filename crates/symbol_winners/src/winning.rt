@@ -23,7 +23,7 @@ use std::alloc::Global;
 pub fn winners<'a>(
     alloc: Global,
     loaded: &'a Loaded,
-    names: &'a NameTable<'a>,
+    names: &'a NameTable,
     numbers: &Items<NumberList>,
     words: &[u64],
     command: &'a Command,

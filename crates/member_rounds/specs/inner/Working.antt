@@ -3,7 +3,7 @@ use Rattle.std.specs.Prelude.{◌≡◌, ℕ, zero, suc, ◌<◌, ◌&&◌, ◌|
 use Rattle.std.specs.List.{filter_map, list_any}
 use Rattle.std.specs.List.Sorted.{IsPermutation}
 use Rattle.std.specs.Str.{bytes_eq}
-use Rattle.mo_types.specs.Candidates.{is_candidate, is_undefined}
+use Rattle.mo_types.specs.Candidates.{is_undefined}
 use Rattle.mo_types.specs.Gives.{Gives}
 use Rattle.mo_types.specs.Loaded.{IsWholeFile}
 use Rattle.mo_types.specs.declared.key.FileId.{FileId}
@@ -20,14 +20,6 @@ use Rattle.input_files.specs.declared.input.Input.{Input}
 -- whether a name is among some
 abbrev pub lists : List (List ℕ) → List ℕ → Bool
 lists names name = list_any (bytes_eq name) names
-
--- whether a file's symbol is a candidate of a name
-abbrev pub names_it : LoadedFile → List ℕ → Symbol → Bool
-names_it file name symbol = is_candidate file.object.sections symbol && bytes_eq name symbol.name
-
--- whether a name has a candidate in a file
-unfoldable pub has_in : List ℕ → LoadedFile → Bool
-has_in name file = list_any (names_it file name) file.object.symbols
 
 -- the files before a round
 abbrev pub before : List Input → LibraryGraph → List (List ℕ) → ℕ → List FileId
@@ -74,28 +66,24 @@ pub record AreKept (inputs : List Input) (among : List FileId) (kept : List Load
   pub ids : IsPermutation among (map (λ file. file.id) kept)
   pub read : All (λ file. file_of inputs file.id ≡ Ok file) kept
 
--- what names asked for: each that wasn't settled for the member that it asks for, and then it is settled; of names that
--- ask for nothing it is of no matter whether they are
-pub record HaveAsked (inputs : List Input) (libs : LibraryGraph) (before : List FileId) (settled : List (List ℕ)) (asked : List FileId) (after : List (List ℕ)) (names : List (List ℕ)) : Type 0 where
-  pub settled_are : (name : List ℕ) (id : FileId) → asked_by inputs libs name ≡ Some id → lists after name ≡ (lists settled name || lists names name)
+-- What names asked for: each that wasn't settled for the member that it asks for, and then it is settled, or it asks again.
+-- Settled are names that needn't ask.
+pub record HaveAsked (inputs : List Input) (libs : LibraryGraph) (before : List FileId) (settled : List ℕ → Bool) (asked : List FileId) (after : List ℕ → Bool) (names : List (List ℕ)) : Type 0 where
+  pub stay : (name : List ℕ) → settled name ≡ true → after name ≡ true
+  pub only : (name : List ℕ) → after name ≡ true → (settled name || lists names name) ≡ true
   pub kept : (id : FileId) → is_in before id ≡ true → is_in asked id ≡ true
-  pub came : (id : FileId) → is_in asked id ≡ true → (is_in before id ≡ true) ⊎ ((name : List ℕ) × (lists names name ≡ true) × (lists settled name ≡ false) × (asked_by inputs libs name ≡ Some id))
-  pub asks : (name : List ℕ) (id : FileId) → lists names name ≡ true → lists settled name ≡ false → asked_by inputs libs name ≡ Some id → is_in asked id ≡ true
-
--- names, and those of the candidates of files; of names that ask for nothing nothing is said
-abbrev pub HaveNoted : List Input → LibraryGraph → List (List ℕ) → List LoadedFile → List (List ℕ) → Type 0
-HaveNoted inputs libs before files after =
-    (name : List ℕ) (id : FileId) → asked_by inputs libs name ≡ Some id → lists after name ≡ (lists before name || has_candidate files name)
+  pub came : (id : FileId) → is_in asked id ≡ true → (is_in before id ≡ true) ⊎ ((name : List ℕ) × (lists names name ≡ true) × (settled name ≡ false) × (asked_by inputs libs name ≡ Some id))
+  pub asks : (name : List ℕ) (id : FileId) → lists names name ≡ true → settled name ≡ false → asked_by inputs libs name ≡ Some id → is_in asked id ≡ true
 
 -- names that needn't ask: those that have a candidate, and others that ask for nothing that is left; of those that ask for
--- nothing at all none has to be there
-pub record AreSettled (inputs : List Input) (libs : LibraryGraph) (kept : List LoadedFile) (settled : List (List ℕ)) (left : List FileId) : Type 0 where
-  pub all : (name : List ℕ) (id : FileId) → asked_by inputs libs name ≡ Some id → has_candidate kept name ≡ true → lists settled name ≡ true
-  pub only : (name : List ℕ) (id : FileId) → lists settled name ≡ true → asked_by inputs libs name ≡ Some id → is_in left id ≡ true → has_candidate kept name ≡ true
+-- nothing at all nothing is said
+pub record AreSettled (inputs : List Input) (libs : LibraryGraph) (kept : List LoadedFile) (settled : List ℕ → Bool) (left : List FileId) : Type 0 where
+  pub all : (name : List ℕ) (id : FileId) → asked_by inputs libs name ≡ Some id → has_candidate kept name ≡ true → settled name ≡ true
+  pub only : (name : List ℕ) (id : FileId) → settled name ≡ true → asked_by inputs libs name ≡ Some id → is_in left id ≡ true → has_candidate kept name ≡ true
 
 -- a link before a round: the files so far, the names that needn't ask, the files that are left, those of the round, and no
 -- fault before
-pub record IsBetween (inputs : List Input) (libs : LibraryGraph) (wanted : List (List ℕ)) (k : ℕ) (kept : List LoadedFile) (settled : List (List ℕ)) (left new : List FileId) : Type 0 where
+pub record IsBetween (inputs : List Input) (libs : LibraryGraph) (wanted : List (List ℕ)) (k : ℕ) (kept : List LoadedFile) (settled : List ℕ → Bool) (left new : List FileId) : Type 0 where
   pub files : AreKept inputs (before inputs libs wanted k) kept
   pub settled_are : AreSettled inputs libs kept settled left
   pub left_are : (id : FileId) → is_in left id ≡ (is_in (all_ids inputs) id && not (is_in (round inputs libs wanted k) id))

@@ -12,5 +12,5 @@ returns-in_err-read-clause-fault g c = let p = err_from_is_err_and c.from_residu
     link_read_fails c.args.rules.now.offers c.args.rules.now.libs.now c.args.rules.now.wanted.now c.args.link c.in_err-read.field-0.0 c.requires.link (omega (arith, c.requires.first)) (ap (read_each c.args.rules.now.offers) (sym c.as_slice-ids.ensures.value) ∙ (rw c.sources-sources.ensures at c.in_err-read.ensures.exact real))
 
 pub join_round-requires-clause-read : goal.join_round-requires-clause-read
-join_round-requires-clause-read g c =
+join_round-requires-clause-read g c κs within =
     read_at c.args.rules.now.offers c.args.rules.now.libs.now c.args.rules.now.wanted.now c.args.link c.in_ok-read.read c.args.rules.now.order c.requires.link (omega (arith, c.requires.first)) (ap (read_each c.args.rules.now.offers) (sym c.as_slice-ids.ensures.value) ∙ (rw c.sources-sources.ensures at c.in_ok-read.ensures.exact)) c.in_ok-read.ensures.whole
