@@ -1,0 +1,12 @@
+pub mod Counting
+pub mod Standing
+pub mod Planned
+pub mod Walks
+pub mod Keyed
+pub mod Once
+pub mod Pieces
+pub mod Ways
+pub mod Layouts
+pub mod Stood
+pub mod Turns
+pub mod Whole

@@ -1,0 +1,5 @@
+pub mod Text
+pub mod Targets
+pub mod Rows
+pub mod Plan
+pub mod inner
