@@ -10,3 +10,4 @@ pub mod Layouts
 pub mod Stood
 pub mod Turns
 pub mod Whole
+pub mod Single

@@ -11,7 +11,7 @@ use Rattle.std.proofs.lemmas.Bool.{cases_eq, cases_lt, false≢true}
 use Rattle.std.proofs.lemmas.Cmp.{tied_itself}
 use Rattle.std.proofs.lemmas.List.{get_or_default, map-append}
 use Rattle.std.proofs.lemmas.List.Sorted.{Contains-permutation, IsPermutation-sym}
-use Rattle.list_lemmas.proofs.Members.{In, Contains_from_in, all_from_in, all_in, all_map, any_from_in, any_true, find_some, from_filter, from_flat, from_map, in_either, in_filter, in_flat, in_from_Contains, in_left, in_map}
+use Rattle.list_lemmas.proofs.Members.{In, Contains_from_in, all_from_in, all_in, all_map, any_from_in, any_true, find_none, find_some, from_filter, from_flat, from_map, in_either, in_filter, in_flat, in_from_Contains, in_left, in_map}
 use Rattle.list_lemmas.proofs.Rising.{rising_at}
 use Rattle.mo_types.proofs.KeyOrder.{compare_keys_total}
 use Rattle.mo_types.specs.Keys.{compare_keys}
@@ -36,7 +36,7 @@ use Rattle.sect_place.specs.declared.part.Group.{Group}
 use Rattle.sect_place.specs.declared.part.Part.{Part}
 use Rattle.sect_place.proofs.Meaning.{image_apart, image_same}
 use Rattle.sect_place.proofs.Positions as positions
-use Rattle.sect_place.proofs.Positions.{atoms_join, finds, found_atom, image_keys, kept_keys, kept_listed, kept_there, keys_listed}
+use Rattle.sect_place.proofs.Positions.{atoms_join, finds, found_atom, image_keys, kept_keys, kept_listed, kept_there, keys_listed, placed_there, still_listed}
 use Rattle.sect_place.proofs.Sound.{groups_split, later_groups}
 use Rattle.sect_place.proofs.Spread.{parts_after}
 use Rattle.islands.specs.Plan.{IsWithoutIslands}
@@ -289,9 +289,28 @@ module _ (kept : List Atom) (layout : Layout) (is : IsWithoutIslands kept layout
         room = let size : seat.0.0.size ≡ own.0.size + bytes_behind [] (area_unit is.sections) own.0.key = ap (λ (a : Atom). a.size) seat.2 in omega (arith, size);
       }
 
+  code_of : (k : AtomKey) → In k (code_keys is.sections) → In k (keys_of (filter is_code is.sections))
+  unfolding code_keys
+  code_of k h = h
+
+  has_address : (k : AtomKey) (address : ℕ) → Contains layout.placed (record { atom = k; address = address }) → is_some (address_in layout.placed k) ≡ true
+  unfolding address_in
+  has_address k address h = by (find (λ (p : Placed). is_eq (compare_keys p.atom k)) layout.placed) refl
+    where
+      by : (found : Option Placed) → find (λ (p : Placed). is_eq (compare_keys p.atom k)) layout.placed ≡ found → is_some (option_map (λ (p : Placed). p.address) (find (λ (p : Placed). is_eq (compare_keys p.atom k)) layout.placed)) ≡ true
+      by None e = absurd (false≢true (sym (find_none (λ (p : Placed). is_eq (compare_keys p.atom k)) layout.placed (record { atom = k; address = address }) e (in_from_Contains layout.placed (record { atom = k; address = address }) h)) ∙ ap is_eq (tied_itself compare_keys_total k)))
+      by (Some p) e = ap (λ (o : Option Placed). is_some (option_map (λ (q : Placed). q.address) o)) e
+
   code_back : (k : AtomKey) → In k (code_keys is.sections) → In k (keys_of (filter is_code (sections_in layout.sections)))
   unfolding code_keys
   code_back k h = subst (λ (keys : List AtomKey). In k keys) (sym (code_same kept layout is)) h
+
+  -- the layout has each kept atom of `__text`
+  pub code_placed : (x : Atom) → In x (atoms_of kept (code_keys is.sections)) → in_code layout x.key ≡ true
+  code_placed x h =
+      let key : In x.key (code_keys is.sections) = keys_listed kept (code_keys is.sections) x h in
+      let there = placed_there kept is.sections is.slots no_islands is.sizes is.command x (Contains_from_in kept x (atoms_kept kept (code_keys is.sections) x h)) (Contains_from_in (keys_of is.sections) x.key (still_listed is_code is.sections x.key (code_of x.key key))) in
+      stands_from is_code layout x.key (listed_any is_code x.key (code_back x.key key)) (has_address x.key there.0 (Contains-permutation all_places layout.placed (record { atom = x.key; address = there.0 }) is.placed.places there.1))
 
   -- any other atom of the layout stands behind those
   pub other_place : (key : AtomKey) → is_some (address_in layout.placed key) ≡ true → in_code layout key ≡ false → code_end ≤ place_in layout key

@@ -15,6 +15,7 @@
 
 mod area;
 mod branch;
+mod laws;
 mod planning;
 mod row;
 mod spot;
@@ -22,5 +23,6 @@ mod target;
 mod text;
 
 pub use branch::{Branch, BranchList};
+pub use laws::{a_plan_is_one, no_island_can_be_left_out, no_islands_where_branches_reach};
 pub use planning::{hop, plan};
 pub use spot::Spot;
