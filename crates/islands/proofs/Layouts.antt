@@ -59,6 +59,14 @@ stands_parts t layout key e = both_true (list_any (λ (p : PlacedSection). t p.s
 pub stands_from : (t : OutSection → Bool) (layout : Layout) (key : AtomKey) → list_any (λ (p : PlacedSection). t p.section && has_key p.section.atoms key) layout.sections ≡ true → is_some (address_in layout.placed key) ≡ true → stands_in t layout key ≡ true
 stands_from t layout key e f = both_are (list_any (λ (p : PlacedSection). t p.section && has_key p.section.atoms key) layout.sections) (is_some (address_in layout.placed key)) e f
 
+-- places in the order of their atoms have no atom twice
+pub once_of : (placed : List Placed) → IsStrictlySortedBy (on (λ (p : Placed). p.atom) compare_keys) placed → AreOnce placed
+once_of placed rising i j d low high same =
+    let less : compare_keys (get_or placed i d).atom (get_or placed j d).atom ≡ Less = rising_at (on (λ (p : Placed). p.atom) compare_keys) placed i j d rising low high in
+    let tie = tied_itself compare_keys_total (get_or placed i d).atom in
+    let clash : compare_keys (get_or placed i d).atom (get_or placed i d).atom ≡ Less = subst (λ (k : AtomKey). compare_keys (get_or placed i d).atom k ≡ Less) (sym same) less in
+    cc
+
 module _ (kept : List Atom) (layout : Layout) (is : IsWithoutIslands kept layout) where
   abbrev unit : ℕ
   unit = area_unit is.sections
@@ -72,14 +80,9 @@ module _ (kept : List Atom) (layout : Layout) (is : IsWithoutIslands kept layout
   -- ---- no atom twice, and sections in order
 
   once : AreOnce layout.placed
-  once i j d low high same =
-      let less : compare_keys (get_or layout.placed i d).atom (get_or layout.placed j d).atom ≡ Less =
-      rising_at (on (λ (p : Placed). p.atom) compare_keys) layout.placed i j d (layout_rises kept is.sections is.slots no_islands is.sizes is.command layout is.in_order.once is.placed) low high in
-      let tie = tied_itself compare_keys_total (get_or layout.placed i d).atom in
-      let clash : compare_keys (get_or layout.placed i d).atom (get_or layout.placed i d).atom ≡ Less = subst (λ (k : AtomKey). compare_keys (get_or layout.placed i d).atom k ≡ Less) (sym same) less in
-      cc
+  once = once_of layout.placed (layout_rises kept is.sections is.slots no_islands is.sizes is.command layout is.in_order.once is.placed)
 
-  are : AreThose is.sections (sections_in layout.sections)
+  pub are : AreThose is.sections (sections_in layout.sections)
   unfolding image_sections plan_of
   are =
       subst (λ (placed : List PlacedSection). AreThose is.sections (sections_in placed)) (sym is.placed.sections)

@@ -11,3 +11,6 @@ pub mod Stood
 pub mod Turns
 pub mod Whole
 pub mod Single
+pub mod Bytes
+pub mod Moved
+pub mod Reached

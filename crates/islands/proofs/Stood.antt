@@ -212,10 +212,10 @@ module _ (kept : List Atom) (layout : Layout) (is : IsWithoutIslands kept layout
 
   -- ---- where the layout has an atom
 
-  abbrev all_places : List Placed
+  abbrev pub all_places : List Placed
   all_places = image_places (plan_of kept is.sections is.slots no_islands is.sizes is.command)
 
-  entry : (key : AtomKey) → is_some (address_in layout.placed key) ≡ true → In (record { atom = key; address = place_in layout key }) all_places
+  pub entry : (key : AtomKey) → is_some (address_in layout.placed key) ≡ true → In (record { atom = key; address = place_in layout key }) all_places
   unfolding address_in
   entry key some = by (find (λ (p : Placed). is_eq (compare_keys p.atom key)) layout.placed) refl
     where
@@ -228,7 +228,7 @@ module _ (kept : List Atom) (layout : Layout) (is : IsWithoutIslands kept layout
           let same : p ≡ record { atom = key; address = place_in layout key } = ap₂ (λ (k : AtomKey) (n : ℕ). let q : Placed = record { atom = k; address = n } in q) named (sym place) in
           subst (λ (q : Placed). In q all_places) same (in_from_Contains all_places p (Contains-permutation layout.placed all_places p (IsPermutation-sym all_places layout.placed is.placed.places) (Contains_from_in layout.placed p found.0)))
 
-  one_place : (key : AtomKey) (a b : ℕ) → In (record { atom = key; address = a }) all_places → In (record { atom = key; address = b }) all_places → a ≡ b
+  pub one_place : (key : AtomKey) (a b : ℕ) → In (record { atom = key; address = a }) all_places → In (record { atom = key; address = b }) all_places → a ≡ b
   one_place key a b p q =
       let same : (let x : Placed = record { atom = key; address = a } in x) ≡ record { atom = key; address = b } = one_by_map (λ (x : Placed). x.atom) all_places (positions.image_apart kept is.sections is.slots no_islands is.sizes is.command is.in_order.once) (record { atom = key; address = a }) (record { atom = key; address = b }) p q refl in
       ap (λ (x : Placed). x.address) same
@@ -261,7 +261,7 @@ module _ (kept : List Atom) (layout : Layout) (is : IsWithoutIslands kept layout
       any_from_in (λ (p : PlacedSection). t p.section && has_key p.section.atoms key) layout.sections placed.0 placed.1
       (subst (λ (s : OutSection). (t s && has_key s.atoms key) ≡ true) (sym placed.2) (both_are (t found.0) (has_key found.0.atoms key) passed.1 (key_found found.0.atoms key found.2)))
 
-  code_listed : (key : AtomKey) → in_code layout key ≡ true → In key (code_keys is.sections)
+  pub code_listed : (key : AtomKey) → in_code layout key ≡ true → In key (code_keys is.sections)
   unfolding code_keys
   code_listed key e = subst (λ (keys : List AtomKey). In key keys) (code_same kept layout is) (listed is_code key (stands_parts is_code layout key e).0)
 
@@ -304,6 +304,9 @@ module _ (kept : List Atom) (layout : Layout) (is : IsWithoutIslands kept layout
   code_back : (k : AtomKey) → In k (code_keys is.sections) → In k (keys_of (filter is_code (sections_in layout.sections)))
   unfolding code_keys
   code_back k h = subst (λ (keys : List AtomKey). In k keys) (sym (code_same kept layout is)) h
+
+  pub code_from : (key : AtomKey) → In key (code_keys is.sections) → is_some (address_in layout.placed key) ≡ true → in_code layout key ≡ true
+  code_from key h some = stands_from is_code layout key (listed_any is_code key (code_back key h)) some
 
   -- the layout has each kept atom of `__text`
   pub code_placed : (x : Atom) → In x (atoms_of kept (code_keys is.sections)) → in_code layout x.key ≡ true

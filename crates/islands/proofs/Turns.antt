@@ -59,7 +59,7 @@ no_addend (negsuc n) e = cc
 
 -- ---- sections behind `__text`
 
-first_code : (atoms : List AtomKey → List Atom) (start file at : ℕ) (parts : List Part) (q : PlacedSection) → ((part : Part) → In part parts → is_code part.section ≡ true) → In q (parts_sections atoms start file at parts) → is_code q.section ≡ true
+pub first_code : (atoms : List AtomKey → List Atom) (start file at : ℕ) (parts : List Part) (q : PlacedSection) → ((part : Part) → In part parts → is_code part.section ≡ true) → In q (parts_sections atoms start file at parts) → is_code q.section ≡ true
 unfolding parts_sections placed_section
 first_code atoms start file at [] q all h = absurd h
 first_code atoms start file at (part ∷ parts) q all (inl e) = subst (λ (s : PlacedSection). is_code s.section ≡ true) e (all part (inl refl))
@@ -71,7 +71,7 @@ stubs_kind a b kind n e = eqb-true kind S_SYMBOL_STUBS (both_true (a && b) (kind
 code_kind : (a b : Bool) (kind : ℕ) → ((a && b) && (kind == S_REGULAR)) ≡ true → kind ≡ S_REGULAR
 code_kind a b kind e = eqb-true kind S_REGULAR (both_true (a && b) (kind == S_REGULAR) e).1
 
-not_code : (section : OutSection) → is_stubs section ≡ true → is_code section ≡ false
+pub not_code : (section : OutSection) → is_stubs section ≡ true → is_code section ≡ false
 not_code section e = elim (cases_Bool (is_code section)) [
   | inl code ↦ absurd (clash section.kind (stubs_kind (is_in (codes "__TEXT") section) (bytes_eq section.name (codes "__stubs")) section.kind (length section.atoms) e) (code_kind (is_in (codes "__TEXT") section) (bytes_eq section.name (codes "__text")) section.kind code))
   | inr away ↦ away
@@ -80,7 +80,7 @@ not_code section e = elim (cases_Bool (is_code section)) [
     clash : (kind : ℕ) → kind ≡ S_SYMBOL_STUBS → kind ≡ S_REGULAR → ⊥
     clash kind e f = absurd (omega (arith, e, f))
 
-header_from : (command : Command) (s : Segment) (rest : List Segment) → bytes_eq s.name (codes "__TEXT") ≡ true → header_in (first_segments command ++ s ∷ rest) ≡ s.address
+pub header_from : (command : Command) (s : Segment) (rest : List Segment) → bytes_eq s.name (codes "__TEXT") ≡ true → header_in (first_segments command ++ s ∷ rest) ≡ s.address
 header_from command s rest named = elim (cases_Bool command.dylib) [ inl e ↦ rw (e, named) refl | inr e ↦ rw (e, named) refl ]
 
 module _ (kept : List Atom) (layout : Layout) (is : IsWithoutIslands kept layout) where

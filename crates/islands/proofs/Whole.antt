@@ -120,14 +120,19 @@ needs_grouped scale set row e = by row.case refl
 pairs_set : (pairs : List Pair) → IsStrictlySortedBy compare_pairs pairs → IsSet pairs
 pairs_set pairs rising i j d low high = rising_apart compare_pairs_total pairs i j d rising low high
 
+pub pairs_closed : (scale : Scale) (rows : List Row) (pairs : List Pair) → ArePairs rows pairs → IsClosed scale rows pairs
+pairs_closed scale rows pairs are =
+    All-from_recursion (λ (row : Row). needs scale pairs row ≡ true → has pairs row.pair ≡ true) rows
+    (all_from_in (λ (row : Row). needs scale pairs row ≡ true → has pairs row.pair ≡ true) rows (λ row there e.
+    are.same row.pair ∙ has_from_in (map (λ (r : Row). r.pair) (filter (λ (r : Row). is_grouped r.case) rows)) row.pair (in_map (λ (r : Row). r.pair) (filter (λ (r : Row). is_grouped r.case) rows) row (in_filter (λ (r : Row). is_grouped r.case) rows row there (needs_grouped scale pairs row e)))))
+
+pub far_in : (scale : Scale) (rows : List Row) (pairs far : List Pair) → ArePairs rows pairs → IsFar scale rows far → All (λ (pair : Pair). has pairs pair ≡ true) far
+far_in scale rows pairs far are is = is.least pairs (pairs_set pairs are.rises) (pairs_closed scale rows pairs are)
+
 -- each of them is that of a branch
 pub far_among : (scale : Scale) (rows : List Row) (pairs far : List Pair) → ArePairs rows pairs → IsFar scale rows far → (pair : Pair) → In pair far → (row : Row) × In row rows × (row.pair ≡ pair)
 far_among scale rows pairs far are is pair h =
-    let closed : IsClosed scale rows pairs =
-    All-from_recursion (λ (row : Row). needs scale pairs row ≡ true → has pairs row.pair ≡ true) rows
-    (all_from_in (λ (row : Row). needs scale pairs row ≡ true → has pairs row.pair ≡ true) rows (λ row there e.
-    are.same row.pair ∙ has_from_in (map (λ (r : Row). r.pair) (filter (λ (r : Row). is_grouped r.case) rows)) row.pair (in_map (λ (r : Row). r.pair) (filter (λ (r : Row). is_grouped r.case) rows) row (in_filter (λ (r : Row). is_grouped r.case) rows row there (needs_grouped scale pairs row e))))) in
-    let all = is.least pairs (pairs_set pairs are.rises) closed in
+    let all = far_in scale rows pairs far are is in
     let one : has pairs pair ≡ true = all_in (λ (p : Pair). has pairs p ≡ true) far pair (recursion_from_All (λ (p : Pair). has pairs p ≡ true) far all) h in
     let found : (row : Row) × In row (filter (λ (r : Row). is_grouped r.case) rows) × (row.pair ≡ pair) =
     from_map (λ (r : Row). r.pair) (filter (λ (r : Row). is_grouped r.case) rows) pair (in_from_has (map (λ (r : Row). r.pair) (filter (λ (r : Row). is_grouped r.case) rows)) pair (sym (are.same pair) ∙ one)) in

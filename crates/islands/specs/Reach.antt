@@ -1,5 +1,5 @@
--- Branches that reach without islands.
-use Rattle.std.specs.Prelude.{ℕ, pos, ◌≡◌, ◌+◌, Bool, true, false, [], List}
+-- Branches that reach, in an image without islands or with some.
+use Rattle.std.specs.Prelude.{ℕ, ℤ, pos, negsuc, ◌≡◌, ◌+◌, ◌<◌, ◌^◌, Bool, true, false, [], List}
 use Rattle.mo_types.specs.declared.key.AtomKey.{AtomKey}
 use Rattle.sect_place.specs.declared.layout.Layout.{Layout}
 use Rattle.island_core.specs.Far.{in_reach, in_reach_by}
@@ -21,3 +21,13 @@ pub record NeedsNone (layout : Layout) (scale : Scale) (branch : Branch) : Type 
   pub inside : in_code layout branch.atom ≡ true → (spot_of layout [] branch.target).inside ≡ true
   pub plain : in_code layout branch.atom ≡ true → is_plain branch.target.addend ≡ true → in_reach scale.reach (from_of layout branch) (to_of layout branch) ≡ true
   pub added : in_code layout branch.atom ≡ true → is_plain branch.target.addend ≡ false → in_reach_by scale.reach scale.slack (from_of layout branch) (to_of layout branch) ≡ true
+
+-- a number of 64 bits with a sign
+abbrev pub IsWord : ℤ → Type 0
+IsWord (pos n) = n < 2 ^ 63
+IsWord (negsuc n) = n < 2 ^ 63
+
+-- A branch goes into `__TEXT`, from a distance of at most the reach, less a word forward, and in whole words.
+pub record Reaches (layout : Layout) (reach : ℕ) (branch : Branch) : Type 0 where
+  pub inside : (spot_of layout [] branch.target).inside ≡ true
+  pub near : in_reach reach (from_of layout branch) (to_of layout branch) ≡ true

@@ -1,15 +1,16 @@
 //! What a plan of islands is, each on a call that does nothing.
-ghost use Rattle.std.specs.Prelude.{◌≡◌, ℕ, ◌<◌, [], None, not, true, List, All, length, slice_index_or};
+ghost use Rattle.std.specs.Prelude.{◌≡◌, ℕ, ◌<◌, [], None, Some, not, true, List, All, length, slice_get, slice_index_or};
 ghost use Rattle.std.specs.List.{filter};
 ghost use Rattle.mo_types.specs.declared.atom.Atom.{Atom};
+ghost use Rattle.sect_place.specs.Layout.{IsLayoutOf, plan_of};
 ghost use Rattle.sect_place.specs.declared.island.IslandPlan.{IslandPlan};
 ghost use Rattle.sect_place.specs.declared.layout.Layout.{Layout};
 ghost use Rattle.island_core.specs.Far.{IsClosed, has, same_pair};
 ghost use Rattle.island_core.specs.declared.row.Pair.{Pair};
 ghost use Rattle.islands.specs.Plan.{IsPlan, IsWithoutIslands, scale_of};
-ghost use Rattle.islands.specs.Reach.{NeedsNone};
+ghost use Rattle.islands.specs.Reach.{IsWord, NeedsNone, Reaches};
 ghost use Rattle.islands.specs.Rows.{rows_of};
-ghost use Rattle.islands.specs.Text.{lasts_of, text_atoms};
+ghost use Rattle.islands.specs.Text.{in_code, lasts_of, text_atoms};
 ghost use Rattle.islands.specs.declared.branch.Branch.{Branch};
 
 /// An image with some branches has one plan.
@@ -34,4 +35,13 @@ pub fn no_islands_where_branches_reach()
         → (is : IsPlan kept layout branches reach plan)
         → All (NeedsNone layout (scale_of layout reach (length is.ends) is.pairs)) branches
         → (plan.areas ≡ []) × ((k : ℕ) → k < length branches → slice_index_or plan.ways k None ≡ None) }
+{}
+
+/// In the image with its islands each branch of `__text` that goes by none goes into `__TEXT`, and is in reach there.
+pub fn other_branches_reach()
+    ensures { (kept : List Atom) (before after : Layout) (branches : List Branch) (reach : ℕ) (plan : IslandPlan) (k : ℕ) (branch : Branch)
+        → (is : IsWithoutIslands kept before) → IsPlan kept before branches reach plan
+        → IsLayoutOf is.command (plan_of kept is.sections is.slots plan is.sizes is.command) after
+        → slice_get branches k ≡ Some branch → in_code before branch.atom ≡ true → IsWord branch.target.addend
+        → slice_index_or plan.ways k None ≡ None → Reaches after reach branch }
 {}
