@@ -14,3 +14,4 @@ pub mod Single
 pub mod Bytes
 pub mod Moved
 pub mod Reached
+pub mod Told

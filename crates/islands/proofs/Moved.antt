@@ -1,15 +1,14 @@
 -- An image with islands: how far its islands move what its layout without them has.
-use Rattle.std.proofs.Common.{◌≡◌, ℕ, zero, suc, ◌+◌, ◌*◌, ◌<◌, ◌≤◌, ◌⊎◌, ◌==◌, ◌++◌, ◌&&◌, if◌then◌else◌, Bool, true, false, List, [], ◌∷◌, length, map, All, Contains, Option, Some, None, codes, refl, sym, ap, ap₂, subst, ◌∙◌, inl, inr, arith, append_assoc, append-nil}
-use Rattle.std.specs.List.{AllByRecursion, filter, find, flat_map, list_any}
+use Rattle.std.proofs.Common.{◌≡◌, ℕ, ◌+◌, ◌⊎◌, ◌==◌, ◌++◌, ◌&&◌, if◌then◌else◌, Bool, true, false, List, [], ◌∷◌, map, Contains, Option, Some, None, codes, refl, sym, ap, ap₂, subst, ◌∙◌, inl, inr, arith, append_assoc}
+use Rattle.std.specs.List.{AllByRecursion, filter, find, list_any}
 use Rattle.std.specs.List.Sorted.{IsStrictlySortedBy}
 use Rattle.std.specs.Option.{is_some, option_map, option_or, unwrap_or}
 use Rattle.std.specs.Ordering.{on}
-use Rattle.std.specs.Str.{bytes_eq}
 use Rattle.std.proofs.lemmas.Bool.{cases_Bool, false≢true}
 use Rattle.std.proofs.lemmas.List.Elements.{recursion_from_All}
 use Rattle.std.proofs.lemmas.List.Folds.{find-append}
 use Rattle.std.proofs.lemmas.List.Sorted.{Contains-permutation}
-use Rattle.list_lemmas.proofs.Members.{In, Contains_from_in, all_from_in, all_in, all_weaker, from_filter, from_flat, from_map, in_from_Contains, in_map}
+use Rattle.list_lemmas.proofs.Members.{In, Contains_from_in, all_from_in, all_in, from_filter, from_flat, from_map, in_from_Contains, in_map}
 use Rattle.list_lemmas.proofs.Rising.{rising_map}
 use Rattle.command_line.specs.declared.command.Command.{Command}
 use Rattle.mo_types.specs.Keys.{compare_keys}
@@ -19,19 +18,18 @@ use Rattle.mo_types.specs.declared.out_section.OutSection.{OutSection}
 use Rattle.slot_plan.specs.declared.list.Slots.{Slots}
 use Rattle.tlv_plan.specs.Template.{atoms_of, keys_of}
 use Rattle.sect_list.specs.OutSections.{is_in}
-use Rattle.sect_list.proofs.Once.{keys_apart, one_by_map}
+use Rattle.sect_list.proofs.Once.{keys_apart}
 use Rattle.sect_place.specs.Addresses.{AreOnce, address_in}
 use Rattle.sect_place.specs.Arrangement.{MadeBytes, chosen, groups_of, is_chosen, is_code, own, section_of, text_parts, with_atoms}
 use Rattle.sect_place.specs.Layout.{IsLayoutOf, base_of, end_of_image, first_segments, image_places, image_sections, image_segments, lead_of, linkedit, made_bytes, plan_of}
-use Rattle.sect_place.specs.Moved.{AreBehindCode, AreInOrder, IsMoved, areas_bytes, code_keys, no_islands, text_end}
-use Rattle.sect_place.specs.Places.{area_unit, file_bytes, group_end, groups_file, groups_sections, groups_segments, page_up, part_end, part_from, parts_end, parts_sections, placed_section, segment_of, spaced}
+use Rattle.sect_place.specs.Moved.{AreBehindCode, IsMoved, areas_bytes, code_keys, no_islands, text_end}
+use Rattle.sect_place.specs.Places.{area_unit, file_bytes, group_end, groups_file, groups_sections, groups_segments, page_up, part_end, parts_end, parts_sections, placed_section, segment_of, spaced}
 use Rattle.sect_place.specs.Shifts.{sections_in, unit_in}
 use Rattle.sect_place.specs.declared.island.IslandArea.{IslandArea}
 use Rattle.sect_place.specs.declared.island.IslandPlan.{IslandPlan}
 use Rattle.sect_place.specs.declared.layout.Layout.{Layout}
 use Rattle.sect_place.specs.declared.layout.Placed.{Placed}
 use Rattle.sect_place.specs.declared.layout.PlacedSection.{PlacedSection}
-use Rattle.sect_place.specs.declared.layout.Segment.{Segment}
 use Rattle.sect_place.specs.declared.part.Choice.{Choice}
 use Rattle.sect_place.specs.declared.part.Choice.TheVariants.{Code, BesideCode}
 use Rattle.sect_place.specs.declared.part.Group.{Group}
@@ -43,15 +41,15 @@ use Rattle.sect_place.proofs.AddressLemmas.{address_is}
 use Rattle.sect_place.proofs.Areas.{CountsIn, areas_sum}
 use Rattle.sect_place.proofs.Fitting.{later_all, low_section, no_area, text_fits, unit_below}
 use Rattle.sect_place.proofs.Moving.{areas_whole, moved_law, text_choice}
-use Rattle.sect_place.proofs.Planned.{AreThose, listed_back, same_unit}
+use Rattle.sect_place.proofs.Planned.{listed_back, same_unit}
 use Rattle.sect_place.proofs.Positions.{agree, atoms_join, chosen_is, chosen_keys, chosen_there, image_keys, keys_listed, part_keys}
-use Rattle.sect_place.proofs.Pushed.{FitsPart, IsWhole, PartsFit, aligned_moved, extra, part_atoms, parts_end_moved, total, total_join, whole_sum}
+use Rattle.sect_place.proofs.Pushed.{FitsPart, IsWhole, PartsFit, aligned_moved, extra, part_atoms, parts_end_moved, total, total_join}
 use Rattle.sect_place.proofs.Single.{layout_rises}
 use Rattle.sect_place.proofs.Sound.{groups_split, later_groups}
 use Rattle.islands.specs.Plan.{IsWithoutIslands}
 use Rattle.islands.specs.Rows.{header_in, is_stubs, stub_spot, stubs_in}
 use Rattle.islands.specs.Text.{has_key, in_code, in_text, is_text, place_in, stands_in}
-use Rattle.islands.proofs.Layouts.{are, both_true, once_of, stands_from, stands_parts}
+use Rattle.islands.proofs.Layouts.{are, once_of, stands_parts}
 use Rattle.islands.proofs.Planned.{beside_parts, code_sections, groups_planned, parts_in, text_split}
 use Rattle.islands.proofs.Standing.{sections_join}
 use Rattle.islands.proofs.Stood.{all_places, atoms_rise, code_from, code_listed, entry, listed, one_place}

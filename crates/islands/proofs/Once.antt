@@ -20,7 +20,7 @@ use Rattle.mo_types.proofs.Goals.{same_goal}
 use Rattle.sect_place.specs.declared.island.BranchTarget.{BranchTarget}
 use Rattle.islands.specs.Targets.{AreTargets, compare_targets}
 use Rattle.islands.specs.declared.target.Aim.{Aim}
-use Rattle.islands.specs.inner.Held.{target_of}
+use Rattle.islands.specs.inner.Held.{aim_of, target_of}
 use Rattle.islands.proofs.Keyed.{compare_targets_total}
 
 same_option : (a b : Option ℕ) → option_cmp nat_cmp a b ≡ Equal → a ≡ b
@@ -45,6 +45,10 @@ same_aim a b e =
     (same_goal a.goal b.goal (tied_first (compare_goals a.goal b.goal) (ordering_then (int_cmp a.addend b.addend) (option_cmp nat_cmp a.stub b.stub)) e))
     (int_ranked a.addend b.addend Equal (sym (tied_first (int_cmp a.addend b.addend) (option_cmp nat_cmp a.stub b.stub) rest)))
     (same_option a.stub b.stub (tied_second (int_cmp a.addend b.addend) (option_cmp nat_cmp a.stub b.stub) rest))
+
+-- what ties is the same
+pub same_target : (a b : BranchTarget) → compare_targets a b ≡ Equal → a ≡ b
+same_target a b e = ap target_of (same_aim (aim_of a) (aim_of b) e)
 
 -- a test that is that of the order
 equivalence : (E : Aim → Aim → Bool) → ((a b : Aim) → E a b ≡ eq_by_cmp compare_aims a b) → IsEquivalence E

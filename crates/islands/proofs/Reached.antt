@@ -1,11 +1,10 @@
 -- Branches without islands reach in the image with the islands.
-use Rattle.std.proofs.Common.{◌≡◌, ℕ, ℤ, pos, negsuc, zero, suc, ◌+◌, ◌-◌, ◌*◌, ◌%◌, ◌^◌, ◌<◌, ◌≤◌, ◌⊎◌, ◌==◌, ◌&&◌, ◌++◌, if◌then◌else◌, Bool, true, false, not, nat_le, List, [], ◌∷◌, length, get_or, map, All, Contains, Option, Some, None, slice_get, refl, sym, ap, ap₂, subst, ◌∙◌, inl, inr, arith}
-use Rattle.std.specs.List.{AllByRecursion, filter}
+use Rattle.std.proofs.Common.{◌≡◌, ℕ, ℤ, pos, negsuc, ◌+◌, ◌-◌, ◌%◌, ◌<◌, ◌≤◌, ◌⊎◌, ◌==◌, ◌&&◌, if◌then◌else◌, Bool, true, false, not, nat_le, List, [], length, get_or, map, Contains, Option, Some, None, slice_get, refl, sym, ap, ap₂, subst, ◌∙◌, inl, inr, arith}
 use Rattle.std.specs.List.Sorted.{IsStrictlySortedBy}
 use Rattle.std.specs.Ordering.{is_lt, on}
 use Rattle.std.proofs.lemmas.Bool.{cases_Bool, eq-eqb, eqb-true, false≢true, le-leb, leb-true}
 use Rattle.std.proofs.lemmas.List.{get_or-map, get_or_default, length-map}
-use Rattle.std.proofs.lemmas.List.Elements.{All-from_recursion, recursion_from_All}
+use Rattle.std.proofs.lemmas.List.Elements.{All-from_recursion}
 use Rattle.std.proofs.lemmas.List.Sums.{count_by-le-length}
 use Rattle.std.proofs.lemmas.Option.{get_or_from_slice_get, slice_get_within}
 use Rattle.list_lemmas.proofs.Members.{In, Contains_from_in, all_from_in, from_map, in_from_Contains, in_map}
@@ -15,7 +14,6 @@ use Rattle.mo_types.specs.declared.goal.Goal.{Goal}
 use Rattle.mo_types.specs.declared.goal.Goal.TheVariants.{Def, WeakSelf, Header, Import, Flat, Nobody}
 use Rattle.mo_types.specs.declared.key.AtomKey.{AtomKey}
 use Rattle.tlv_plan.specs.Template.{atoms_of}
-use Rattle.sect_place.specs.Arrangement.{is_code}
 use Rattle.sect_place.specs.Layout.{IsLayoutOf, plan_of}
 use Rattle.sect_place.specs.Moved.{AreBehindCode, areas_bytes, code_keys}
 use Rattle.sect_place.specs.Places.{area_unit}
@@ -26,10 +24,9 @@ use Rattle.sect_place.specs.declared.island.IslandPlan.{IslandPlan}
 use Rattle.sect_place.specs.declared.layout.Layout.{Layout}
 use Rattle.sect_place.specs.declared.layout.PlacedSection.{PlacedSection}
 use Rattle.sect_place.proofs.Fitting.{unit_least}
-use Rattle.island_core.specs.Far.{IsFar, bytes_before, has, in_reach, in_reach_by, is_grouped, needs, takes}
+use Rattle.island_core.specs.Far.{bytes_before, has, in_reach, in_reach_by, is_grouped, needs, takes}
 use Rattle.island_core.specs.Groups.{AreEnds}
 use Rattle.island_core.specs.declared.cut.Extent.{Extent}
-use Rattle.island_core.specs.declared.row.Case.{Case}
 use Rattle.island_core.specs.declared.row.Pair.{Pair}
 use Rattle.island_core.specs.declared.row.Row.{Row}
 use Rattle.island_core.specs.declared.row.Scale.{Scale}

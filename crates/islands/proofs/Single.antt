@@ -1,14 +1,14 @@
 -- An image has one plan, and none of its islands is idle.
-use Rattle.std.proofs.Common.{◌≡◌, ◌≢◌, ℕ, ℤ, zero, suc, pos, ◌+◌, ◌-◌, ◌/◌, ◌<◌, ◌≤◌, ◌⊎◌, ◌==◌, ◌&&◌, ◌++◌, if◌then◌else◌, Bool, true, false, not, List, [], ◌∷◌, length, get_or, map, All, Contains, MatchOption, Option, Some, None, slice_get, refl, sym, ap, ap₂, subst, ◌∙◌, inl, inr, arith}
-use Rattle.std.specs.List.{AllByRecursion, filter}
+use Rattle.std.proofs.Common.{◌≡◌, ℕ, zero, suc, ◌+◌, ◌/◌, ◌<◌, ◌≤◌, Bool, true, false, not, List, [], ◌∷◌, length, get_or, map, All, Contains, Option, Some, None, slice_get, refl, sym, ap, ap₂, subst, ◌∙◌, inl, inr, arith}
+use Rattle.std.specs.List.{filter}
 use Rattle.std.specs.List.Sorted.{IsStrictlySortedBy}
 use Rattle.std.specs.Ordering.{on}
 use Rattle.std.specs.declared.cmp.Ordering.TheVariants.{Less}
-use Rattle.std.proofs.lemmas.Bool.{cases_Bool, cases_eq, cases_lt, false≢true}
+use Rattle.std.proofs.lemmas.Bool.{cases_eq, cases_lt}
 use Rattle.std.proofs.lemmas.List.{get_or-map, get_or_default, length-map, same_lists}
 use Rattle.std.proofs.lemmas.Option.{get_or_from_slice_get, slice_get_within}
 use Rattle.std.proofs.lemmas.List.Elements.{All-from_recursion, recursion_from_All}
-use Rattle.list_lemmas.proofs.Members.{In, Contains_from_in, all_from_in, all_in, all_map, all_weaker, from_map, in_from_Contains, in_map}
+use Rattle.list_lemmas.proofs.Members.{In, Contains_from_in, all_map, all_weaker, in_from_Contains}
 use Rattle.list_lemmas.proofs.Rising.{rising_apart, rising_at, rising_map, rising_same}
 use Rattle.mo_types.specs.Keys.{compare_keys}
 use Rattle.mo_types.specs.declared.atom.Atom.{Atom}
@@ -24,20 +24,18 @@ use Rattle.sect_place.specs.declared.island.IslandPlan.{IslandPlan}
 use Rattle.sect_place.specs.declared.layout.Layout.{Layout}
 use Rattle.sect_place.specs.declared.layout.PlacedSection.{PlacedSection}
 use Rattle.island_core.specs.Far.{ArePairs, IsClosed, IsFar, bytes_before, compare_pairs, has, in_reach, in_reach_by, needs, same_pair, takes}
-use Rattle.island_core.specs.Groups.{AreEnds, EndsRise, extent_at}
+use Rattle.island_core.specs.Groups.{EndsRise, extent_at}
 use Rattle.island_core.specs.declared.cut.Extent.{Extent}
-use Rattle.island_core.specs.declared.row.Case.{Case}
-use Rattle.island_core.specs.declared.row.Case.TheVariants.{Outside, Away, Plain, Added}
 use Rattle.island_core.specs.declared.row.Pair.{Pair}
 use Rattle.island_core.specs.declared.row.Row.{Row}
 use Rattle.island_core.specs.declared.row.Scale.{Scale}
 use Rattle.island_core.proofs.CutLemmas.{one_cutting}
 use Rattle.island_core.proofs.LawLemmas.{needed, no_far, one_set}
-use Rattle.island_core.proofs.PairLemmas.{compare_pairs_total, has_from_in, in_from_has, same_has}
+use Rattle.island_core.proofs.PairLemmas.{compare_pairs_total, has_from_in, in_from_has}
 use Rattle.islands.specs.Plan.{AreWays, IsPlan, IsWay, IsWithoutIslands, areas_from, row_at, scale_of}
 use Rattle.islands.specs.Reach.{NeedsNone, from_of, to_of}
-use Rattle.islands.specs.Rows.{atom_spot, case_of, goal_spot, is_plain, raised, row_of, rows_of, spot_by, spot_of, stub_spot, stubs_in}
-use Rattle.islands.specs.Targets.{AreTargets, compare_targets}
+use Rattle.islands.specs.Rows.{case_of, goal_spot, is_plain, raised, row_of, rows_of, spot_by, spot_of, stub_spot, stubs_in}
+use Rattle.islands.specs.Targets.{AreTargets}
 use Rattle.islands.specs.Text.{extent_of, extents_of, groups_before, in_code, key_at, lasts_of, place_in, text_atoms}
 use Rattle.islands.specs.declared.branch.Branch.{Branch}
 use Rattle.islands.proofs.Keyed.{compare_targets_total}
@@ -186,7 +184,7 @@ taken_none false b c x y f g h = refl
 taken_none true b true x y f g h = rw (f refl, g refl refl) refl
 taken_none true b false x y f g h = rw (f refl, h refl refl) refl
 
-row_needs_none : (layout : Layout) (lasts : List AtomKey) (targets : List BranchTarget) (scale : Scale) (branch : Branch) → NeedsNone layout scale branch → needs scale [] (row_of layout lasts targets branch) ≡ false
+pub row_needs_none : (layout : Layout) (lasts : List AtomKey) (targets : List BranchTarget) (scale : Scale) (branch : Branch) → NeedsNone layout scale branch → needs scale [] (row_of layout lasts targets branch) ≡ false
 unfolding row_of
 row_needs_none layout lasts targets scale branch none =
     let same = same_spot layout lasts [] branch.target in
@@ -199,7 +197,7 @@ row_needs_none layout lasts targets scale branch none =
     (λ code plain. ap₂ (λ (f t : ℕ). in_reach scale.reach f t) from to ∙ none.plain code plain)
     (λ code added. ap (λ (t : ℕ). in_reach_by scale.reach scale.slack (from_of layout branch) t) place ∙ none.added code added)
 
-no_areas : (targets : List BranchTarget) (group : ℕ) (lasts : List AtomKey) → areas_from targets [] group lasts ≡ []
+pub no_areas : (targets : List BranchTarget) (group : ℕ) (lasts : List AtomKey) → areas_from targets [] group lasts ≡ []
 unfolding areas_from
 no_areas targets group [] = refl
 no_areas targets group (last ∷ lasts) = no_areas targets (group + 1) lasts

@@ -34,15 +34,17 @@ use Rattle.sect_place.specs.declared.layout.PlacedSection.{PlacedSection}
 use Rattle.sect_place.specs.declared.part.Choice.TheVariants.{Code}
 use Rattle.sect_place.specs.declared.part.Group.{Group}
 use Rattle.sect_place.specs.declared.part.Part.{Part}
+use Rattle.sect_place.proofs.Fitting.{text_all}
 use Rattle.sect_place.proofs.Meaning.{image_apart, image_same}
+use Rattle.sect_place.proofs.Planned.{listed_there}
 use Rattle.sect_place.proofs.Positions as positions
-use Rattle.sect_place.proofs.Positions.{atoms_join, finds, found_atom, image_keys, kept_keys, kept_listed, kept_there, keys_listed, placed_there, still_listed}
+use Rattle.sect_place.proofs.Positions.{atoms_join, finds, chosen_there, found_atom, image_keys, kept_keys, kept_listed, kept_there, keys_listed, placed_there, still_listed}
 use Rattle.sect_place.proofs.Sound.{groups_split, later_groups}
 use Rattle.sect_place.proofs.Spread.{parts_after}
 use Rattle.islands.specs.Plan.{IsWithoutIslands}
-use Rattle.islands.specs.Text.{has_key, in_code, place_in}
+use Rattle.islands.specs.Text.{has_key, in_code, in_text, is_text, place_in}
 use Rattle.islands.proofs.Keyed.{key_found, key_there}
-use Rattle.islands.proofs.Layouts.{atoms_kept, both_are, both_true, code_same, stand_atoms, stands_from, stands_parts}
+use Rattle.islands.proofs.Layouts.{are, atoms_kept, both_are, both_true, code_same, stand_atoms, stands_from, stands_parts}
 use Rattle.islands.proofs.Planned.{beside_parts, text_split}
 use Rattle.islands.proofs.Standing.{ends_join, groups_low, parts_join, parts_within}
 
@@ -164,7 +166,7 @@ module _ (kept : List Atom) (layout : Layout) (is : IsWithoutIslands kept layout
   abbrev text_group : Group
   text_group = record { name = codes "__TEXT"; parts = text_parts is.sections (made_bytes is.slots is.sizes) }
 
-  abbrev next_page : ℕ
+  abbrev pub next_page : ℕ
   next_page = page_up (parts_end spread first (text_parts is.sections (made_bytes is.slots is.sizes)))
 
   abbrev others : List (Atom × ℕ)
@@ -341,3 +343,42 @@ module _ (kept : List Atom) (layout : Layout) (is : IsWithoutIslands kept layout
   seat_within a pa x =
       let within = parts_within spread first (chosen Code is.sections) x.seat x.there in
       (omega (arith, within.0, x.at), omega (arith, within.1, x.at, x.room))
+
+  -- ---- by addresses
+
+  stood_parts : stood ≡ parts_stand spread first (text_parts is.sections (made_bytes is.slots is.sizes)) ++ groups_stand spread next_page 0 (later_groups is.sections (made_bytes is.slots is.sizes))
+  unfolding image_stand plan_of groups_stand
+  stood_parts = ap (λ (groups : List Group). groups_stand spread (base_of is.command) (lead_of (groups_of is.sections (made_bytes is.slots is.sizes)) is.sizes is.command) groups) (groups_split is.sections (made_bytes is.slots is.sizes))
+
+  part_listed : (at : ℕ) (parts : List Part) (p : Atom × ℕ) → AllByRecursion (λ (part : Part). (k : AtomKey) → In k part.section.atoms → In k (keys_of (filter is_text is.sections))) parts → In p (parts_stand spread at parts) → In p.0.key (keys_of (filter is_text is.sections))
+  unfolding parts_stand
+  part_listed at [] p all h = absurd h
+  part_listed at (part ∷ parts) p all h = by (part_listed (part_end spread at part) parts p all.1) (in_either (stand (part_from at part) (spread part.section.atoms)) (parts_stand spread (part_end spread at part) parts) p h)
+    where
+      by : (In p (parts_stand spread (part_end spread at part) parts) → In p.0.key (keys_of (filter is_text is.sections))) → In p (stand (part_from at part) (spread part.section.atoms)) ⊎ In p (parts_stand spread (part_end spread at part) parts) → In p.0.key (keys_of (filter is_text is.sections))
+      by rest (inr h) = rest h
+      by rest (inl h) =
+          let wide : In p.0 (map (with_area [] (area_unit is.sections)) (atoms_of kept part.section.atoms)) =
+          subst (λ (xs : List Atom). In p.0 xs) (stand_atoms (part_from at part) (spread part.section.atoms) ∙ spaced_is kept (area_unit is.sections) part.section.atoms) (in_map (λ (q : Atom × ℕ). q.0) (stand (part_from at part) (spread part.section.atoms)) p h) in
+          let own : (a : Atom) × In a (atoms_of kept part.section.atoms) × (with_area [] (area_unit is.sections) a ≡ p.0) = from_map (with_area [] (area_unit is.sections)) (atoms_of kept part.section.atoms) p.0 wide in
+          subst (λ (k : AtomKey). In k (keys_of (filter is_text is.sections))) (ap (λ (a : Atom). a.key) own.2) (all.0 own.0.key (keys_listed kept part.section.atoms own.0 own.1))
+
+  text_listed : AllByRecursion (λ (part : Part). (k : AtomKey) → In k part.section.atoms → In k (keys_of (filter is_text is.sections))) (text_parts is.sections (made_bytes is.slots is.sizes))
+  text_listed =
+      text_all (λ (part : Part). (k : AtomKey) → In k part.section.atoms → In k (keys_of (filter is_text is.sections))) is.sections (made_bytes is.slots is.sizes)
+      (λ fixed k h. absurd h) (λ fixed k h. absurd h) (λ section h text k there. chosen_there is_text is.sections section k h text there)
+
+  -- what stands before the first page behind `__TEXT` is in it
+  pub before_page : (key : AtomKey) → is_some (address_in layout.placed key) ≡ true → place_in layout key < next_page → in_text layout key ≡ true
+  before_page key some low =
+      let here = entry key some in
+      let found : (p : Atom × ℕ) × In p stood × ((let q : Placed = record { atom = p.0.key; address = p.1 } in q) ≡ record { atom = key; address = place_in layout key }) = from_map (λ (p : Atom × ℕ). let q : Placed = record { atom = p.0.key; address = p.1 } in q) stood (record { atom = key; address = place_in layout key }) (subst (λ (ps : List Placed). In (record { atom = key; address = place_in layout key }) ps) places_are here) in
+      let named : found.0.0.key ≡ key = ap (λ (q : Placed). q.atom) found.2 in
+      let place : found.0.1 ≡ place_in layout key = ap (λ (q : Placed). q.address) found.2 in
+      by found.0 named place (in_either (parts_stand spread first (text_parts is.sections (made_bytes is.slots is.sizes))) (groups_stand spread next_page 0 (later_groups is.sections (made_bytes is.slots is.sizes))) found.0 (subst (λ (ps : List (Atom × ℕ)). In found.0 ps) stood_parts found.1))
+    where
+      by : (p : Atom × ℕ) → p.0.key ≡ key → p.1 ≡ place_in layout key → In p (parts_stand spread first (text_parts is.sections (made_bytes is.slots is.sizes))) ⊎ In p (groups_stand spread next_page 0 (later_groups is.sections (made_bytes is.slots is.sizes))) → in_text layout key ≡ true
+      by p named place (inr h) = let far = groups_low spread next_page 0 (later_groups is.sections (made_bytes is.slots is.sizes)) p h in absurd (omega (arith, far, place, low))
+      by p named place (inl h) =
+          let there : In key (keys_of (filter is_text is.sections)) = subst (λ (k : AtomKey). In k (keys_of (filter is_text is.sections))) named (part_listed first (text_parts is.sections (made_bytes is.slots is.sizes)) p text_listed h) in
+          stands_from is_text layout key (listed_any is_text key (listed_there is.sections (sections_in layout.sections) is_text key (are kept layout is) (λ section text. text) there)) some

@@ -1,11 +1,9 @@
 -- Branches that reach, in an image without islands or with some.
-use Rattle.std.specs.Prelude.{ℕ, ℤ, pos, negsuc, ◌≡◌, ◌+◌, ◌<◌, ◌^◌, Bool, true, false, [], List}
-use Rattle.mo_types.specs.declared.key.AtomKey.{AtomKey}
+use Rattle.std.specs.Prelude.{ℕ, ℤ, pos, negsuc, ◌≡◌, ◌+◌, ◌<◌, ◌^◌, true, false, []}
 use Rattle.sect_place.specs.declared.layout.Layout.{Layout}
 use Rattle.island_core.specs.Far.{in_reach, in_reach_by}
 use Rattle.island_core.specs.declared.row.Scale.{Scale}
 use Rattle.islands.specs.declared.branch.Branch.{Branch}
-use Rattle.islands.specs.declared.spot.Spot.{Spot}
 use Rattle.islands.specs.Rows.{is_plain, raised, spot_of}
 use Rattle.islands.specs.Text.{in_code, place_in}
 

@@ -1,5 +1,6 @@
 pub mod Bounds
 pub mod Cut
+pub mod Ground
 pub mod Held
 pub mod Ordered
 pub mod Scaled

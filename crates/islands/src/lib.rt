@@ -17,6 +17,7 @@ mod area;
 mod branch;
 mod laws;
 mod planning;
+mod quick;
 mod row;
 mod spot;
 mod target;

@@ -1,6 +1,5 @@
 //! The islands of an image.
-ghost use Rattle.std.specs.Prelude.{◌≡◌, ◌<◌, ◌≤◌, All, IfOk, None, length, map, max, slice_index_or};
-ghost use Rattle.std.specs.List.Sorted.{IsStrictlySortedBy};
+ghost use Rattle.std.specs.Prelude.{◌≡◌, ◌<◌, ◌≤◌, [], All, IfOk, None, length, max, replicate, slice_index_or};
 ghost use Rattle.mo_types.specs.Keys.{compare_keys};
 ghost use Rattle.mo_types.specs.declared.atom.Atom.{Atom};
 ghost use Rattle.sect_place.specs.Shifts as shifts;
@@ -17,17 +16,49 @@ ghost use Rattle.islands.specs.inner.Scaled.{IsScaleOf};
 
 use crate::area::{areas, ways};
 use crate::branch::{Branch, BranchList};
+use crate::quick::all_reach;
 use crate::row::rows;
 use crate::target::{Aim, targets};
 use crate::text::{extents, is_text, lasts, text_atoms};
 use island_core::{Pair, Row, Scale, cut_atoms, far_pairs, moved_by, pairs_of};
 use mo_types::{Atom, AtomKey, AtomList, OutOfMemory};
-use sect_place::{IslandPlan, Layout, PlacedSection};
+use sect_place::{AreaList, IslandPlan, Layout, PlacedSection, WayList};
 use std::alloc::Global;
 
 /// The islands of an image: where branches don't reach, and no more of them than it takes. The layout has the kept atoms
 /// and no islands, and the reach is in bytes.
 pub fn plan(
+    alloc: Global,
+    kept: &AtomList,
+    layout: &Layout,
+    branches: &BranchList,
+    reach: u32,
+) -> Result<IslandPlan, OutOfMemory>
+    requires layout { spec.IsWithoutIslands kept.now layout.now }
+    requires branches { All (spec.IsInAtoms kept.now) branches.now }
+    requires reach { 4 ≤ reach }
+    ensures { IfOk result (spec.IsPlan kept.now layout.now branches.now reach) }
+{
+    let all = branches.as_slice();
+    if all_reach(layout, all, reach) {
+        return no_islands(alloc, all.len());
+    }
+    islands(alloc, kept, layout, branches, reach)
+}
+
+// The plan of an image without islands.
+fn no_islands(alloc: Global, branches: usize) -> Result<IslandPlan, OutOfMemory>
+    ensures areas { IfOk result (λ plan. plan.areas ≡ []) }
+    ensures ways { IfOk result (λ plan. plan.ways ≡ replicate branches None) }
+{
+    Ok(IslandPlan {
+        areas: AreaList::new(alloc),
+        ways: WayList::from_vec(vec![in alloc; None; branches]?),
+    })
+}
+
+// The plan of an image where some branch doesn't reach, or may not.
+fn islands(
     alloc: Global,
     kept: &AtomList,
     layout: &Layout,

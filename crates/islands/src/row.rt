@@ -89,7 +89,7 @@ fn case_of(grouped: bool, inside: bool, plain: bool) -> Case
 }
 
 // A place so many bytes farther, counted from 2^63 bytes below the first address on.
-fn raised(place: u128, addend: i64) -> u128
+pub(crate) fn raised(place: u128, addend: i64) -> u128
     requires { place < 2 ^ 65 }
     ensures exact { result ≡ spec.raised place addend }
     ensures near { result < 2 ^ 66 }

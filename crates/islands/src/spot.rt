@@ -98,7 +98,7 @@ fn zone_of(layout: &Layout, lasts: &[AtomKey], key: &AtomKey) -> usize
 }
 
 // Where the header stands.
-fn header_place(segments: &[Segment]) -> u64
+pub(crate) fn header_place(segments: &[Segment]) -> u64
     ensures { result ≡ spec.header_in segments.now }
 {
     for segment in segments {
@@ -128,7 +128,7 @@ fn stub_spot(sections: &[PlacedSection], groups: usize, number: u32) -> Spot
 }
 
 // Whether a section is that of the stubs.
-fn is_stubs(section: &OutSection) -> bool
+pub(crate) fn is_stubs(section: &OutSection) -> bool
     ensures { result ≡ spec.is_stubs section.now }
 {
     section.segment.as_slice() == b"__TEXT".as_slice()
