@@ -1,16 +1,25 @@
 //! Which islands an image has, and which of its branches goes to which.
 //!
-//! `plan` is asked with the layout of the kept atoms without islands, the branches of the image, each with its place and
+//! `plan` is asked with the kept atoms and their layout without islands, the branches of the image, each with its place and
 //! its target, and how far they reach. What it answers is `IsPlan` (`specs/Plan.antt`): the atoms of `__text` are cut into
 //! groups of at most half the reach; targets stand in the order of goals, then of addends (`specs/Targets.antt`); each
-//! branch comes as numbers (`specs/Rows.antt`, `row_of`: what it is, its group and target, where both stand), and the
+//! branch comes as numbers (`row_of`, in `specs/Rows.antt`: what it is, its group and target, where both stand); and the
 //! pairs of a group and a target that have islands are the least set with which each branch that needs one has one
-//! (`island_core`, `IsFar`). Behind the last atom of each group that has islands is an area with them, in the order of
-//! targets, and a branch goes by the island of its pair. `hop` reads off the number of a branch's island. The one error is
-//! want of memory.
+//! (`IsFar` of `island_core`). Behind the last atom of each group that has islands is an area with them, in the order of
+//! targets, and a branch goes by the island of its pair. `hop` reads off the number of its island. The one error is want
+//! of memory.
 //!
-//! The module `text` lists the atoms of `__text` and tells where atoms stand, `target` puts targets in order, `spot` tells
-//! where a target stands, `row` makes the numbers, and `area` the areas and ways.
+//! The module `quick` looks at addresses alone, and tells at once where no branch needs an island. Else `text` lists the
+//! atoms of `__text`, `target` puts targets in order, `spot` tells where one stands, `row` makes the numbers, and `area` the
+//! areas and ways: n branches to t targets cost O((n + t) log t) beside the rounds of `island_core`.
+//!
+//! The laws say that a plan is one (`a_plan_is_one`), that in the image with its islands all other branches reach
+//! (`other_branches_reach`), that none of its islands can be left out (`no_island_can_be_left_out`), and that there are none
+//! where all branches reach (`no_islands_where_branches_reach`).
+//!
+//! A body that takes a target without its addend isn't proved, nor one that forgets how far islands may move a branch with
+//! an addend, one with islands for all targets, one whose groups are as long as the reach, and one that takes an addend for
+//! none where it looks at addresses alone.
 #![tactic(auto)]
 
 mod area;
@@ -24,6 +33,8 @@ mod target;
 mod text;
 
 pub use branch::{Branch, BranchList};
-pub use laws::{a_plan_is_one, no_island_can_be_left_out, no_islands_where_branches_reach};
+pub use laws::{
+    a_plan_is_one, no_island_can_be_left_out, no_islands_where_branches_reach, other_branches_reach,
+};
 pub use planning::{hop, plan};
 pub use spot::Spot;
