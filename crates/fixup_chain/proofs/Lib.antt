@@ -4,6 +4,7 @@ pub mod EncodeLemmas
 pub mod ImportLemmas
 pub mod NameLemmas
 pub mod NearLemmas
+pub mod OffsetLemmas
 pub mod OneLemmas
 pub mod OpenLemmas
 pub mod OrderLemmas

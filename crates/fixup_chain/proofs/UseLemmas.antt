@@ -1,15 +1,18 @@
 -- What pointers are bound to, each once in the order of the pointers, and the numbers that it has once it is in order.
-use Rattle.std.proofs.Common.{◌≡◌, ℕ, zero, suc, ◌+◌, ◌<◌, ◌≤◌, ◌||◌, ◌⊎◌, if◌then◌else◌, Bool, true, false, List, [], ◌∷◌, ◌++◌, length, get_or, slice_get, nat_lt, map, take, drop, Option, Some, None, refl, sym, ap, subst, ◌∙◌, inl, inr, arith, length-append}
+use Rattle.std.proofs.Common.{◌≡◌, ◌≢◌, ℕ, zero, suc, ◌+◌, ◌<◌, ◌≤◌, ◌||◌, ◌⊎◌, if◌then◌else◌, Bool, true, false, List, [], ◌∷◌, ◌++◌, length, get_or, slice_get, nat_lt, map, take, drop, Option, Some, None, refl, sym, ap, subst, ◌∙◌, inl, inr, arith, length-append}
 use Rattle.std.specs.Prelude.{IfSome, position, unwrap_or}
 use Rattle.std.specs.List.{list_any, position_or_len}
 use Rattle.std.proofs.lemmas.Bool.{cases_lt, ltb-true}
-use Rattle.std.proofs.lemmas.List.{drop_all, drop_more, get_or_append_left, get_or_default, get_or_push, map-append, take_all, take_more}
+use Rattle.std.proofs.Math.ListN.{set, length-set}
+use Rattle.std.proofs.lemmas.List.{drop_all, drop_more, get_or_append_left, get_or_default, get_or_push, get_or-set_other, get_or-set_same, map-append, take_all, take_more, take_more_set, take-set-le}
 use Rattle.std.proofs.lemmas.List.Folds.{list_any_more}
 use Rattle.std.proofs.lemmas.Option.{get_or_from_slice_get, slice_get_within}
 use Rattle.indexmap.specs.IndexSet.{insert_all, insert_key}
 use Rattle.fixup_chain.specs.ImportOrder.{Import}
 use Rattle.fixup_chain.specs.Imports.{bound, import_of, is_bound}
-use Rattle.fixup_chain.specs.inner.Held.{ArePlaces, HasPlace, StandsAt, gathered, is_large, is_same, noted, noted_row, rank_in}
+use Rattle.sect_place.specs.declared.layout.Layout.{Layout}
+use Rattle.fixup_chain.specs.Faults.{target_of}
+use Rattle.fixup_chain.specs.inner.Held.{ArePlaces, HasOffset, HasPlace, HaveOffsets, AreReady, StandsAt, gathered, is_large, is_same, noted, noted_row, offset_by, rank_in}
 use Rattle.fixup_chain.specs.inner.Rows.{same_row}
 use Rattle.fixup_chain.specs.declared.chains.Fixup.{Fixup}
 use Rattle.fixup_chain.specs.declared.import_row.ImportRow.{ImportRow}
@@ -46,7 +49,13 @@ place_there keys x place (k, at, same) = record {
 pub place_none : (keys : List Import) (x : Fixup) (place : ℕ) → is_bound x.goal ≡ false → HasPlace (import_of false) keys x place
 place_none keys x place other = record { there = λ holds. clash (is_bound x.goal) other holds }
 
-pub ruleset noting = (noted_bound, noted_other, place_there, place_none)
+pub offset_there : (layout : Layout) (x : Fixup) (held : ℕ) → held ≡ offset_by (target_of layout x) → HasOffset layout x held
+offset_there layout x held e = record { is = λ other. e }
+
+pub offset_none : (layout : Layout) (x : Fixup) (held : ℕ) → is_bound x.goal ≡ true → HasOffset layout x held
+offset_none layout x held holds = record { is = λ other. clash (is_bound x.goal) other holds }
+
+pub ruleset noting = (noted_bound, noted_other, place_there, place_none, offset_there, offset_none)
 
 pub row_there : (keys : List ImportRow) (row : ImportRow) (place : ℕ) → ((k : ImportRow) × (slice_get keys place ≡ Some k) × (same_row row k ≡ true)) → StandsAt keys place row
 row_there keys row place (k, at, same) = record {
@@ -148,29 +157,126 @@ module _ {K : Type 0} (same : K → K → Bool) (of : Fixup → K) where
   }
 
 -- those of the narrow form, and whether a word has no room for some addend
-pub record IsCollecting (fixups : List Fixup) (at : ℕ) (now : List Import) (places : List ℕ) (large : Bool) : Type 0 where
+pub record IsCollecting (layout : Layout) (fixups : List Fixup) (at : ℕ) (now : List Import) (places : List ℕ) (large : Bool) : Type 0 where
   pub gathers : IsGathering is_same (import_of false) fixups at now places
+  pub offsets : (k : ℕ) (f : Fixup) (h : ℕ) → k < at → HasOffset layout (get_or fixups k f) (get_or places k h)
   pub some : large ≡ list_any is_large (take at fixups)
 
-pub collecting_starts : (fixups : List Fixup) (none : List Import) (places : List ℕ) → none ≡ [] → places ≡ [] → IsCollecting fixups 0 none places false
-collecting_starts fixups none places e f = record { gathers = gathering_begins is_same (import_of false) fixups none places e f; some = refl }
+pub collecting_starts : (layout : Layout) (fixups : List Fixup) (none : List Import) (places : List ℕ) → none ≡ [] → places ≡ [] → IsCollecting layout fixups 0 none places false
+collecting_starts layout fixups none places e f = record {
+  gathers = gathering_begins is_same (import_of false) fixups none places e f;
+  offsets = λ k g h low. absurd (omega (arith, low));
+  some = refl;
+}
 
-pub collecting_goes_on : (fixups : List Fixup) (at : ℕ) (now new : List Import) (places more : List ℕ) (large larger : Bool) (x : Fixup) (place : ℕ) → IsCollecting fixups at now places large → at < length fixups → x ≡ get_or fixups at x → new ≡ noted is_same (import_of false) now x → HasPlace (import_of false) new x place → more ≡ places ++ place ∷ [] → larger ≡ (large || is_large x) → IsCollecting fixups (at + 1) new more larger
-collecting_goes_on fixups at now new places more large larger x place all within is new_is has more_is larger_is = record {
+pub collecting_goes_on : (layout : Layout) (fixups : List Fixup) (at : ℕ) (now new : List Import) (places more : List ℕ) (large larger : Bool) (x : Fixup) (place : ℕ) → IsCollecting layout fixups at now places large → at < length fixups → x ≡ get_or fixups at x → new ≡ noted is_same (import_of false) now x → HasPlace (import_of false) new x place → HasOffset layout x place → more ≡ places ++ place ∷ [] → larger ≡ (large || is_large x) → IsCollecting layout fixups (at + 1) new more larger
+collecting_goes_on layout fixups at now new places more large larger x place all within is new_is has offset more_is larger_is = record {
   gathers = gathering_goes_on is_same (import_of false) fixups at now new places more x place all.gathers within is new_is has more_is;
+  offsets = λ k f h low. elim (cases_lt k at) [
+    | inl before ↦
+        (let same_one : get_or more k h ≡ get_or places k h =
+        ap (λ (ps : List ℕ). get_or ps k h) more_is ∙ get_or_append_left places (place ∷ []) h k (let m = all.gathers.size in omega (arith, before, m)) in
+        subst (λ (n : ℕ). HasOffset layout (get_or fixups k f) n) (sym same_one) (all.offsets k f h before))
+    | inr past ↦
+        (let here : k ≡ at = omega (arith, low, past) in
+        let that : get_or fixups k f ≡ x = ap (λ (n : ℕ). get_or fixups n f) here ∙ sym (is ∙ get_or_default fixups at x f within) in
+        let same_one : get_or more k h ≡ place = ap (λ (n : ℕ). get_or more n h) here ∙ ap (λ (ps : List ℕ). get_or ps at h) more_is ∙ get_or_push places place h at all.gathers.size in
+        subst (λ (n : ℕ). HasOffset layout (get_or fixups k f) n) (sym same_one) (subst (λ (g : Fixup). HasOffset layout g place) (sym that) offset))
+  ];
   some = larger_is ∙ ap (λ (b : Bool). b || is_large x) all.some ∙ ap (λ (f : Fixup). list_any is_large (take at fixups) || is_large f) is ∙ sym (list_any_more is_large fixups at x within);
 }
 
-pub imports_end : (fixups : List Fixup) (at : ℕ) (now : List Import) (places : List ℕ) (large : Bool) → IsCollecting fixups at now places large → length fixups ≤ at → now ≡ gathered is_same (import_of false) fixups
-imports_end fixups at now places large all past = gathering_ends is_same (import_of false) fixups at now places all.gathers past
+pub imports_end : (layout : Layout) (fixups : List Fixup) (at : ℕ) (now : List Import) (places : List ℕ) (large : Bool) → IsCollecting layout fixups at now places large → length fixups ≤ at → now ≡ gathered is_same (import_of false) fixups
+imports_end layout fixups at now places large all past = gathering_ends is_same (import_of false) fixups at now places all.gathers past
 
-pub import_places_end : (fixups : List Fixup) (at : ℕ) (now : List Import) (places : List ℕ) (large : Bool) → IsCollecting fixups at now places large → length fixups ≤ at → ArePlaces (import_of false) fixups now places
-import_places_end fixups at now places large all past = places_end is_same (import_of false) fixups at now places all.gathers past
+pub import_places_end : (layout : Layout) (fixups : List Fixup) (at : ℕ) (now : List Import) (places : List ℕ) (large : Bool) → IsCollecting layout fixups at now places large → length fixups ≤ at → ArePlaces (import_of false) fixups now places
+import_places_end layout fixups at now places large all past = places_end is_same (import_of false) fixups at now places all.gathers past
 
-pub large_ends : (fixups : List Fixup) (at : ℕ) (now : List Import) (places : List ℕ) (large : Bool) → IsCollecting fixups at now places large → length fixups ≤ at → large ≡ list_any is_large fixups
-large_ends fixups at now places large all past = all.some ∙ ap (list_any is_large) (take_all at fixups past)
+pub large_ends : (layout : Layout) (fixups : List Fixup) (at : ℕ) (now : List Import) (places : List ℕ) (large : Bool) → IsCollecting layout fixups at now places large → length fixups ≤ at → large ≡ list_any is_large fixups
+large_ends layout fixups at now places large all past = all.some ∙ ap (list_any is_large) (take_all at fixups past)
 
-pub ruleset collecting = (collecting_starts, collecting_goes_on, imports_end, import_places_end, large_ends)
+pub offsets_end : (layout : Layout) (fixups : List Fixup) (at : ℕ) (now : List Import) (places : List ℕ) (large : Bool) → IsCollecting layout fixups at now places large → length fixups ≤ at → HaveOffsets layout fixups places
+offsets_end layout fixups at now places large all past = record { each = λ k f h low. all.offsets k f h (omega (arith, low, past)) }
+
+-- ---- the same, where what is held for the next pointers tells their offsets
+
+pub record IsCollectingAhead (layout : Layout) (fixups : List Fixup) (at : ℕ) (now : List Import) (held : List ℕ) (large : Bool) (ready : ℕ) : Type 0 where
+  pub long : length held ≡ length fixups
+  pub done : IsCollecting layout fixups at now (take at held) large
+  pub ahead : AreReady layout fixups held at ready
+
+pub ahead_starts : (layout : Layout) (fixups : List Fixup) (none : List Import) (held : List ℕ) → none ≡ [] → length held ≡ length fixups → IsCollectingAhead layout fixups 0 none held false 0
+ahead_starts layout fixups none held e long = record {
+  long = long;
+  done = collecting_starts layout fixups none (take 0 held) e refl;
+  ahead = record { rises = omega arith; within = omega arith; each = λ k f h low high. absurd (omega (arith, low, high)) };
+}
+
+pub ahead_goes_on : (layout : Layout) (fixups : List Fixup) (at h : ℕ) (now new : List Import) (held next more : List ℕ) (large larger : Bool) (ready later : ℕ) (x : Fixup) (one : ℕ) → IsCollectingAhead layout fixups at now held large ready → at < length fixups → x ≡ get_or fixups at x → length next ≡ length held → take at next ≡ take at held → AreReady layout fixups next at later → at < later → new ≡ noted is_same (import_of false) now x → HasPlace (import_of false) new x one → ((other : Layout) → HasOffset other x (get_or next at h) → HasOffset other x one) → more ≡ set next at one → larger ≡ (large || is_large x) → IsCollectingAhead layout fixups (at + 1) new more larger later
+ahead_goes_on layout fixups at h now new held next more large larger ready later x one all within is long_next before later_ready some new_is has offset more_is larger_is =
+    let long : length next ≡ length fixups = long_next ∙ all.long in
+    let inside : at < length next = omega (arith, within, long) in
+    let taken : take (at + 1) more ≡ take at held ++ one ∷ [] =
+    ap (take (at + 1)) more_is ∙ take_more_set next at one inside ∙ ap (λ (xs : List ℕ). xs ++ one ∷ []) before in
+    let here : HasOffset layout x (get_or next at h) = subst (λ (f : Fixup). HasOffset layout f (get_or next at h)) (sym is) (later_ready.each at x h (omega arith) some) in
+    record {
+      long = ap length more_is ∙ length-set next at one ∙ long;
+      done = collecting_goes_on layout fixups at now new (take at held) (take (at + 1) more) large larger x one all.done within is new_is has (offset layout here) taken larger_is;
+      ahead = record {
+        rises = omega (arith, some);
+        within = later_ready.within;
+        each = λ k f g low high.
+            let other : k ≢ at = omega (arith, low) in
+            let same : get_or more k g ≡ get_or next k g = ap (λ (xs : List ℕ). get_or xs k g) more_is ∙ get_or-set_other next at k one g other in
+            subst (λ (n : ℕ). HasOffset layout (get_or fixups k f) n) (sym same) (later_ready.each k f g (omega (arith, low)) high);
+      };
+    }
+
+whole : (layout : Layout) (fixups : List Fixup) (at : ℕ) (now : List Import) (held : List ℕ) (large : Bool) (ready : ℕ) → IsCollectingAhead layout fixups at now held large ready → length fixups ≤ at → IsCollecting layout fixups at now held large
+whole layout fixups at now held large ready all past =
+    let long = all.long in
+    subst (λ (hs : List ℕ). IsCollecting layout fixups at now hs large) (take_all at held (omega (arith, long, past))) all.done
+
+pub ahead_imports : (layout : Layout) (fixups : List Fixup) (at : ℕ) (now : List Import) (held : List ℕ) (large : Bool) (ready : ℕ) → IsCollectingAhead layout fixups at now held large ready → length fixups ≤ at → now ≡ gathered is_same (import_of false) fixups
+ahead_imports layout fixups at now held large ready all past = imports_end layout fixups at now held large (whole layout fixups at now held large ready all past) past
+
+pub ahead_places : (layout : Layout) (fixups : List Fixup) (at : ℕ) (now : List Import) (held : List ℕ) (large : Bool) (ready : ℕ) → IsCollectingAhead layout fixups at now held large ready → length fixups ≤ at → ArePlaces (import_of false) fixups now held
+ahead_places layout fixups at now held large ready all past = import_places_end layout fixups at now held large (whole layout fixups at now held large ready all past) past
+
+pub ahead_large : (layout : Layout) (fixups : List Fixup) (at : ℕ) (now : List Import) (held : List ℕ) (large : Bool) (ready : ℕ) → IsCollectingAhead layout fixups at now held large ready → length fixups ≤ at → large ≡ list_any is_large fixups
+ahead_large layout fixups at now held large ready all past = large_ends layout fixups at now held large (whole layout fixups at now held large ready all past) past
+
+pub ahead_offsets : (layout : Layout) (fixups : List Fixup) (at : ℕ) (now : List Import) (held : List ℕ) (large : Bool) (ready : ℕ) → IsCollectingAhead layout fixups at now held large ready → length fixups ≤ at → HaveOffsets layout fixups held
+ahead_offsets layout fixups at now held large ready all past = offsets_end layout fixups at now held large (whole layout fixups at now held large ready all past) past
+
+-- ---- the loop that looks ahead
+
+pub record IsLookingUp (layout : Layout) (fixups : List Fixup) (first : List ℕ) (from at : ℕ) (held : List ℕ) : Type 0 where
+  pub long : length held ≡ length fixups
+  pub before : take from held ≡ take from first
+  pub rises : from ≤ at
+  pub each : (k : ℕ) (f : Fixup) (h : ℕ) → from ≤ k → k < at → HasOffset layout (get_or fixups k f) (get_or held k h)
+
+pub looking_goes_on : (layout : Layout) (fixups : List Fixup) (first held more : List ℕ) (from at one : ℕ) (x : Fixup) → IsLookingUp layout fixups first from at held → at < length fixups → x ≡ get_or fixups at x → HasOffset layout x one → more ≡ set held at one → IsLookingUp layout fixups first from (at + 1) more
+looking_goes_on layout fixups first held more from at one x all within is has more_is =
+    let long = all.long in
+    let rises = all.rises in
+    record {
+      long = ap length more_is ∙ length-set held at one ∙ all.long;
+      before = ap (take from) more_is ∙ take-set-le from held at one all.rises ∙ all.before;
+      rises = omega (arith, rises);
+      each = λ k f h low high. elim (cases_lt k at) [
+        | inl past ↦
+            (let other : k ≢ at = omega (arith, past) in
+            let same : get_or more k h ≡ get_or held k h = ap (λ (xs : List ℕ). get_or xs k h) more_is ∙ get_or-set_other held at k one h other in
+            subst (λ (n : ℕ). HasOffset layout (get_or fixups k f) n) (sym same) (all.each k f h low past))
+        | inr last ↦
+            (let here : k ≡ at = omega (arith, high, last) in
+            let that : get_or fixups k f ≡ x = ap (λ (n : ℕ). get_or fixups n f) here ∙ sym (is ∙ get_or_default fixups at x f within) in
+            let same : get_or more k h ≡ one = ap (λ (n : ℕ). get_or more n h) here ∙ ap (λ (xs : List ℕ). get_or xs at h) more_is ∙ get_or-set_same held at one h (omega (arith, within, long)) in
+            subst (λ (n : ℕ). HasOffset layout (get_or fixups k f) n) (sym same) (subst (λ (g : Fixup). HasOffset layout g one) (sym that) has))
+      ];
+    }
 
 -- ---- one import of the wide form more
 
@@ -209,7 +315,7 @@ numbering_ends X f xs at made all past = all.same ∙ ap (map f) (take_all at xs
 
 pub ruleset numbering = (numbering_starts, numbering_goes_on, numbering_ends)
 
-mapped : {X Y : Type 0} (f : X → Y) (xs : List X) (i : ℕ) (d : Y) (e : X) → i < length xs → get_or (map f xs) i d ≡ f (get_or xs i e)
+pub mapped : {X Y : Type 0} (f : X → Y) (xs : List X) (i : ℕ) (d : Y) (e : X) → i < length xs → get_or (map f xs) i d ≡ f (get_or xs i e)
 mapped f [] i d e low = absurd (omega (arith, low))
 mapped f (x ∷ xs) zero d e low = refl
 mapped f (x ∷ xs) (suc i) d e low = mapped f xs i d e (omega (arith, low))
@@ -241,17 +347,16 @@ rank_low same keys key = by (position_or_len (same key) keys) (length keys) (nat
     by m n true e = omega (arith, ltb-true m n e)
     by m n false e = omega arith
 
-pub numbers_ranked : {K : Type 0} (same : K → K → Bool) (of : Fixup → K) (fixups : List Fixup) (keys used : List K) (places ranks numbers : List ℕ) → ArePlaces of fixups used places → ranks ≡ map (rank_in same keys) used → numbers ≡ map (λ (place : ℕ). get_or ranks place 0) places → AreRanks same of fixups keys numbers
-numbers_ranked {K = K} same of fixups keys used places ranks numbers are ranks_are numbers_are = record {
-  size = ap length numbers_are ∙ same_size (λ (place : ℕ). get_or ranks place 0) places ∙ are.size;
+pub numbers_ranked : {K : Type 0} (same : K → K → Bool) (of : Fixup → K) (fixups : List Fixup) (keys used : List K) (places ranks : List ℕ) → ArePlaces of fixups used places → ranks ≡ map (rank_in same keys) used → AreRanks same of fixups keys (map (λ (place : ℕ). get_or ranks place 0) places)
+numbers_ranked {K = K} same of fixups keys used places ranks are ranks_are = record {
+  size = same_size (λ (place : ℕ). get_or ranks place 0) places ∙ are.size;
   is = λ k f n low holds.
       let stands = (are.each k f 0 low).there holds in
       at_rank k n low ∙ mapped (rank_in same keys) used (get_or places k 0) 0 (of (get_or fixups k f)) stands.within ∙ ap (rank_in same keys) (stands.is (of (get_or fixups k f)));
   small = λ k n low. subst (λ (m : ℕ). m ≤ length keys) (sym (at_rank k n low)) (at_most (rank_in same keys) (length keys) (rank_low same keys) used (get_or places k 0));
 }
   where
-    at_rank : (k n : ℕ) → k < length fixups → get_or numbers k n ≡ get_or (map (rank_in same keys) used) (get_or places k 0) 0
+    at_rank : (k n : ℕ) → k < length fixups → get_or (map (λ (place : ℕ). get_or ranks place 0) places) k n ≡ get_or (map (rank_in same keys) used) (get_or places k 0) 0
     at_rank k n low =
-        ap (λ (ns : List ℕ). get_or ns k n) numbers_are
-        ∙ mapped (λ (place : ℕ). get_or ranks place 0) places k n 0 (let m = are.size in omega (arith, m, low))
+        mapped (λ (place : ℕ). get_or ranks place 0) places k n 0 (let m = are.size in omega (arith, m, low))
         ∙ ap (λ (ns : List ℕ). get_or ns (get_or places k 0) 0) ranks_are

@@ -1,5 +1,5 @@
 -- The words of pointers and the first fault, one pointer after the other.
-use Rattle.std.proofs.Common.{◌≡◌, ℕ, ◌+◌, ◌<◌, ◌≤◌, Bool, ℤ, List, [], ◌∷◌, ◌++◌, length, map, take, get_or, Option, sym, ap, ◌∙◌}
+use Rattle.std.proofs.Common.{◌≡◌, ℕ, ◌+◌, ◌<◌, ◌≤◌, Bool, List, [], ◌∷◌, ◌++◌, length, map, take, get_or, Option, sym, ap, ◌∙◌}
 use Rattle.std.proofs.lemmas.List.{map-append, take_all, take_more}
 use Rattle.sect_place.specs.declared.layout.Layout.{Layout}
 use Rattle.fixup_chain.specs.Faults.{target_of}
@@ -14,11 +14,11 @@ pub record IsWalk (layout : Layout) (wide : Bool) (imports : List Import) (fixup
   pub words : made ≡ map (chain_word (target_of layout) wide imports (addresses_of fixups)) (take at fixups)
   pub first : IsFirst layout fixups at found
 
-pub walk_goes_on : (layout : Layout) (wide : Bool) (imports : List Import) (fixups : List Fixup) (at : ℕ) (words new : List ChainWord) (before first : Option ℕ) (x : Fixup) (target : ℤ) (next word : ℕ) → IsWalk layout wide imports fixups at words before → at < length fixups → x ≡ get_or fixups at x → target ≡ target_of layout x → next ≡ steps_to_next (addresses_of fixups) x.address → word ≡ word_by wide imports target next x → IsFirst layout fixups (at + 1) first → new ≡ words ++ record { address = x.address; word = word } ∷ [] → IsWalk layout wide imports fixups (at + 1) new first
+pub walk_goes_on : (layout : Layout) (wide : Bool) (imports : List Import) (fixups : List Fixup) (at : ℕ) (words new : List ChainWord) (before first : Option ℕ) (x : Fixup) (next word : ℕ) → IsWalk layout wide imports fixups at words before → at < length fixups → x ≡ get_or fixups at x → next ≡ steps_to_next (addresses_of fixups) x.address → word ≡ word_by wide imports (target_of layout x) next x → IsFirst layout fixups (at + 1) first → new ≡ words ++ record { address = x.address; word = word } ∷ [] → IsWalk layout wide imports fixups (at + 1) new first
 unfolding chain_word
-walk_goes_on layout wide imports fixups at words new before first x target next word walk within is t n w f grown =
+walk_goes_on layout wide imports fixups at words new before first x next word walk within is n w f grown =
     let one = chain_word (target_of layout) wide imports (addresses_of fixups) in
-    let value : word ≡ (one x).word = w ∙ ap (λ (z : ℤ). word_by wide imports z next x) t ∙ ap (λ (k : ℕ). word_by wide imports (target_of layout x) k x) n in
+    let value : word ≡ (one x).word = w ∙ ap (λ (k : ℕ). word_by wide imports (target_of layout x) k x) n in
     let made : ChainWord = record { address = x.address; word = word } in
     let here : made ≡ one (get_or fixups at x) = ap (λ (k : ℕ). let c : ChainWord = record { address = x.address; word = k } in c) value ∙ ap one is in
     record {

@@ -1,6 +1,6 @@
 -- The imports of the wide form are made of those of the narrow one by the places of their names.
 use Rattle.std.proofs.Common.{◌≡◌, ℕ, zero, suc, ◌+◌, ◌<◌, ◌≤◌, ◌^◌, nat_lt, ◌⊎◌, Bool, true, false, not, List, [], ◌∷◌, ◌++◌, length, get_or, slice_get, map, Contains, Option, Some, None, if◌then◌else◌, refl, sym, ap, subst, ◌∙◌, inl, inr, arith}
-use Rattle.std.specs.Prelude.{IfSome, IsPermutation, position, unwrap_or}
+use Rattle.std.specs.Prelude.{IfNone, IfSome, IsPermutation, position, unwrap_or}
 use Rattle.std.specs.List.{flat_map, list_any, position_or_len, IsDistinct}
 use Rattle.std.specs.List.Sorted.{IsSorted, IsStrictlySortedBy}
 use Rattle.std.specs.Option.{option_map}
@@ -8,8 +8,9 @@ use Rattle.std.specs.Cmp.Lexicographic.{nat_list_cmp_total}
 use Rattle.std.specs.Ordering.{is_eq}
 use Rattle.std.specs.declared.cmp.Ordering.{Ordering}
 use Rattle.std.specs.declared.cmp.Ordering.TheVariants.{Less}
-use Rattle.std.proofs.lemmas.Bool.{lt-ltb}
+use Rattle.std.proofs.lemmas.Bool.{cases_lt, lt-ltb}
 use Rattle.std.proofs.lemmas.Cmp.{tied_itself}
+use Rattle.std.proofs.lemmas.List.{get_or_append_left, get_or_default, get_or_push}
 use Rattle.std.proofs.lemmas.List.Sorted.{Contains-permutation, IsPermutation-sym}
 use Rattle.std.proofs.lemmas.List.Sums.{passes_at_first}
 use Rattle.list_lemmas.proofs.Inserted.{from_inserted, in_inserted}
@@ -21,12 +22,13 @@ use Rattle.fixup_chain.specs.Imports.{bound, import_of, imports_by, is_bound, is
 use Rattle.fixup_chain.specs.Words.{number_of}
 use Rattle.fixup_chain.specs.declared.chains.Fixup.{Fixup}
 use Rattle.fixup_chain.specs.declared.import_row.ImportRow.{ImportRow}
-use Rattle.fixup_chain.specs.inner.Held.{AreNumbers, ArePlaces, HasNumber, StandsAt, gathered, imports_in, is_large, is_same, noted_row, rank_in, row_of}
+use Rattle.sect_place.specs.declared.layout.Layout.{Layout}
+use Rattle.fixup_chain.specs.inner.Held.{AreNumbers, AreOthers, ArePlaces, HasNumber, HasOffset, HaveOffsets, StandsAt, gathered, imports_in, is_large, is_same, noted_row, numbers_by, rank_in, row_of}
 use Rattle.fixup_chain.specs.inner.Rows.{compare_rows, names_of, row_by, row_in, rows_at, same_row, with_addend}
 use Rattle.fixup_chain.proofs.ImportLemmas.{are_in, same_import}
 use Rattle.fixup_chain.proofs.NameLemmas.{from_names, in_names, names_rise, pool_names, rows_in, rows_order}
 use Rattle.fixup_chain.proofs.RowLemmas.{compare_rows_total, distinct_rises, rows_tie, same_rows}
-use Rattle.fixup_chain.proofs.UseLemmas.{AreRanks, IsGathering, gathering_begins, gathering_ends, gathering_goes_on, places_end, row_noted, row_placed, same_size}
+use Rattle.fixup_chain.proofs.UseLemmas.{AreRanks, IsGathering, gathering_begins, gathering_ends, gathering_goes_on, mapped, places_end, row_noted, row_placed, same_size}
 
 -- ---- the imports of a pointer
 
@@ -247,10 +249,39 @@ narrow_numbers fixups sorted numbers ranks is = record {
   };
 }
 
--- the number of one of them
-pub number_of_one : (wide : Bool) (fixups : List Fixup) (imports : List Import) (numbers : List ℕ) (at n : ℕ) (x : Fixup) → AreNumbers wide fixups imports numbers → at < length fixups → x ≡ get_or fixups at x → HasNumber wide imports x (get_or numbers at n)
-number_of_one wide fixups imports numbers at n x are within is =
-    subst (λ (f : Fixup). HasNumber wide imports f (get_or numbers at n)) (sym is) (are.each at x n within)
+-- ---- what is held for one pointer
+
+held_within : (wide : Bool) (fixups : List Fixup) (imports : List Import) (ranks held : List ℕ) (at : ℕ) → AreNumbers wide fixups imports (numbers_by ranks held) → at < length fixups → at < length held
+held_within wide fixups imports ranks held at are within =
+    let size : length held ≡ length fixups = sym (same_size (λ (place : ℕ). get_or ranks place 0) held) ∙ are.size in omega (arith, size, within)
+
+-- the number of its import
+pub number_of_one : (wide : Bool) (fixups : List Fixup) (imports : List Import) (ranks held : List ℕ) (at h : ℕ) (x : Fixup) → AreNumbers wide fixups imports (numbers_by ranks held) → at < length fixups → x ≡ get_or fixups at x → HasNumber wide imports x (get_or ranks (get_or held at h) 0)
+number_of_one wide fixups imports ranks held at h x are within is =
+    let here : get_or (numbers_by ranks held) at 0 ≡ get_or ranks (get_or held at h) 0 =
+    mapped (λ (place : ℕ). get_or ranks place 0) held at 0 h (held_within wide fixups imports ranks held at are within) in
+    subst (λ (n : ℕ). HasNumber wide imports x n) here (subst (λ (f : Fixup). HasNumber wide imports f (get_or (numbers_by ranks held) at 0)) (sym is) (are.each at x 0 within))
+
+pub number_here : (wide : Bool) (fixups : List Fixup) (imports : List Import) (ranks held : List ℕ) (at h number : ℕ) (x : Fixup) → AreNumbers wide fixups imports (numbers_by ranks held) → at < length fixups → x ≡ get_or fixups at x → number ≡ get_or ranks (get_or held at h) 0 → HasNumber wide imports x number
+number_here wide fixups imports ranks held at h number x are within is e =
+    subst (λ (n : ℕ). HasNumber wide imports x n) (sym e) (number_of_one wide fixups imports ranks held at h x are within is)
+
+-- a number of one has room in a word
+pub number_small : (wide : Bool) (imports : List Import) (x : Fixup) (n : ℕ) → HasNumber wide imports x n → length imports < 2 ^ 24 → n < 2 ^ 24
+number_small wide imports x n has few = let small = has.small in omega (arith, small, few)
+
+-- there is something for each
+pub held_for_all : (wide : Bool) (fixups : List Fixup) (imports : List Import) (ranks held : List ℕ) → AreNumbers wide fixups imports (numbers_by ranks held) → length held ≡ length fixups
+held_for_all wide fixups imports ranks held are = sym (same_size (λ (place : ℕ). get_or ranks place 0) held) ∙ are.size
+
+-- its offset
+pub offset_of_one : (layout : Layout) (fixups : List Fixup) (held : List ℕ) (at h : ℕ) (x : Fixup) → HaveOffsets layout fixups held → at < length fixups → x ≡ get_or fixups at x → HasOffset layout x (get_or held at h)
+offset_of_one layout fixups held at h x have within is = subst (λ (f : Fixup). HasOffset layout f (get_or held at h)) (sym is) (have.each at x h within)
+
+pub others_have : (layout : Layout) (fixups : List Fixup) (before now : List ℕ) → HaveOffsets layout fixups before → AreOthers fixups before now → HaveOffsets layout fixups now
+others_have layout fixups before now have others = record {
+  each = λ k f h low. record { is = λ other. others.each k f h low other ∙ (have.each k f h low).is other };
+}
 
 pub wide_pool : (fixups : List Fixup) (pool : List ℕ) → pool ≡ pool_of (imports_in false fixups) → pool ≡ pool_of (imports_in true fixups)
 wide_pool fixups pool e = e ∙ pool_same fixups false true
@@ -261,28 +292,61 @@ wide_form fixups pool wide large is told large_is pool_is = sym is ∙ told fixu
 pub narrow_form : (fixups : List Fixup) (pool : List ℕ) (wide large : Bool) → wide ≡ false → ((some : List Fixup) → large ≡ list_any is_large some → wide ≡ is_wide some pool) → large ≡ list_any is_large fixups → pool ≡ pool_of (imports_in false fixups) → false ≡ is_wide fixups (pool_of (imports_in false fixups))
 narrow_form fixups pool wide large is told large_is pool_is = sym is ∙ told fixups large_is ∙ ap (is_wide fixups) pool_is
 
-pub ruleset pools = (wide_pool, wide_form, narrow_form)
+pub ruleset pools = (wide_pool, wide_form, narrow_form, others_have)
 
 -- ---- the loop that gathers them
 
-pub wide_begins : (fixups : List Fixup) (none : List ImportRow) (places : List ℕ) → none ≡ [] → places ≡ [] → IsGathering same_row (row_of fixups) fixups 0 none places
-wide_begins fixups none places e f = gathering_begins same_row (row_of fixups) fixups none places e f
+pub record IsWidening (fixups : List Fixup) (before : List ℕ) (at : ℕ) (now : List ImportRow) (held : List ℕ) : Type 0 where
+  pub gathers : IsGathering same_row (row_of fixups) fixups at now held
+  pub others : (k : ℕ) (f : Fixup) (h : ℕ) → k < at → is_bound (get_or fixups k f).goal ≡ false → get_or held k h ≡ get_or before k h
 
-pub wide_goes_on : (fixups : List Fixup) (narrow : List ImportRow) (numbers : List ℕ) (at n : ℕ) (now new : List ImportRow) (places more : List ℕ) (x : Fixup) (row : Option ImportRow) (place : ℕ) → narrow ≡ rows_at 1 (imports_in false fixups) → AreNumbers false fixups (imports_in false fixups) numbers → IsGathering same_row (row_of fixups) fixups at now places → at < length fixups → x ≡ get_or fixups at x → row ≡ row_by narrow (get_or numbers at n) x → new ≡ noted_row now row → IfSome row (StandsAt new place) → more ≡ places ++ place ∷ [] → IsGathering same_row (row_of fixups) fixups (at + 1) new more
-wide_goes_on fixups narrow numbers at n now new places more x row place rows are all within is row_is new_is stands more_is =
+pub wide_begins : (fixups : List Fixup) (before : List ℕ) (none : List ImportRow) (held : List ℕ) → none ≡ [] → held ≡ [] → IsWidening fixups before 0 none held
+wide_begins fixups before none held e f = record {
+  gathers = gathering_begins same_row (row_of fixups) fixups none held e f;
+  others = λ k g h low other. absurd (omega (arith, low));
+}
+
+-- what a pointer is bound to is none where it isn't bound
+no_row : (narrow : List ImportRow) (n : ℕ) (x : Fixup) (row : Option ImportRow) → row ≡ row_by narrow n x → is_bound x.goal ≡ false → row ≡ None
+unfolding row_by
+no_row narrow n x row e other = e ∙ rw other refl
+
+none_there : (row : Option ImportRow) (one before : ℕ) → IfNone row (one ≡ before) → row ≡ None → one ≡ before
+none_there row one before h e = let P : Option ImportRow → Type 0 = λ r. IfNone r (one ≡ before) in subst P e h
+
+pub wide_goes_on : (fixups : List Fixup) (narrow : List ImportRow) (ranks before : List ℕ) (at h : ℕ) (now new : List ImportRow) (held more : List ℕ) (x : Fixup) (row : Option ImportRow) (number one : ℕ) → narrow ≡ rows_at 1 (imports_in false fixups) → AreNumbers false fixups (imports_in false fixups) (numbers_by ranks before) → IsWidening fixups before at now held → at < length fixups → x ≡ get_or fixups at x → number ≡ get_or ranks (get_or before at h) 0 → row ≡ row_by narrow number x → new ≡ noted_row now row → IfSome row (StandsAt new one) → IfNone row (one ≡ get_or before at h) → more ≡ held ++ one ∷ [] → IsWidening fixups before (at + 1) new more
+wide_goes_on fixups narrow ranks before at h now new held more x row number one rows are all within is number_is row_is new_is stands same more_is =
     let among : In x fixups = in_from_Contains fixups x (at, within, sym is) in
     let found : row ≡ (if is_bound x.goal then Some (row_of fixups x) else None) =
-    row_is ∙ row_found fixups narrow (get_or numbers at n) x rows (number_of_one false fixups (imports_in false fixups) numbers at n x are within is) among in
-    gathering_goes_on same_row (row_of fixups) fixups at now new places more x place all within is (row_noted (row_of fixups) now new x row found new_is) (row_placed (row_of fixups) new x row place found stands) more_is
+    row_is ∙ row_found fixups narrow number x rows (number_here false fixups (imports_in false fixups) ranks before at h number x are within is number_is) among in
+    record {
+      gathers = gathering_goes_on same_row (row_of fixups) fixups at now new held more x one all.gathers within is (row_noted (row_of fixups) now new x row found new_is) (row_placed (row_of fixups) new x row one found stands) more_is;
+      others = others;
+    }
+  where
+    others : (k : ℕ) (f : Fixup) (g : ℕ) → k < at + 1 → is_bound (get_or fixups k f).goal ≡ false → get_or more k g ≡ get_or before k g
+    others k f g low other = elim (cases_lt k at) [
+      | inl past ↦ ap (λ (hs : List ℕ). get_or hs k g) more_is ∙ get_or_append_left held (one ∷ []) g k (let m = all.gathers.size in omega (arith, past, m)) ∙ all.others k f g past other
+      | inr last ↦
+          (let here : k ≡ at = omega (arith, low, last) in
+          let that : get_or fixups k f ≡ x = ap (λ (n : ℕ). get_or fixups n f) here ∙ sym (is ∙ get_or_default fixups at x f within) in
+          let unbound : is_bound x.goal ≡ false = ap (λ (y : Fixup). is_bound y.goal) (sym that) ∙ other in
+          let value : one ≡ get_or before at h = none_there row one (get_or before at h) same (no_row narrow number x row row_is unbound) in
+          ap (λ (n : ℕ). get_or more n g) here
+          ∙ ap (λ (hs : List ℕ). get_or hs at g) more_is
+          ∙ get_or_push held one g at all.gathers.size
+          ∙ value
+          ∙ get_or_default before at h g (held_within false fixups (imports_in false fixups) ranks before at are within)
+          ∙ ap (λ (n : ℕ). get_or before n g) (sym here))
+    ]
 
-pub wide_ends : (fixups : List Fixup) (at : ℕ) (now : List ImportRow) (places : List ℕ) → IsGathering same_row (row_of fixups) fixups at now places → length fixups ≤ at → now ≡ gathered same_row (row_of fixups) fixups
-wide_ends fixups at now places all past = gathering_ends same_row (row_of fixups) fixups at now places all past
+pub wide_ends : (fixups : List Fixup) (before : List ℕ) (at : ℕ) (now : List ImportRow) (held : List ℕ) → IsWidening fixups before at now held → length fixups ≤ at → now ≡ gathered same_row (row_of fixups) fixups
+wide_ends fixups before at now held all past = gathering_ends same_row (row_of fixups) fixups at now held all.gathers past
 
-pub wide_places : (fixups : List Fixup) (at : ℕ) (now : List ImportRow) (places : List ℕ) → IsGathering same_row (row_of fixups) fixups at now places → length fixups ≤ at → ArePlaces (row_of fixups) fixups now places
-wide_places fixups at now places all past = places_end same_row (row_of fixups) fixups at now places all past
+pub wide_places : (fixups : List Fixup) (before : List ℕ) (at : ℕ) (now : List ImportRow) (held : List ℕ) → IsWidening fixups before at now held → length fixups ≤ at → ArePlaces (row_of fixups) fixups now held
+wide_places fixups before at now held all past = places_end same_row (row_of fixups) fixups at now held all.gathers past
 
-pub ruleset gathering = (wide_begins, wide_ends, wide_places)
+pub wide_others : (fixups : List Fixup) (before : List ℕ) (at : ℕ) (now : List ImportRow) (held : List ℕ) → IsWidening fixups before at now held → length fixups ≤ at → AreOthers fixups before held
+wide_others fixups before at now held all past = record { each = λ k f h low other. all.others k f h (omega (arith, low, past)) other }
 
--- the number of one of them has room in a word
-pub number_small : (wide : Bool) (fixups : List Fixup) (numbers : List ℕ) (at n : ℕ) (x : Fixup) → AreNumbers wide fixups (imports_in wide fixups) numbers → length (imports_in wide fixups) < 2 ^ 24 → at < length fixups → get_or numbers at n < 2 ^ 24
-number_small wide fixups numbers at n x are few within = let small = (are.each at x n within).small in omega (arith, small, few)
+pub ruleset gathering = (wide_begins, wide_ends, wide_places, wide_others)

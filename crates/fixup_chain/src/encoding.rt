@@ -7,7 +7,7 @@ ghost use Rattle.fixup_chain.specs.Faults as faults;
 ghost use Rattle.fixup_chain.specs.Imports.{pool_of};
 ghost use Rattle.fixup_chain.specs.Places.{addresses_of};
 ghost use Rattle.fixup_chain.specs.Words as words;
-ghost use Rattle.fixup_chain.specs.inner.Held.{AreNumbers, imports_in};
+ghost use Rattle.fixup_chain.specs.inner.Held.{AreNumbers, HaveOffsets, imports_in, numbers_by};
 ghost use Rattle.fixup_chain.specs.inner.Rows.{rows_at};
 ghost use Rattle.fixup_chain.specs.inner.Turn.{IsFirst};
 ghost use Rattle.sect_place.specs.Addresses.{AreOnce};
@@ -16,10 +16,11 @@ use crate::blob::joined;
 use crate::chains::{ChainFault, ChainWord, Chains, Fixup, FixupList, WordList};
 use crate::faults::{are_open, first_fault, first_with};
 use crate::imports::{Formed, imports_of};
+use crate::numbers::number_at;
 use crate::places::steps_to_next;
 use crate::rows::row_bytes;
 use crate::starts::starts_of;
-use crate::targets::{base_of, target_of};
+use crate::targets::base_of;
 use crate::words::word_by;
 use mo_types::{Bytes, Items, OutOfMemory, Which};
 use sect_place::Layout;
@@ -35,21 +36,23 @@ struct Walked {
     first: Option<usize>,
 }
 
-// The walk through all pointers of an image that begins at `base`, by the number of each one's import.
+// The walk through all pointers of an image that begins at `base`, by what is held for each and by imports' numbers.
 #[tactic(auto, using(crate::proofs::WalkLemmas::walking))]
 fn walk(
     alloc: Global,
     layout: &Layout,
     base: u64,
     wide: bool,
-    numbers: &[usize],
+    ranks: &[usize],
+    held: &[usize],
     fixups: &[Fixup],
 ) -> Result<Walked, OutOfMemory>
     requires apart { AreApart fixups.now }
     requires once { AreOnce layout.now.placed }
     requires base { base ≡ faults.base_of layout.now.segments }
     requires few { length (imports_in wide fixups.now) < encoded.IMPORTS }
-    requires numbers { AreNumbers wide fixups.now (imports_in wide fixups.now) numbers.now }
+    requires numbers { AreNumbers wide fixups.now (imports_in wide fixups.now) (numbers_by ranks.now held.now) }
+    requires offsets { HaveOffsets layout.now fixups.now held.now }
     ensures words { IfOk result (λ walked. walked.words ≡ words.words_of (faults.target_of layout.now) wide (imports_in wide fixups.now) fixups.now) }
     ensures first { IfOk result (λ walked. IsFirst layout.now fixups.now (length fixups.now) walked.first) }
 {
@@ -57,12 +60,13 @@ fn walk(
     let mut words = Vec::with_capacity(alloc, fixups.len())?;
     let mut first = None;
     for (at, fixup) in fixups.iter().enumerate() {
-        let target = target_of(layout, base, fixup);
-        first = first_with(layout, base, free, fixups, first, at, target);
+        let one = held[at];
+        first = first_with(layout, base, free, fixups, first, at, one);
         let next = steps_to_next(fixups, at, fixup.address);
+        let number = number_at(ranks, one) as u32;
         words.push(ChainWord {
             address: fixup.address,
-            word: word_by(wide, numbers[at] as u32, target, next, fixup),
+            word: word_by(wide, number, one, next, fixup),
         })?;
     }
     Ok(Walked {
@@ -117,12 +121,12 @@ pub fn encode(alloc: Global, fixups: &FixupList, layout: &Layout) -> Result<Chai
 {
     let fixups = fixups.as_slice();
     let base = base_of(layout.segments.as_slice());
-    let formed = imports_of(alloc, fixups)?;
+    let formed = imports_of(alloc, layout, base, fixups)?;
     if formed.rows.len() >= IMPORTS {
         return Err(ChainFault::Limit(Which::Imports));
     }
-    let numbers = formed.numbers.as_slice();
-    let walked = walk(alloc, layout, base, formed.wide, numbers, fixups)?;
+    let (ranks, held) = (formed.ranks.as_slice(), formed.held.as_slice());
+    let walked = walk(alloc, layout, base, formed.wide, ranks, held, fixups)?;
     if let Some(fault) = first_fault(layout, base, fixups, walked.first) {
         return Err(fault);
     }

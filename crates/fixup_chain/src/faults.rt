@@ -2,21 +2,20 @@
 ghost use Rattle.std.specs.Prelude.{◌≡◌, ◌+◌, ◌-◌, ◌%◌, ◌<◌, ◌==◌, ◌&&◌, ◌||◌, false, length, IsTrue, nat_lt, not, is_none, slice_index_or, MatchOption};
 ghost use Rattle.std.specs.List.{list_any};
 ghost use Rattle.fixup_chain.specs.Faults as spec;
-ghost use Rattle.fixup_chain.specs.Imports as imports;
 ghost use Rattle.fixup_chain.specs.Places as places;
-ghost use Rattle.fixup_chain.specs.Words as words;
 ghost use Rattle.fixup_chain.specs.declared.chains.Fixup.{Fixup};
 ghost use Rattle.fixup_chain.specs.Encoded.{AreApart};
+ghost use Rattle.fixup_chain.specs.inner.Held.{HasOffset};
 ghost use Rattle.fixup_chain.specs.inner.Near.{IsThere};
 ghost use Rattle.fixup_chain.specs.inner.Open.{AreOpen, may_close};
 ghost use Rattle.fixup_chain.specs.inner.Turn.{AreSound, IsFirst};
 ghost use Rattle.sect_place.specs.Addresses.{AreOnce};
+ghost use Rattle.sect_place.specs.declared.layout.Layout.{Layout as LayoutValue};
 
 use crate::chains::{ChainFault, Fixup};
 use crate::goals::is_bound;
 use crate::places::PAGE;
-use crate::targets::{is_text, target_of};
-use crate::words::in_rebase;
+use crate::targets::{FAR, is_text, offset_of, target_of};
 use mo_types::RangeKind;
 use sect_place::{Layout, Segment};
 use std::cmp::Ordering;
@@ -24,11 +23,11 @@ use std::cmp::Ordering;
 // The pages of a segment that may have pointers: page_count has 16 bits.
 const PAGES: u64 = 0xffff;
 
-// Whether a pointer is rebased to where no word has room for.
-fn is_far(fixup: &Fixup, target: i128) -> bool
-    ensures { result ≡ (not (imports.is_bound fixup.now.goal) && is_none (words.in_rebase target)) }
+// Whether a pointer is rebased to where no word has room for, by what is held for it.
+fn is_far(fixup: &Fixup, held: usize) -> bool
+    ensures { (layout : LayoutValue) → HasOffset layout fixup.now held → result ≡ spec.is_far layout fixup.now }
 {
-    !is_bound(&fixup.goal) && in_rebase(target).is_none()
+    !is_bound(&fixup.goal) && held == FAR
 }
 
 // Whether an address is one of a segment's at which no pointer may be.
@@ -112,22 +111,23 @@ fn is_misplaced(segments: &[Segment], free: bool, address: u64) -> bool
 }
 
 /// Why a pointer can't be on a chain, of an image that begins at `base` and whose segments may be known to be open to it,
-/// by the offset of what it leads to.
+/// by what is held for it.
 #[tactic(auto, unfolding(crate::specs::Faults::fault_of))]
 pub(crate) fn fault_of(
     layout: &Layout,
     base: u64,
     free: bool,
     fixup: &Fixup,
-    target: i128,
+    held: usize,
 ) -> Option<ChainFault>
+    requires once { AreOnce layout.now.placed }
     requires base { base ≡ spec.base_of layout.now.segments }
     requires free { IsTrue free → list_any (spec.is_closed fixup.now.address) layout.now.segments ≡ false }
-    requires target { target ≡ spec.target_of layout.now fixup.now }
+    requires offset { HasOffset layout.now fixup.now held }
     ensures { result ≡ spec.fault_of layout.now fixup.now }
 {
-    let (kind, value) = if is_far(fixup, target) {
-        (RangeKind::RebaseTarget, target)
+    let (kind, value) = if is_far(fixup, held) {
+        (RangeKind::RebaseTarget, target_of(layout, base, fixup))
     } else if is_misplaced(layout.segments.as_slice(), free, fixup.address) {
         let offset = i128::from(fixup.address) - i128::from(base);
         (RangeKind::FixupPlace, offset)
@@ -156,8 +156,8 @@ fn compare_turns(a: &Fixup, b: &Fixup) -> Ordering
     }
 }
 
-/// The index of the first pointer with a fault among those up to one, by that among those before it, and by the offset
-/// of what this one leads to.
+/// The index of the first pointer with a fault among those up to one, by that among those before it, and by what is held
+/// for this one.
 #[tactic(auto, using(crate::proofs::TurnLemmas::turning))]
 pub(crate) fn first_with(
     layout: &Layout,
@@ -166,17 +166,18 @@ pub(crate) fn first_with(
     fixups: &[Fixup],
     first: Option<usize>,
     at: usize,
-    target: i128,
+    held: usize,
 ) -> Option<usize>
+    requires once { AreOnce layout.now.placed }
     requires base { base ≡ spec.base_of layout.now.segments }
     requires free { IsTrue free → AreOpen layout.now.segments fixups.now }
     requires within { at < length fixups.now }
-    requires target { (d : Fixup) → target ≡ spec.target_of layout.now (slice_index_or fixups.now at d) }
+    requires offset { (d : Fixup) → HasOffset layout.now (slice_index_or fixups.now at d) held }
     requires first { IsFirst layout.now fixups.now at first }
     ensures { IsFirst layout.now fixups.now (at + 1) result }
 {
     let fixup = &fixups[at];
-    if fault_of(layout, base, free, fixup, target).is_none() {
+    if fault_of(layout, base, free, fixup, held).is_none() {
         return first;
     }
     match first {
@@ -202,5 +203,6 @@ pub(crate) fn first_fault(
     ensures { MatchOption result (AreSound layout.now fixups.now (length fixups.now)) (spec.IsFirstFault layout.now fixups.now) }
 {
     let fixup = &fixups[first?];
-    fault_of(layout, base, false, fixup, target_of(layout, base, fixup))
+    let held = offset_of(layout, base, fixup);
+    fault_of(layout, base, false, fixup, held)
 }

@@ -1,20 +1,24 @@
 //! The imports, each once, and in which form they are.
-ghost use Rattle.std.specs.Prelude.{◌≡◌, false, List, map, IfOk, OnOk};
+ghost use Rattle.std.specs.Prelude.{◌≡◌, false, List, [], length, map, IfOk, OnOk};
 ghost use Rattle.std.specs.List.{list_any};
+ghost use Rattle.fixup_chain.specs.Faults as faults;
 ghost use Rattle.fixup_chain.specs.Imports as spec;
 ghost use Rattle.fixup_chain.specs.declared.chains.Fixup.{Fixup as FixupValue};
-ghost use Rattle.fixup_chain.specs.inner.Held as held;
+ghost use Rattle.fixup_chain.specs.inner.Held as inner;
 ghost use Rattle.fixup_chain.specs.inner.Rows.{rows_at};
+ghost use Rattle.sect_place.specs.Addresses.{AreOnce};
+ghost use Rattle.sect_place.specs.declared.layout.Layout.{Layout as LayoutValue};
 
 use crate::chains::Fixup;
 use crate::goals::is_bound;
 use crate::import::Import;
 use crate::import_row::ImportRow;
-use crate::numbers::numbers_at;
 use crate::pool::pool_of;
+use crate::targets::ready_at;
 use crate::wide::widened;
 use indexmap::IndexSet;
 use mo_types::OutOfMemory;
+use sect_place::Layout;
 use std::alloc::Global;
 
 // The narrow form has room for places below this one.
@@ -25,58 +29,96 @@ const NARROW_POOL: usize = 1 << 23;
 pub(crate) struct Formed {
     pub(crate) wide: bool,
     pub(crate) rows: Vec<ImportRow>,
-    /// The number of each pointer's import, if it is bound.
-    pub(crate) numbers: Vec<usize>,
+    /// The number of each import, by its place among them in the order of the pointers.
+    pub(crate) ranks: Vec<usize>,
+    /// Of each pointer that is bound the place of its import there, and of each other one its offset, or `FAR`.
+    pub(crate) held: Vec<usize>,
     pub(crate) pool: Vec<u8>,
 }
 
-// What pointers are bound to, the place of each one's among it, and whether a word has no room for some addend.
+// What pointers are bound to, what is held for each, and whether a word has no room for some addend.
 #[derive(Drop)]
 struct Collected<'a> {
     imports: IndexSet<Import<'a>>,
-    places: Vec<usize>,
+    held: Vec<usize>,
     large: bool,
 }
 
 // Whether the word of a bind has no room for its addend.
 fn is_large(fixup: &Fixup) -> bool
-    ensures { result ≡ held.is_large fixup.now }
+    ensures { result ≡ inner.is_large fixup.now }
 {
     is_bound(&fixup.goal) && !(0 <= fixup.addend && fixup.addend < 256)
 }
 
-// Puts the import of a pointer that is bound into a set, and gives its place there.
+// What is held for a pointer: if it is bound, the place of its import in a set, into which that is put; else its offset,
+// which is passed.
 #[tactic(auto, using(crate::proofs::UseLemmas::noting))]
-fn note<'a>(imports: &mut IndexSet<Import<'a>>, fixup: &'a Fixup) -> Result<usize, OutOfMemory>
-    ensures keys { OnOk result (imports.new.keys ≡ held.noted held.is_same (spec.import_of false) imports.old.keys fixup.now) }
-    ensures place { IfOk result (held.HasPlace (spec.import_of false) imports.new.keys fixup.now) }
+fn hold<'a>(
+    imports: &mut IndexSet<Import<'a>>,
+    offset: usize,
+    fixup: &'a Fixup,
+) -> Result<usize, OutOfMemory>
+    ensures keys { OnOk result (imports.new.keys ≡ inner.noted inner.is_same (spec.import_of false) imports.old.keys fixup.now) }
+    ensures place { IfOk result (inner.HasPlace (spec.import_of false) imports.new.keys fixup.now) }
+    ensures offset { IfOk result (λ one. (layout : LayoutValue) → inner.HasOffset layout fixup.now offset → inner.HasOffset layout fixup.now one) }
 {
     if is_bound(&fixup.goal) {
         let (place, _) = imports.insert_full(Import::of(fixup))?;
         Ok(place)
     } else {
-        Ok(0)
+        Ok(offset)
     }
 }
 
-// What the pointers are bound to that are bound, each once, in the order of the pointers.
-#[tactic(auto, using(crate::proofs::UseLemmas::collecting))]
-fn gathered(alloc: Global, fixups: &[Fixup]) -> Result<Collected<'_>, OutOfMemory>
-    ensures imports { IfOk result (λ all. all.imports.keys ≡ held.gathered held.is_same (spec.import_of false) fixups.now) }
-    ensures places { IfOk result (λ all. held.ArePlaces (spec.import_of false) fixups.now all.imports.keys all.places.items) }
-    ensures large { IfOk result (λ all. all.large ≡ list_any held.is_large fixups.now) }
+// Gathers what the pointers are bound to that are bound, each once, in the order of the pointers, and holds something for
+// each pointer. Whether a word has no room for some addend.
+fn collect<'a>(
+    imports: &mut IndexSet<Import<'a>>,
+    held: &mut [usize],
+    layout: &Layout,
+    base: u64,
+    fixups: &'a [Fixup],
+) -> Result<bool, OutOfMemory>
+    requires once { AreOnce layout.now.placed }
+    requires base { base ≡ faults.base_of layout.now.segments }
+    requires none { imports.old.keys ≡ [] }
+    requires long { length held.old ≡ length fixups.now }
+    ensures imports { OnOk result (imports.new.keys ≡ inner.gathered inner.is_same (spec.import_of false) fixups.now) }
+    ensures places { OnOk result (inner.ArePlaces (spec.import_of false) fixups.now imports.new.keys held.new) }
+    ensures offsets { OnOk result (inner.HaveOffsets layout.now fixups.now held.new) }
+    ensures large { IfOk result (λ large. large ≡ list_any inner.is_large fixups.now) }
 {
-    let mut imports = IndexSet::new(alloc);
-    let mut places = Vec::with_capacity(alloc, fixups.len())?;
     let mut large = false;
-    for fixup in fixups {
-        let place = note(&mut imports, fixup)?;
-        places.push(place)?;
+    let mut ready = 0;
+    for (at, fixup) in fixups.iter().enumerate() {
+        ready = ready_at(held, layout, base, fixups, at, ready);
+        let one = hold(imports, held[at], fixup)?;
+        held[at] = one;
         large |= is_large(fixup);
     }
+    Ok(large)
+}
+
+fn gathered<'a>(
+    alloc: Global,
+    layout: &Layout,
+    base: u64,
+    fixups: &'a [Fixup],
+) -> Result<Collected<'a>, OutOfMemory>
+    requires once { AreOnce layout.now.placed }
+    requires base { base ≡ faults.base_of layout.now.segments }
+    ensures imports { IfOk result (λ all. all.imports.keys ≡ inner.gathered inner.is_same (spec.import_of false) fixups.now) }
+    ensures places { IfOk result (λ all. inner.ArePlaces (spec.import_of false) fixups.now all.imports.keys all.held.items) }
+    ensures offsets { IfOk result (λ all. inner.HaveOffsets layout.now fixups.now all.held.items) }
+    ensures large { IfOk result (λ all. all.large ≡ list_any inner.is_large fixups.now) }
+{
+    let mut imports = IndexSet::new(alloc);
+    let mut held = vec![in alloc; 0usize; fixups.len()]?;
+    let large = collect(&mut imports, held.as_mut_slice(), layout, base, fixups)?;
     Ok(Collected {
         imports,
-        places,
+        held,
         large,
     })
 }
@@ -95,7 +137,7 @@ fn copies<'a>(alloc: Global, imports: &[Import<'a>]) -> Result<Vec<Import<'a>>, 
 // The number of an import among those in order.
 #[tactic(auto, unfolding(crate::specs::inner::Held::rank_in))]
 fn rank_of(imports: &IndexSet<Import<'_>>, import: &Import<'_>) -> usize
-    ensures { result ≡ held.rank_in held.is_same imports.now.keys import.now }
+    ensures { result ≡ inner.rank_in inner.is_same imports.now.keys import.now }
 {
     match imports.get_index_of(import) {
         Some(at) => at,
@@ -110,7 +152,7 @@ fn ranks_of(
     imports: &IndexSet<Import<'_>>,
     some: &[Import<'_>],
 ) -> Result<Vec<usize>, OutOfMemory>
-    ensures { IfOk result (λ ranks. ranks.items ≡ map (held.rank_in held.is_same imports.now.keys) some.now) }
+    ensures { IfOk result (λ ranks. ranks.items ≡ map (inner.rank_in inner.is_same imports.now.keys) some.now) }
 {
     let mut ranks = Vec::with_capacity(alloc, some.len())?;
     for import in some {
@@ -119,28 +161,37 @@ fn ranks_of(
     Ok(ranks)
 }
 
-// The imports of the narrow form in their order, and the number of each pointer's.
+// The imports of the narrow form in their order, the number of each by its place before, and what is held for pointers.
 #[derive(Drop)]
 struct Ordered<'a> {
     imports: IndexSet<Import<'a>>,
-    numbers: Vec<usize>,
+    ranks: Vec<usize>,
+    held: Vec<usize>,
     large: bool,
 }
 
-fn in_order(alloc: Global, fixups: &[Fixup]) -> Result<Ordered<'_>, OutOfMemory>
-    ensures imports { IfOk result (λ all. all.imports.keys ≡ held.imports_in false fixups.now) }
-    ensures numbers { IfOk result (λ all. held.AreNumbers false fixups.now (held.imports_in false fixups.now) all.numbers.items) }
-    ensures large { IfOk result (λ all. all.large ≡ list_any held.is_large fixups.now) }
+fn in_order<'a>(
+    alloc: Global,
+    layout: &Layout,
+    base: u64,
+    fixups: &'a [Fixup],
+) -> Result<Ordered<'a>, OutOfMemory>
+    requires once { AreOnce layout.now.placed }
+    requires base { base ≡ faults.base_of layout.now.segments }
+    ensures imports { IfOk result (λ all. all.imports.keys ≡ inner.imports_in false fixups.now) }
+    ensures numbers { IfOk result (λ all. inner.AreNumbers false fixups.now (inner.imports_in false fixups.now) (inner.numbers_by all.ranks.items all.held.items)) }
+    ensures offsets { IfOk result (λ all. inner.HaveOffsets layout.now fixups.now all.held.items) }
+    ensures large { IfOk result (λ all. all.large ≡ list_any inner.is_large fixups.now) }
 {
-    let all = gathered(alloc, fixups)?;
+    let all = gathered(alloc, layout, base, fixups)?;
     let mut imports = all.imports;
     let used = copies(alloc, imports.as_slice())?;
     imports.sort()?;
     let ranks = ranks_of(alloc, &imports, used.as_slice())?;
-    let numbers = numbers_at(alloc, ranks.as_slice(), all.places.as_slice())?;
     Ok(Ordered {
         imports,
-        numbers,
+        ranks,
+        held: all.held,
         large: all.large,
     })
 }
@@ -148,36 +199,47 @@ fn in_order(alloc: Global, fixups: &[Fixup]) -> Result<Ordered<'_>, OutOfMemory>
 // Whether the imports are in the wide form, where the narrow one has this pool.
 #[tactic(auto, unfolding(crate::specs::Imports::is_wide))]
 fn is_wide(large: bool, pool: &[u8]) -> bool
-    ensures { (fixups : List FixupValue) → large ≡ list_any held.is_large fixups → result ≡ spec.is_wide fixups pool.now }
+    ensures { (fixups : List FixupValue) → large ≡ list_any inner.is_large fixups → result ≡ spec.is_wide fixups pool.now }
 {
     large || pool.len() >= NARROW_POOL
 }
 
-/// The imports of some pointers, in the form that has room for them. Each pointer's name is looked up once: the wide form
-/// is made of the narrow one by numbers.
+/// The imports of some pointers, in the form that has room for them, and where the pointers lead, of an image that begins
+/// at `base`. Each pointer's name or atom is looked up once: the wide form is made of the narrow one by numbers.
 #[tactic(auto, using(crate::proofs::WideLemmas::pools))]
-pub(crate) fn imports_of(alloc: Global, fixups: &[Fixup]) -> Result<Formed, OutOfMemory>
-    ensures form { IfOk result (λ formed. formed.wide ≡ spec.is_wide fixups.now (spec.pool_of (held.imports_in false fixups.now))) }
-    ensures rows { IfOk result (λ formed. formed.rows.items ≡ rows_at 1 (held.imports_in formed.wide fixups.now)) }
-    ensures numbers { IfOk result (λ formed. held.AreNumbers formed.wide fixups.now (held.imports_in formed.wide fixups.now) formed.numbers.items) }
-    ensures pool { IfOk result (λ formed. formed.pool.items ≡ spec.pool_of (held.imports_in formed.wide fixups.now)) }
+pub(crate) fn imports_of(
+    alloc: Global,
+    layout: &Layout,
+    base: u64,
+    fixups: &[Fixup],
+) -> Result<Formed, OutOfMemory>
+    requires once { AreOnce layout.now.placed }
+    requires base { base ≡ faults.base_of layout.now.segments }
+    ensures form { IfOk result (λ formed. formed.wide ≡ spec.is_wide fixups.now (spec.pool_of (inner.imports_in false fixups.now))) }
+    ensures rows { IfOk result (λ formed. formed.rows.items ≡ rows_at 1 (inner.imports_in formed.wide fixups.now)) }
+    ensures numbers { IfOk result (λ formed. inner.AreNumbers formed.wide fixups.now (inner.imports_in formed.wide fixups.now) (inner.numbers_by formed.ranks.items formed.held.items)) }
+    ensures offsets { IfOk result (λ formed. inner.HaveOffsets layout.now fixups.now formed.held.items) }
+    ensures pool { IfOk result (λ formed. formed.pool.items ≡ spec.pool_of (inner.imports_in formed.wide fixups.now)) }
 {
-    let narrow = in_order(alloc, fixups)?;
+    let narrow = in_order(alloc, layout, base, fixups)?;
     let pooled = pool_of(alloc, narrow.imports.as_slice())?;
     if is_wide(narrow.large, pooled.pool.as_slice()) {
-        let numbers = narrow.numbers.as_slice();
-        let wide = widened(alloc, pooled.rows.as_slice(), numbers, fixups)?;
+        let ranks = narrow.ranks.as_slice();
+        let held = narrow.held.as_slice();
+        let wide = widened(alloc, pooled.rows.as_slice(), ranks, held, fixups)?;
         Ok(Formed {
             wide: true,
             rows: wide.rows,
-            numbers: wide.numbers,
+            ranks: wide.ranks,
+            held: wide.held,
             pool: pooled.pool,
         })
     } else {
         Ok(Formed {
             wide: false,
             rows: pooled.rows,
-            numbers: narrow.numbers,
+            ranks: narrow.ranks,
+            held: narrow.held,
             pool: pooled.pool,
         })
     }

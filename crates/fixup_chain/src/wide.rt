@@ -1,22 +1,24 @@
 //! The imports of the wide form, which tells those of one name apart by their addends too. They are made of those of the
 //! narrow form, by the places of the names.
-ghost use Rattle.std.specs.Prelude.{◌≡◌, false, true, map, IfOk, IfSome, OnOk};
-ghost use Rattle.fixup_chain.specs.inner.Held as held;
+ghost use Rattle.std.specs.Prelude.{◌≡◌, ℕ, false, true, map, length, slice_index_or, IfNone, IfOk, IfSome, OnOk};
+ghost use Rattle.fixup_chain.specs.inner.Held as spec;
 ghost use Rattle.fixup_chain.specs.inner.Rows.{row_by, rows_at, same_row};
 
 use crate::chains::Fixup;
 use crate::goals::is_bound;
 use crate::import_row::ImportRow;
-use crate::numbers::numbers_at;
+use crate::numbers::number_at;
 use indexmap::IndexSet;
 use mo_types::OutOfMemory;
 use std::alloc::Global;
 
-/// Imports in their order, and the number of each pointer's.
+/// Imports in their order, the number of each by its place before, and what is held for each pointer: the place of its
+/// import, or what was held for it.
 #[derive(Drop)]
 pub(crate) struct WideImports {
     pub(crate) rows: Vec<ImportRow>,
-    pub(crate) numbers: Vec<usize>,
+    pub(crate) ranks: Vec<usize>,
+    pub(crate) held: Vec<usize>,
 }
 
 // What a pointer is bound to, if it is, by the number of its import in the narrow form.
@@ -36,54 +38,61 @@ fn row_of(narrow: &[ImportRow], number: usize, fixup: &Fixup) -> Option<ImportRo
     }
 }
 
-// Puts an import, if there is one, into a set, and gives its place there.
+// Puts an import, if there is one, into a set, and gives its place there, or else what was held before.
 #[tactic(auto, using(crate::proofs::UseLemmas::noting_row))]
-fn note(rows: &mut IndexSet<ImportRow>, row: Option<ImportRow>) -> Result<usize, OutOfMemory>
-    ensures keys { OnOk result (rows.new.keys ≡ held.noted_row rows.old.keys row) }
-    ensures place { IfOk result (λ place. IfSome row (held.StandsAt rows.new.keys place)) }
+fn note(
+    rows: &mut IndexSet<ImportRow>,
+    row: Option<ImportRow>,
+    before: usize,
+) -> Result<usize, OutOfMemory>
+    ensures keys { OnOk result (rows.new.keys ≡ spec.noted_row rows.old.keys row) }
+    ensures place { IfOk result (λ place. IfSome row (spec.StandsAt rows.new.keys place)) }
+    ensures other { IfOk result (λ place. IfNone row (place ≡ before)) }
 {
     match row {
         Some(row) => {
             let (place, _) = rows.insert_full(row)?;
             Ok(place)
         }
-        None => Ok(0),
+        None => Ok(before),
     }
 }
 
-// What pointers are bound to, each once, in the order of the pointers, and the place of each one's.
+// What pointers are bound to, each once, in the order of the pointers, and what is held for each.
 #[derive(Drop)]
 struct Collected {
     rows: IndexSet<ImportRow>,
-    places: Vec<usize>,
+    held: Vec<usize>,
 }
 
 #[tactic(auto, using(crate::proofs::WideLemmas::gathering))]
 fn gathered(
     alloc: Global,
     narrow: &[ImportRow],
-    numbers: &[usize],
+    ranks: &[usize],
+    before: &[usize],
     fixups: &[Fixup],
 ) -> Result<Collected, OutOfMemory>
-    requires rows { narrow.now ≡ rows_at 1 (held.imports_in false fixups.now) }
-    requires numbers { held.AreNumbers false fixups.now (held.imports_in false fixups.now) numbers.now }
-    ensures rows { IfOk result (λ all. all.rows.keys ≡ held.gathered same_row (held.row_of fixups.now) fixups.now) }
-    ensures places { IfOk result (λ all. held.ArePlaces (held.row_of fixups.now) fixups.now all.rows.keys all.places.items) }
+    requires rows { narrow.now ≡ rows_at 1 (spec.imports_in false fixups.now) }
+    requires numbers { spec.AreNumbers false fixups.now (spec.imports_in false fixups.now) (spec.numbers_by ranks.now before.now) }
+    ensures rows { IfOk result (λ all. all.rows.keys ≡ spec.gathered same_row (spec.row_of fixups.now) fixups.now) }
+    ensures places { IfOk result (λ all. spec.ArePlaces (spec.row_of fixups.now) fixups.now all.rows.keys all.held.items) }
+    ensures others { IfOk result (λ all. spec.AreOthers fixups.now before.now all.held.items) }
 {
     let mut rows = IndexSet::new(alloc);
-    let mut places = Vec::with_capacity(alloc, fixups.len())?;
+    let mut held = Vec::with_capacity(alloc, fixups.len())?;
     for (at, fixup) in fixups.iter().enumerate() {
-        let row = row_of(narrow, numbers[at], fixup);
-        let place = note(&mut rows, row)?;
-        places.push(place)?;
+        let row = row_of(narrow, number_at(ranks, before[at]), fixup);
+        let one = note(&mut rows, row, before[at])?;
+        held.push(one)?;
     }
-    Ok(Collected { rows, places })
+    Ok(Collected { rows, held })
 }
 
 // The number of an import among those in order.
 #[tactic(auto, unfolding(crate::specs::inner::Held::rank_in))]
 fn rank_of(rows: &IndexSet<ImportRow>, row: &ImportRow) -> usize
-    ensures { result ≡ held.rank_in same_row rows.now.keys row.now }
+    ensures { result ≡ spec.rank_in same_row rows.now.keys row.now }
 {
     match rows.get_index_of(row) {
         Some(at) => at,
@@ -98,7 +107,7 @@ fn ranks_of(
     rows: &IndexSet<ImportRow>,
     some: &[ImportRow],
 ) -> Result<Vec<usize>, OutOfMemory>
-    ensures { IfOk result (λ ranks. ranks.items ≡ map (held.rank_in same_row rows.now.keys) some.now) }
+    ensures { IfOk result (λ ranks. ranks.items ≡ map (spec.rank_in same_row rows.now.keys) some.now) }
 {
     let mut ranks = Vec::with_capacity(alloc, some.len())?;
     for row in some {
@@ -115,24 +124,29 @@ fn copies(alloc: Global, rows: &[ImportRow]) -> Result<Vec<ImportRow>, OutOfMemo
     Ok(copies)
 }
 
-/// The imports of the wide form, by those of the narrow one and the number of each pointer's there.
+/// The imports of the wide form, by those of the narrow one, their numbers and what is held for each pointer there.
 pub(crate) fn widened(
     alloc: Global,
     narrow: &[ImportRow],
-    numbers: &[usize],
+    ranks: &[usize],
+    held: &[usize],
     fixups: &[Fixup],
 ) -> Result<WideImports, OutOfMemory>
-    requires rows { narrow.now ≡ rows_at 1 (held.imports_in false fixups.now) }
-    requires numbers { held.AreNumbers false fixups.now (held.imports_in false fixups.now) numbers.now }
-    ensures rows { IfOk result (λ wide. wide.rows.items ≡ rows_at 1 (held.imports_in true fixups.now)) }
-    ensures numbers { IfOk result (λ wide. held.AreNumbers true fixups.now (held.imports_in true fixups.now) wide.numbers.items) }
+    requires rows { narrow.now ≡ rows_at 1 (spec.imports_in false fixups.now) }
+    requires numbers { spec.AreNumbers false fixups.now (spec.imports_in false fixups.now) (spec.numbers_by ranks.now held.now) }
+    ensures rows { IfOk result (λ wide. wide.rows.items ≡ rows_at 1 (spec.imports_in true fixups.now)) }
+    ensures numbers { IfOk result (λ wide. spec.AreNumbers true fixups.now (spec.imports_in true fixups.now) (spec.numbers_by wide.ranks.items wide.held.items)) }
+    ensures others { IfOk result (λ wide. spec.AreOthers fixups.now held.now wide.held.items) }
 {
-    let all = gathered(alloc, narrow, numbers, fixups)?;
+    let all = gathered(alloc, narrow, ranks, held, fixups)?;
     let mut rows = all.rows;
     let used = copies(alloc, rows.as_slice())?;
     rows.sort()?;
     let ranks = ranks_of(alloc, &rows, used.as_slice())?;
-    let numbers = numbers_at(alloc, ranks.as_slice(), all.places.as_slice())?;
     let rows = copies(alloc, rows.as_slice())?;
-    Ok(WideImports { rows, numbers })
+    Ok(WideImports {
+        rows,
+        ranks,
+        held: all.held,
+    })
 }

@@ -1,8 +1,10 @@
 //! The words of the pointers.
-ghost use Rattle.std.specs.Prelude.{◌≡◌, ◌<◌, ◌^◌, List, IfSome};
+ghost use Rattle.std.specs.Prelude.{◌≡◌, ℤ, ◌<◌, ◌^◌, List, IfSome, unwrap_or};
 ghost use Rattle.fixup_chain.specs.ImportOrder.{Import};
-ghost use Rattle.fixup_chain.specs.inner.Held.{HasNumber};
+ghost use Rattle.fixup_chain.specs.Faults.{target_of};
+ghost use Rattle.fixup_chain.specs.inner.Held.{HasNumber, HasOffset, offset_by};
 ghost use Rattle.fixup_chain.specs.Words as words;
+ghost use Rattle.sect_place.specs.declared.layout.Layout.{Layout};
 
 use crate::chains::Fixup;
 use crate::goals::is_bound;
@@ -30,13 +32,22 @@ fn word_addend(wide: bool, addend: i64) -> u8
     }
 }
 
-/// The word of a pointer, by the number of its import if it is bound, by the offset of what it leads to from the image's
-/// first address, and by the distance to the next one of its page.
+// The offset that is held, or 0 where no word has room for it.
+fn room_for(held: usize) -> u64
+    ensures value { (target : ℤ) → held ≡ offset_by target → result ≡ unwrap_or (words.in_rebase target) 0 }
+    ensures small { result < 2 ^ 36 }
+{
+    if held < 1 << 36 { held as u64 } else { 0 }
+}
+
+/// The word of a pointer, by the number of its import if it is bound, by what is held for it, and by the distance to the
+/// next one of its page.
 #[tactic(auto, unfolding(crate::specs::Words::word_by))]
-pub(crate) fn word_by(wide: bool, number: u32, target: i128, next: u16, fixup: &Fixup) -> u64
+pub(crate) fn word_by(wide: bool, number: u32, held: usize, next: u16, fixup: &Fixup) -> u64
     requires number { number < 2 ^ 24 }
     requires next { next < 2 ^ 12 }
-    ensures { (imports : List Import) → HasNumber wide imports fixup.now number → result ≡ words.word_by wide imports target next fixup.now }
+    ensures { (layout : Layout) (imports : List Import) → HasNumber wide imports fixup.now number → HasOffset layout fixup.now held
+        → result ≡ words.word_by wide imports (target_of layout fixup.now) next fixup.now }
 {
     if is_bound(&fixup.goal) {
         let bind = ChainedBind {
@@ -48,7 +59,7 @@ pub(crate) fn word_by(wide: bool, number: u32, target: i128, next: u16, fixup: &
         bind.word()
     } else {
         let rebase = ChainedRebase {
-            target: in_rebase(target).unwrap_or(0),
+            target: room_for(held),
             high8: 0,
             reserved: 0,
             next,

@@ -1,11 +1,13 @@
 -- How the code holds imports.
-use Rattle.std.specs.Prelude.{ℕ, ◌≡◌, ◌<◌, ◌≤◌, ◌&&◌, Bool, true, false, not, List, [], ◌∷◌, ◌++◌, length, map, position, slice_index_or, Option, Some, None, unwrap_or, if◌then◌else◌}
+use Rattle.std.specs.Prelude.{ℕ, ℤ, ◌≡◌, ◌<◌, ◌≤◌, ◌-◌, ◌^◌, ◌&&◌, Bool, true, false, not, List, [], ◌∷◌, ◌++◌, length, map, position, slice_index_or, Option, Some, None, unwrap_or, if◌then◌else◌}
 use Rattle.std.specs.Str.{bytes_eq}
 use Rattle.std.specs.Ordering.{eq_by_cmp}
 use Rattle.indexmap.specs.IndexSet.{insert_all, insert_key}
 use Rattle.fixup_chain.specs.ImportOrder.{Import, compare_imports}
+use Rattle.sect_place.specs.declared.layout.Layout.{Layout}
+use Rattle.fixup_chain.specs.Faults.{target_of}
 use Rattle.fixup_chain.specs.Imports.{bound, import_of, imports_by, is_bound, is_small}
-use Rattle.fixup_chain.specs.Words.{number_of}
+use Rattle.fixup_chain.specs.Words.{in_rebase, number_of}
 use Rattle.fixup_chain.specs.declared.chains.Fixup.{Fixup}
 use Rattle.fixup_chain.specs.declared.import_row.ImportRow.{ImportRow}
 use Rattle.fixup_chain.specs.inner.InOrder.{in_order}
@@ -54,6 +56,36 @@ pub record HasPlace {K : Type 0} (of : Fixup → K) (keys : List K) (fixup : Fix
 pub record ArePlaces {K : Type 0} (of : Fixup → K) (fixups : List Fixup) (keys : List K) (places : List ℕ) : Type 0 where
   pub size : length places ≡ length fixups
   pub each : (k : ℕ) (f : Fixup) (p : ℕ) → k < length fixups → HasPlace of keys (slice_index_or fixups k f) (slice_index_or places k p)
+
+-- the numbers at some places
+abbrev pub numbers_by : List ℕ → List ℕ → List ℕ
+numbers_by ranks places = map (λ place. slice_index_or ranks place 0) places
+
+-- more than any offset that a word has room for
+abbrev pub FAR : ℕ
+FAR = 2 ^ 64 - 1
+
+-- the offset, or what tells that no word has room for it
+unfoldable pub offset_by : ℤ → ℕ
+offset_by target = unwrap_or (in_rebase target) FAR
+
+-- what is held for a pointer that isn't bound tells its offset
+pub record HasOffset (layout : Layout) (fixup : Fixup) (held : ℕ) : Type 0 where
+  pub is : is_bound fixup.goal ≡ false → held ≡ offset_by (target_of layout fixup)
+
+-- the same of all pointers
+pub record HaveOffsets (layout : Layout) (fixups : List Fixup) (all : List ℕ) : Type 0 where
+  pub each : (k : ℕ) (f : Fixup) (h : ℕ) → k < length fixups → HasOffset layout (slice_index_or fixups k f) (slice_index_or all k h)
+
+-- the same of the pointers from one up to another
+pub record AreReady (layout : Layout) (fixups : List Fixup) (all : List ℕ) (from to : ℕ) : Type 0 where
+  pub rises : from ≤ to
+  pub within : to ≤ length fixups
+  pub each : (k : ℕ) (f : Fixup) (h : ℕ) → from ≤ k → k < to → HasOffset layout (slice_index_or fixups k f) (slice_index_or all k h)
+
+-- what is held for pointers that aren't bound is what was held before
+pub record AreOthers (fixups : List Fixup) (before now : List ℕ) : Type 0 where
+  pub each : (k : ℕ) (f : Fixup) (h : ℕ) → k < length fixups → is_bound (slice_index_or fixups k f).goal ≡ false → slice_index_or now k h ≡ slice_index_or before k h
 
 -- the number of a pointer's import, if it is bound
 pub record HasNumber (wide : Bool) (imports : List Import) (fixup : Fixup) (number : ℕ) : Type 0 where

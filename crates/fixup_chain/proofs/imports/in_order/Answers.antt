@@ -1,6 +1,6 @@
 use Rattle.std.proofs.Common.{ℕ, List, false, map, get_or, ap, ◌∙◌}
 use Rattle.fixup_chain.specs.Imports.{import_of}
-use Rattle.fixup_chain.specs.inner.Held.{is_same, rank_in}
+use Rattle.fixup_chain.specs.inner.Held.{is_same, numbers_by, rank_in}
 use Rattle.fixup_chain.proofs.ImportLemmas.{ordered_in}
 use Rattle.fixup_chain.proofs.UseLemmas.{numbers_ranked}
 use Rattle.fixup_chain.proofs.WideLemmas.{narrow_numbers}
@@ -13,12 +13,9 @@ returns-clause-imports c =
 
 pub returns-clause-numbers : goal.returns-clause-numbers
 returns-clause-numbers c =
-    narrow_numbers c.args.fixups.now c.sort.new.self.keys c.in_ok-numbers.numbers.items
-    (numbers_ranked is_same (import_of false) c.args.fixups.now c.sort.new.self.keys c.in_ok-all.all.imports.keys c.in_ok-all.all.places.items c.in_ok-ranks.ranks.items c.in_ok-numbers.numbers.items
+    narrow_numbers c.args.fixups.now c.sort.new.self.keys (numbers_by c.in_ok-ranks.ranks.items c.in_ok-all.all.held.items)
+    (numbers_ranked is_same (import_of false) c.args.fixups.now c.sort.new.self.keys c.in_ok-all.all.imports.keys c.in_ok-all.all.held.items c.in_ok-ranks.ranks.items
     c.in_ok-all.ensures.places
-    (c.in_ok-ranks.ensures ∙ ap (map (rank_in is_same c.sort.new.self.keys)) (c.as_slice-2.ensures.value ∙ c.in_ok-used.ensures ∙ c.as_slice.ensures.keys))
-    (c.in_ok-numbers.ensures
-    ∙ ap (λ (ns : List ℕ). map (λ (place : ℕ). get_or ns place 0) c.as_slice-4.result.now) c.as_slice-3.ensures.value
-    ∙ ap (map (λ (place : ℕ). get_or c.in_ok-ranks.ranks.items place 0)) c.as_slice-4.ensures.value))
+    (c.in_ok-ranks.ensures ∙ ap (map (rank_in is_same c.sort.new.self.keys)) (c.as_slice-2.ensures.value ∙ c.in_ok-used.ensures ∙ c.as_slice.ensures.keys)))
     (ordered_in c.args.fixups.now c.in_ok-all.all.imports.keys c.sort.new.self.keys c.in_ok-all.ensures.imports
     c.in_ok-sort.ensures.reordered.0 c.in_ok-sort.ensures.sorted c.in_ok-sort.ensures.unique)
