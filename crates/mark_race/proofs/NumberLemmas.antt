@@ -13,7 +13,7 @@ use Rattle.mark_core.proofs.KeyLemmas.{no_atom, same_atoms}
 use Rattle.mo_types.specs.declared.edge.Edge.{Edge}
 use Rattle.mo_types.specs.declared.key.AtomKey.{AtomKey}
 use Rattle.mark_race.specs.declared.numbers.Arrow.{Arrow}
-use Rattle.mark_race.specs.inner.Numbers.{Adds, AreNumbered, IsWithin, atom_at, edge_of}
+use Rattle.mark_race.specs.inner.Numbers.{Adds, AreNumbered, IsAt, IsWithin, atom_at, edge_of}
 
 -- ---- what is named stays named
 
@@ -36,12 +36,9 @@ wider n m le arrows all k d low = let is : IsWithin n (get_or arrows k d) = all 
 pub adds_none : (atoms : List AtomKey) (arrows : List Arrow) → Adds [] atoms arrows atoms arrows
 adds_none atoms arrows = record { each = λ all is. subst (λ (es : List Edge). AreNumbered es atoms arrows) (sym (append-nil all)) is; few = omega arith; once = λ h. h }
 
--- the place at which an atom was put among others
-pub record IsAt (atoms : List AtomKey) (atom : AtomKey) (new : List AtomKey) (at : ℕ) : Type 0 where
-  pub rest : List AtomKey
-  pub grown : new ≡ atoms ++ rest
-  pub within : at < length new
-  pub there : atom_at new at ≡ atom
+-- an atom that was there before
+pub stands_at : (atoms : List AtomKey) (atom : AtomKey) (at : ℕ) → at < length atoms → atom_at atoms at ≡ atom → IsAt atoms atom atoms at
+stands_at atoms atom at within there = record { rest = []; grown = sym (append-nil atoms); within = within; there = there }
 
 pub is_at : (atoms new : List AtomKey) (atom : AtomKey) (at : ℕ) → new ≡ insert_key same_atom atoms atom → (k : AtomKey) × (slice_get new at ≡ Some k) × (same_atom atom k ≡ true) → IsAt atoms atom new at
 is_at atoms new atom at is stored =
@@ -53,7 +50,7 @@ is_at atoms new atom at is stored =
       there = get_or_from_slice_get new at stored.0 no_atom stored.1 ∙ sym (same_atoms atom stored.0 stored.2);
     }
 
-pub adds_one : (atoms mid new : List AtomKey) (arrows new_arrows : List Arrow) (from to : AtomKey) (i j : ℕ) → IsAt atoms from mid i → IsAt mid to new j → length mid ≤ length atoms + 1 → length new ≤ length mid + 1 → IsDistinct same_atom new
+pub adds_one : (atoms mid new : List AtomKey) (arrows new_arrows : List Arrow) (from to : AtomKey) (i j : ℕ) → IsAt atoms from mid i → IsAt mid to new j → length mid ≤ length atoms + 1 → length new ≤ length mid + 1 → (IsDistinct same_atom atoms → IsDistinct same_atom new)
     → new_arrows ≡ arrows ++ record { from = i; to = j } ∷ [] → Adds (record { from = from; to = to } ∷ []) atoms arrows new new_arrows
 adds_one atoms mid new arrows new_arrows from to i j first second one two apart grown = record {
   each = λ all is. subst (AreNumbered (all ++ edge ∷ []) new) (sym grown) (record {
@@ -62,7 +59,7 @@ adds_one atoms mid new arrows new_arrows from to i j first second one two apart 
         (All-cons (IsWithin (length new)) arrow [] (omega (arith, first.within, shorter_mid), second.within) (All-nil (IsWithin (length new))));
   });
   few = omega (arith, one, two);
-  once = λ h. apart;
+  once = apart;
 }
   where
     arrow : Arrow

@@ -1,9 +1,9 @@
 //! The atoms that arrows name, by numbers.
-ghost use Rattle.std.specs.Prelude.{◌≡◌, ◌+◌, ◌*◌, ◌^◌, ◌<◌, ◌≤◌, ◌++◌, ◌∷◌, [], length, map, IfOk, OnOk};
+ghost use Rattle.std.specs.Prelude.{◌≡◌, ◌+◌, ◌*◌, ◌^◌, ◌<◌, ◌≤◌, ◌++◌, ◌∷◌, [], length, map, IfOk, IsTrue, OnOk};
 ghost use Rattle.std.specs.List.{IsDistinct};
 ghost use Rattle.mark_core.specs.Kept.{same_atom};
 ghost use Rattle.mark_core.specs.inner.Arrows.{reversed};
-ghost use Rattle.mark_race.specs.inner.Numbers.{Adds, AreNumbered};
+ghost use Rattle.mark_race.specs.inner.Numbers.{Adds, AreNumbered, IsAt, atom_at};
 
 use indexmap::IndexSet;
 use mo_types::{AtomKey, Edge, OutOfMemory};
@@ -23,14 +23,50 @@ pub(crate) struct Numbered {
     pub(crate) arrows: Vec<Arrow>,
 }
 
-// Puts an arrow behind the others.
+// Whether an atom has a number.
+fn is_at(atoms: &IndexSet<AtomKey>, number: usize, atom: &AtomKey) -> bool
+    ensures { IsTrue result → (number < length atoms.now.keys) × (atom_at atoms.now.keys number ≡ atom.now) }
+{
+    match atoms.get_index(number) {
+        Some(found) => found == atom,
+        None => false,
+    }
+}
+
+// The number of an atom, to which one is given where it has none. It isn't looked up if it has one that it may have.
+fn number_of(
+    atoms: &mut IndexSet<AtomKey>,
+    maybe: usize,
+    atom: AtomKey,
+) -> Result<usize, OutOfMemory>
+    ensures place { IfOk result (IsAt atoms.old.keys atom atoms.new.keys) }
+    ensures few { OnOk result (length atoms.new.keys ≤ length atoms.old.keys + 1) }
+    ensures once { OnOk result (IsDistinct same_atom atoms.old.keys → IsDistinct same_atom atoms.new.keys) }
+{
+    if is_at(atoms, maybe, &atom) {
+        return Ok(maybe);
+    }
+    let (number, _) = atoms.insert_full(atom)?;
+    Ok(number)
+}
+
+// The number of the last arrow's source.
+fn last_source(arrows: &[Arrow]) -> usize {
+    match arrows.last() {
+        Some(arrow) => arrow.from as usize,
+        None => 0,
+    }
+}
+
+// Puts an arrow behind the others. Arrows from one atom mostly stand together.
 fn add(numbered: &mut Numbered, from: AtomKey, to: AtomKey) -> Result<(), OutOfMemory>
     requires few { length numbered.old.atoms.keys + 2 < 2 ^ 32 }
     ensures { OnOk result (Adds (record { from = from; to = to } ∷ []) numbered.old.atoms.keys numbered.old.arrows.items
         numbered.new.atoms.keys numbered.new.arrows.items) }
 {
-    let (from, _) = numbered.atoms.insert_full(from)?;
-    let (to, _) = numbered.atoms.insert_full(to)?;
+    let maybe = last_source(numbered.arrows.as_slice());
+    let from = number_of(&mut numbered.atoms, maybe, from)?;
+    let to = number_of(&mut numbered.atoms, from, to)?;
     numbered.arrows.push(Arrow {
         from: from as u32,
         to: to as u32,

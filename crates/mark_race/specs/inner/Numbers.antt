@@ -25,6 +25,13 @@ pub record AreNumbered (all : List Edge) (atoms : List AtomKey) (arrows : List A
   pub named : map (edge_of atoms) arrows ≡ all
   pub within : All (IsWithin (length atoms)) arrows
 
+-- the place at which an atom was put among others, behind which only such stand as weren't there
+pub record IsAt (atoms : List AtomKey) (atom : AtomKey) (new : List AtomKey) (at : ℕ) : Type 0 where
+  pub rest : List AtomKey
+  pub grown : new ≡ atoms ++ rest
+  pub within : at < length new
+  pub there : atom_at new at ≡ atom
+
 -- arrows are put behind others, and atoms that weren't named before behind those that were
 pub record Adds (more : List Edge) (atoms : List AtomKey) (arrows : List Arrow) (new_atoms : List AtomKey) (new_arrows : List Arrow) : Type 0 where
   pub each : (all : List Edge) → AreNumbered all atoms arrows → AreNumbered (all ++ more) new_atoms new_arrows
