@@ -17,3 +17,4 @@ pub mod OneLemmas
 pub mod OneOrder
 pub mod Drawn
 pub mod MapLemmas
+pub mod PartsLaws

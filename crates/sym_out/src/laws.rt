@@ -19,7 +19,8 @@ ghost use Rattle.symbol_winners.specs.declared.winner.Winner.{Winner};
 ghost use Rattle.sym_out.specs.Entries.{Entry};
 ghost use Rattle.sym_out.specs.Laws.{HasMap, HaveSizes, IsItsSymbol, IsNamed, IsOne, LeadsToSymbol};
 ghost use Rattle.sym_out.specs.Map.{IsMap};
-ghost use Rattle.sym_out.specs.Symbols.{Ranges, exported_entry, undefined_entry};
+ghost use Rattle.sym_out.specs.Symbols.{AreSymbolParts, Ranges, exported_entry, undefined_entry};
+ghost use Rattle.sym_out.specs.declared.parts.SymbolParts.{SymbolParts};
 
 /// The sizes of an image's symbols and of its indirect table are known by the counts of both.
 pub fn sizes_are_counts()
@@ -62,4 +63,13 @@ pub fn maps_are_one()
     ensures one { (placed : List Placed) (atoms : List Atom) (files : List LoadedFile) (lines : List ℕ) (others : List ℕ)
         → AllPairs (λ (a : Atom) (b : Atom). a.key ≢ b.key) atoms → IsMap placed atoms files lines → IsMap placed atoms files others
         → lines ≡ others }
+{}
+
+/// The parts that have an image's symbols are one: of whole files and their symbol table no others meet what
+/// `write_symbols` answers.
+pub fn parts_are_one()
+    ensures { (command : Command) (loaded : Loaded) (layout : Layout) (slots : Slots) (bound : List Goal) (symbols : SymbolTable)
+        (parts : SymbolParts) (other : SymbolParts) → IsWholeLoaded loaded → IsSymbolTable command loaded.files symbols
+        → AreSymbolParts layout slots bound symbols loaded.files parts → AreSymbolParts layout slots bound symbols loaded.files other
+        → parts ≡ other }
 {}

@@ -30,7 +30,7 @@
 //!
 //! The laws say that the sizes of the parts are known by counts, that each symbol leads to its name, that a stub or
 //! slot leads to a symbol of its goal's name, that a bound goal and a winner that other images see have one symbol
-//! each, that a winner's word tells the symbol that won, and that a map is one. A body that lists atoms by key, one
+//! each, that a winner's word tells the symbol that won, and that the parts and a map are one. A body that lists atoms by key, one
 //! that takes the last name of an atom, one that writes a winner at its own literal, and one that tells no symbol for
 //! an import don't meet the contracts.
 #![tactic(auto)]
@@ -48,8 +48,9 @@ mod sites;
 mod sizes;
 
 pub use laws::{
-    bound_goals_have_one_symbol, exported_winners_have_one_symbol, maps_are_one, sizes_are_counts,
-    slots_lead_to_symbols, symbols_lead_to_their_names, winners_lead_to_their_symbols,
+    bound_goals_have_one_symbol, exported_winners_have_one_symbol, maps_are_one, parts_are_one,
+    sizes_are_counts, slots_lead_to_symbols, symbols_lead_to_their_names,
+    winners_lead_to_their_symbols,
 };
 pub use map::write_map;
 pub use parts::{SymbolParts, write_symbols};
