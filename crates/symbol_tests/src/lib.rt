@@ -1,9 +1,12 @@
 //! Tests of an image's symbols and map, outside of the crate: the check of a crate's tests proves the crate once more, and
 //! here it needn't.
 //!
-//! `given` has a file, a layout of its atoms and goals, put together by hand, and `writing` what is written of them.
+//! `given` puts files, layouts and goals together by tables, `cases` has images with what is written of them, and `writing`
+//! has it written.
 #![tactic(auto)]
 
+#[cfg(test)]
+mod cases;
 #[cfg(test)]
 mod given;
 #[cfg(test)]

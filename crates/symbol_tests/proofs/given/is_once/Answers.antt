@@ -1,25 +1,19 @@
-use Rattle.std.proofs.Common.{◌≡◌, ℕ, ◌-◌, ◌<◌, ◌≤◌, List, length, get_or, ap, sym, ◌∙◌, arith}
+use Rattle.std.proofs.Common.{◌≡◌, get_or, arith}
 use Rattle.std.specs.Ordering.{on}
 use Rattle.std.specs.declared.cmp.Ordering.TheVariants.{Less}
 use Rattle.std.proofs.lemmas.Cmp.{tied_itself}
-use Rattle.std.proofs.lemmas.List.{get_or_default}
 use Rattle.std.proofs.lemmas.List.Sorted.{all_adjacent_more}
 use Rattle.atom_index.proofs.Keys.{rises_from}
 use Rattle.list_lemmas.proofs.Rising.{rising_at}
 use Rattle.mo_types.proofs.KeyOrder.{compare_keys_total}
 use Rattle.mo_types.specs.Keys.{compare_keys}
 use Rattle.sect_place.specs.declared.layout.Placed.{Placed}
+use Rattle.symbol_tests.proofs.Rise.{apart}
 use Rattle.symbol_tests.proofs.given.is_once.Goals as goal
-
-apart : (placed : List Placed) (i : ℕ) (a b d : Placed) → 1 ≤ i → i < length placed → Less ≡ compare_keys (get_or placed (i - 1) a).atom (get_or placed i b).atom → compare_keys (get_or placed (i - 1) d).atom (get_or placed i d).atom ≡ Less
-apart placed i a b d low high less =
-    let first : get_or placed (i - 1) d ≡ get_or placed (i - 1) a = get_or_default placed (i - 1) d a (omega arith) in
-    let second : get_or placed i d ≡ get_or placed i b = get_or_default placed i d b high in
-    ap (λ (x : Placed). compare_keys x.atom (get_or placed i d).atom) first ∙ (ap (λ (x : Placed). compare_keys (get_or placed (i - 1) a).atom x.atom) second ∙ sym less)
 
 pub loop-i-preserved : goal.loop-i-preserved
 loop-i-preserved c = all_adjacent_more c.args.placed.now (λ (a : Placed) (b : Placed). compare_keys a.atom b.atom ≡ Less) c.loop-i.i (omega arith) c.loop-i.invariant
-    (λ d. apart c.args.placed.now c.loop-i.i _ _ d (omega arith) c.loop-i-test.true c.in-Less.ensures)
+    (λ d. apart (λ (x y : Placed). compare_keys x.atom y.atom) c.args.placed.now c.loop-i.i _ _ d (omega arith) c.loop-i-test.true c.in-Less.ensures)
 
 pub returns : goal.returns
 returns c = λ _ i j d low high same.
