@@ -6,15 +6,15 @@ ghost use Rattle.sect_place.specs.Addresses.{AreOnce};
 
 use atom_cut::cut;
 use mo_types::{
-    AtomKey, Bytes, Goal, GoalList, KeyList, Loaded, LoadedFile, LoadedList, Object, OutOfMemory,
-    Section, SectionList, Symbol, SymbolKind, SymbolList, UnwindList,
+    AtomKey, AtomList, Bytes, Goal, GoalList, KeyList, Loaded, LoadedFile, LoadedList, Object,
+    OutOfMemory, Section, SectionList, Symbol, SymbolKind, SymbolList, UnwindList,
 };
 use reloc_read::refs_of;
 use sect_place::{Layout, Placed, PlacedList, PlacedSection, PlacedSectionList, SegmentList};
 use slot_plan::{Need, NeedList, Way};
 use std::alloc::Global;
 use std::cmp::Ordering;
-use test_objects::{defined, file_id, key, object, out_section, section, symbol};
+use test_objects::{atom, defined, file_id, key, object, out_section, section, symbol};
 
 /// What a symbol is, by the number of its section and its address there, or by a common symbol's alignment and size.
 #[derive(Clone, Copy)]
@@ -55,6 +55,8 @@ pub enum Lead {
 pub struct ImageRow {
     pub files: &'static [FileRow],
     pub sections: &'static [PlacedRow],
+    /// The atoms of common symbols, and their sizes.
+    pub commons: &'static [((u16, u16, u64), u64)],
     /// `_puts` of the library of a number, or with 0 of any image, and whether it may be missing.
     pub bound: &'static [(u8, bool)],
     /// What has a slot, and whether by a stub.
@@ -231,6 +233,18 @@ pub fn layout_of(alloc: Global, rows: &[PlacedRow]) -> Result<Layout, OutOfMemor
         sections,
         placed: PlacedList::from_vec(alloc, placed)?,
     })
+}
+
+/// Atoms, and those of common symbols.
+pub fn with_commons(
+    before: AtomList,
+    rows: &[((u16, u16, u64), u64)],
+) -> Result<AtomList, OutOfMemory> {
+    let mut atoms = before;
+    for (place, size) in rows {
+        atoms.push(atom(key_of(*place), *size, 3))?;
+    }
+    Ok(atoms)
 }
 
 /// Whether no atom is placed twice.

@@ -14,7 +14,7 @@ use crate::cases::{
     Case, EMPTY, HELLO, MAY_BE_MISSING, OF_ALL_KINDS, OF_ANY_IMAGE, ONE_FUNCTION, ONE_STRING,
     Wanted,
 };
-use crate::given::{ImageRow, bound_of, is_once, layout_of, loaded_of, needs_of};
+use crate::given::{ImageRow, bound_of, is_once, layout_of, loaded_of, needs_of, with_commons};
 use command_line::Command;
 use mo_cmd::read_all_words;
 use mo_format::Nlist;
@@ -155,7 +155,7 @@ fn atoms_of(alloc: Global, loaded: &Loaded) -> Result<AtomList, OutOfMemory> {
 fn is_map(alloc: Global, image: &ImageRow, loaded: &Loaded, map: &[u8]) -> Result<bool, OutOfMemory>
     requires { IsWholeLoaded loaded.now }
 {
-    let kept = atoms_of(alloc, loaded)?;
+    let kept = with_commons(atoms_of(alloc, loaded)?, image.commons)?;
     let layout = layout_of(alloc, image.sections)?;
     if !are_small(kept.as_slice()) || !is_once(layout.placed.as_slice()) {
         return Ok(false);
