@@ -96,13 +96,14 @@ fn local_at<'a>(
     symbol: &'a Symbol,
     index: u32,
     place: Place,
+    near: &mut usize,
 ) -> Option<Local<'a>>
     ensures { result ≡ spec.local_at sites.now (record { file = file.now; index = index; symbol = symbol.now }) place }
 {
     if is_own(symbol.name.as_slice()) {
         return None;
     }
-    let site = sites.find(&place.atom)?;
+    let site = sites.find(near, &place.atom)?;
     Some(Local {
         file,
         symbol,
@@ -114,7 +115,12 @@ fn local_at<'a>(
 
 // A file's symbol of an index, if no other file sees it and it is written.
 #[tactic(auto, unfolding(crate::specs::Symbols::own_local))]
-fn own_local<'a>(sites: &Sites<'a>, file: &'a LoadedFile, index: u32) -> Option<Local<'a>>
+fn own_local<'a>(
+    sites: &Sites<'a>,
+    file: &'a LoadedFile,
+    index: u32,
+    near: &mut usize,
+) -> Option<Local<'a>>
     requires whole { IsWholeFile file.now }
     requires index { index < length file.now.object.symbols }
     ensures { (d : Declared) → result ≡ spec.own_local sites.now (record { file = file.now; index = index; symbol = slice_index_or file.now.object.symbols index d }) }
@@ -124,7 +130,7 @@ fn own_local<'a>(sites: &Sites<'a>, file: &'a LoadedFile, index: u32) -> Option<
         return None;
     }
     let place = place_of(file, index)?;
-    local_at(sites, file, symbol, index, place)
+    local_at(sites, file, symbol, index, place, near)
 }
 
 // The symbol of a winner, if no other image sees it and it is written.
@@ -148,7 +154,8 @@ fn hidden_local<'a>(
         atom: symbols.representative(winner.atom),
         offset: winner.offset,
     };
-    local_at(sites, file, symbol, index, place)
+    let mut near = 0;
+    local_at(sites, file, symbol, index, place, &mut near)
 }
 
 // Appends the symbols of a file that no other file sees.
@@ -160,8 +167,9 @@ fn push_own<'a>(
     requires { IsWholeFile file.now }
     ensures { OnOk result (locals.new.items ≡ locals.old.items ++ filter_map (spec.own_local sites.now) (symbols_in file.now)) }
 {
+    let mut near = 0;
     for index in 0..file.object.symbols.len() as u32 {
-        if let Some(local) = own_local(sites, file, index) {
+        if let Some(local) = own_local(sites, file, index, &mut near) {
             locals.push(local)?;
         }
     }

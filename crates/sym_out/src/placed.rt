@@ -4,7 +4,7 @@ ghost use Rattle.atom_index.specs.Stands.{StandsAt};
 ghost use Rattle.sect_place.specs.Addresses.{AreOnce};
 ghost use Rattle.sym_out.specs.inner.Tables.{atom_of};
 
-use atom_index::AtomIndex;
+use atom_index::{AtomIndex, is_at};
 use mo_types::{AtomKey, OutOfMemory};
 use sect_place::{Layout, Placed};
 use std::alloc::Global;
@@ -60,5 +60,16 @@ impl<'a> PlacedAtoms<'a> {
         ensures once { AreOnce self.now }
     {
         self.hints.find(self.placed, atom)
+    }
+
+    /// The same, of an atom that mostly stands at a place.
+    pub fn find_near(&self, near: usize, atom: &AtomKey) -> Option<usize>
+        ensures found { MatchOption result (All (λ p. p.atom ≢ atom.now) self.now) (StandsAt atom_of self.now atom.now) }
+        ensures once { AreOnce self.now }
+    {
+        if is_at(self.placed, near, atom) {
+            return Some(near);
+        }
+        self.find(atom)
     }
 }

@@ -135,7 +135,8 @@ fn exported_entry<'a>(sites: &Sites, symbols: &SymbolTable, winner: &'a Winner) 
     if !winner.exported {
         return None;
     }
-    let site = sites.find(&symbols.representative(winner.atom))?;
+    let mut near = 0;
+    let site = sites.find(&mut near, &symbols.representative(winner.atom))?;
     Some(Entry {
         name: winner.name.as_slice(),
         n_value: site.address.wrapping_add(winner.offset),

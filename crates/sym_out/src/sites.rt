@@ -36,16 +36,27 @@ fn or_number(number: u8, other: u8) -> u8
     if number == NO_SECT { other } else { number }
 }
 
-// Notes the section of a number as an atom's own, unless it has one.
-fn note(numbers: &mut Vec<u8>, placed: &PlacedAtoms, atom: &AtomKey, number: u8)
+// Notes the section of a number as the own of an atom that mostly stands at a place, unless it has one. Answers the place
+// behind it.
+fn note(
+    numbers: &mut Vec<u8>,
+    placed: &PlacedAtoms,
+    near: usize,
+    atom: &AtomKey,
+    number: u8,
+) -> usize
     requires numbers { length numbers.old.items ≡ length placed.now }
     ensures size { length numbers.new.items ≡ length numbers.old.items }
     ensures noted { (f : Key → ℕ) → AreNumbers f placed.now numbers.old.items
         → AreNumbers (numbered f number (atom.now ∷ [])) placed.now numbers.new.items }
 {
-    if let Some(at) = placed.find(atom) {
-        let known = &mut numbers[at];
-        *known = or_number(*known, number);
+    match placed.find_near(near, atom) {
+        Some(at) => {
+            let known = &mut numbers[at];
+            *known = or_number(*known, number);
+            at.saturating_add(1)
+        }
+        None => near,
     }
 }
 
@@ -56,8 +67,9 @@ fn note_atoms(numbers: &mut Vec<u8>, placed: &PlacedAtoms, atoms: &[AtomKey], nu
     ensures noted { (f : Key → ℕ) → AreNumbers f placed.now numbers.old.items
         → AreNumbers (numbered f number atoms.now) placed.now numbers.new.items }
 {
+    let mut near = 0;
     for atom in atoms {
-        note(numbers, placed, atom, number);
+        near = note(numbers, placed, near, atom, number);
     }
 }
 
@@ -118,12 +130,14 @@ impl<'a> Sites<'a> {
         })
     }
 
-    /// Where an atom stands, or `None` exactly where it isn't placed. Takes no memory.
-    pub fn find(&self, atom: &AtomKey) -> Option<Site<'a>>
+    /// Where an atom stands, or `None` exactly where it isn't placed. The search begins at a place, which becomes the one
+    /// behind the atom. Takes no memory.
+    pub fn find(&self, near: &mut usize, atom: &AtomKey) -> Option<Site<'a>>
         ensures { result ≡ spec.site_of self.now atom.now }
     {
-        match self.placed.find(atom) {
+        match self.placed.find_near(*near, atom) {
             Some(at) => {
+                *near = at.saturating_add(1);
                 let placed = &self.placed.as_slice()[at];
                 Some(Site {
                     atom: &placed.atom,

@@ -11,10 +11,10 @@ loop-atom-init c = record {
 
 pub loop-atom-preserved : goal.loop-atom-preserved
 loop-atom-preserved c = record {
-  size = c.note.ensures.size ∙ c.loop-atom.invariant.size;
+  size = c.note-near.ensures.size ∙ c.loop-atom.invariant.size;
   noted = λ f are.
-      atoms_go_on f c.args.placed.now c.note.new.numbers.items c.args.number c.loop-atom.atom-index c.args.atoms.now _ c.loop-atom-test.true
-      (c.note.ensures.noted (numbered f c.args.number (take c.loop-atom.atom-index c.args.atoms.now)) (c.loop-atom.invariant.noted f are));
+      atoms_go_on f c.args.placed.now c.note-near.new.numbers.items c.args.number c.loop-atom.atom-index c.args.atoms.now _ c.loop-atom-test.true
+      (c.note-near.ensures.noted (numbered f c.args.number (take c.loop-atom.atom-index c.args.atoms.now)) (c.loop-atom.invariant.noted f are));
 }
 
 pub returns-clause-noted : goal.returns-clause-noted
