@@ -19,6 +19,11 @@
 //!   lead to so many atoms
 //! - `chains COUNT NAMES ATOMS`: the same, whose chains `fixup_chain::encode` gives
 //! - `imports COUNT`: pointers with so many imports, the first of which can't be on a chain
+//! - `kept ATOMS EDGES`, `raced WORKERS ATOMS EDGES`: what so many edges lead to from a thousandth of the atoms, found by
+//!   `mark_core::kept_from` and by `mark_race::kept_by`
+//! - `entries COUNT KIND`: so many unwind entries, of one of four kinds, read by `unwind_read::unwind_of`
+//! - `named COUNT`: a file with so many symbols, every second of which wins its name
+//! - `symbols COUNT`: the same, whose symbols `sym_out::write_symbols` writes
 //! - `providers LIBRARIES NAMES`: 100,000 names looked up in them by `lib_bind::provider_of`
 //! - `image PATH ADDRESS COUNT`: so many pointers of an image, read by `image_read::fixup_at`
 //! - `yaml PATH TIMES`: the text of a stub library, read so often by `tbd_yaml::read_yaml`
@@ -28,15 +33,17 @@
 //!
 //! A word `then` ends a call's words, and those of another call follow. What each call counted is printed, a line each.
 //! The milliseconds that a call took go to standard error, of `fill`, `seal`, `hash`, `patch`, `unwind`, `section`, `chains`,
-//! `imports` and `generate` the microseconds; `fan`, `image`, `yaml` and `stub` are timed by the program as a whole.
+//! `imports`, `kept`, `raced`, `entries`, `symbols` and `generate` the microseconds; `fan`, `image`, `yaml` and `stub` are timed by the program as a whole.
 #![tactic(auto)]
 
 mod branches;
 mod chains;
+mod entries;
 mod fields;
 mod fixups;
 mod given;
 mod jobs;
+mod keeping;
 mod libraries;
 mod made;
 mod names;
@@ -46,19 +53,23 @@ mod once;
 mod order;
 mod places;
 mod seals;
+mod symbols;
 mod tables;
 mod texts;
 mod unwinding;
 
 use crate::branches::fill_by;
 use crate::chains::{encode_chains, encode_imports, make_pointers};
+use crate::entries::read_entries;
 use crate::fields::patch_fields;
 use crate::fixups::read_fixups;
 use crate::jobs::fan_out;
+use crate::keeping::{keep, keep_by};
 use crate::libraries::{closure_of, providers};
 use crate::made::{make_objects, write_object};
 use crate::places::places;
 use crate::seals::{hash_image, seal_image};
+use crate::symbols::image_symbols;
 use crate::tables::{archive, number_names, slot_lists};
 use crate::texts::{read_stub, read_text};
 use crate::unwinding::{unwinding, unwinding_to};
@@ -95,6 +106,8 @@ fn call_on_pair<T: Threads + Sync>(
         "places" => places(rt, u16::try_from(first)?, second),
         "closure" => closure_of(rt, u16::try_from(first)?, second),
         "providers" => providers(rt, u16::try_from(first)?, second),
+        "kept" => keep(rt, first, second),
+        "entries" => read_entries(rt, first, second),
         _ => bail!("want the name of a call of two numbers"),
     }
 }
@@ -112,6 +125,18 @@ fn call_on_triple(rt: &HostRuntime, name: &str, first: u32, second: u32, third: 
     }
 }
 
+// The same of one number.
+fn call_on_one(rt: &HostRuntime, name: &str, number: u64) -> Result<()> {
+    match name {
+        "patch" => patch_fields(rt, number),
+        "generate" => make_objects(rt, small(number)?),
+        "imports" => encode_imports(rt, small(number)?),
+        "named" => image_symbols(rt, small(number)?, false),
+        "symbols" => image_symbols(rt, small(number)?, true),
+        _ => bail!("want the name of a call of one number"),
+    }
+}
+
 // Calls on what they make themselves.
 fn call_on_numbers<T: Threads + Sync>(
     rt: &HostRuntime,
@@ -120,9 +145,7 @@ fn call_on_numbers<T: Threads + Sync>(
     numbers: &[u64],
 ) -> Result<()> {
     match numbers {
-        [atoms] if name == "patch" => patch_fields(rt, *atoms),
-        [count] if name == "generate" => make_objects(rt, small(*count)?),
-        [count] if name == "imports" => encode_imports(rt, small(*count)?),
+        [number] => call_on_one(rt, name, *number),
         [first, second] => call_on_pair(rt, threads, name, small(*first)?, small(*second)?),
         [workers, jobs, steps] if name == "fan" => fan_out(
             rt,
@@ -131,6 +154,15 @@ fn call_on_numbers<T: Threads + Sync>(
             small(*jobs)?,
             small(*steps)?,
         ),
+        [workers, atoms, edges] if name == "raced" => {
+            keep_by(
+                rt,
+                threads,
+                small(*workers)?,
+                small(*atoms)?,
+                small(*edges)?,
+            )
+        }
         [first, second, third] => {
             call_on_triple(rt, name, small(*first)?, small(*second)?, small(*third)?)
         }
