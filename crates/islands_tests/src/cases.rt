@@ -173,202 +173,204 @@ fn first_wrong(alloc: Global, cases: &[(&'static str, Case)]) -> &'static str {
 }
 
 // Functions of 2,048 bytes are groups of their own where branches reach 4,096 bytes.
+const OUT_OF_REACH: &[(&str, Case<'static>)] = &[
+    (
+        "two islands",
+        Case {
+            reach: 4096,
+            sizes: &[2048, 2048, 2048],
+            branches: &[(0, 0, To::Start(2)), (0, 4, To::Stub(0))],
+            islands: &[(0, To::Stub(0)), (0, To::Start(2))],
+            ways: &[Some(1), Some(0)],
+        },
+    ),
+    (
+        "a function larger than the reach",
+        Case {
+            reach: 4096,
+            sizes: &[8192, 2048, 2048],
+            branches: &[(0, 0, To::Start(2))],
+            islands: &[(0, To::Start(2))],
+            ways: &[Some(0)],
+        },
+    ),
+    (
+        "just in reach",
+        Case {
+            reach: 4096,
+            sizes: &[2048, 2032, 4],
+            branches: &[(0, 0, To::Start(2))],
+            islands: &[],
+            ways: &[None],
+        },
+    ),
+    (
+        "one pushes another",
+        Case {
+            reach: 4096,
+            sizes: &[2048, 2044, 4, 4],
+            branches: &[(0, 0, To::Start(3)), (0, 4, To::Start(2))],
+            islands: &[(0, To::Start(2)), (0, To::Start(3))],
+            ways: &[Some(1), Some(0)],
+        },
+    ),
+    (
+        "three rounds",
+        Case {
+            reach: 4096,
+            sizes: &[2048, 2012, 16, 16, 4, 4],
+            branches: &[
+                (0, 0, To::Start(5)),
+                (0, 4, To::Start(4)),
+                (0, 8, To::Start(3)),
+                (0, 12, To::Start(2)),
+            ],
+            islands: &[(0, To::Start(3)), (0, To::Start(4)), (0, To::Start(5))],
+            ways: &[Some(2), Some(1), Some(0), None],
+        },
+    ),
+    (
+        "two of a group to one target, and one of another group",
+        Case {
+            reach: 4096,
+            sizes: &[1024, 1024, 2048, 2048, 4],
+            branches: &[
+                (0, 0, To::Start(4)),
+                (1, 4, To::Start(4)),
+                (2, 0, To::Start(4)),
+                (3, 0, To::Start(4)),
+            ],
+            islands: &[(1, To::Start(4)), (2, To::Start(4))],
+            ways: &[Some(0), Some(0), Some(1), None],
+        },
+    ),
+    (
+        "the default reach",
+        Case {
+            reach: 134_217_728,
+            sizes: &[0x400_0000, 0x400_0000, 4],
+            branches: &[(0, 0, To::Start(2)), (0, 4, To::Start(2))],
+            islands: &[(0, To::Start(2))],
+            ways: &[Some(0), Some(0)],
+        },
+    ),
+];
+
 #[test]
 fn branches_out_of_reach(rt: HostRuntime) -> Result<(), Fail> {
-    let cases = [
-        (
-            "two islands",
-            Case {
-                reach: 4096,
-                sizes: &[2048, 2048, 2048],
-                branches: &[(0, 0, To::Start(2)), (0, 4, To::Stub(0))],
-                islands: &[(0, To::Stub(0)), (0, To::Start(2))],
-                ways: &[Some(1), Some(0)],
-            },
-        ),
-        (
-            "a function larger than the reach",
-            Case {
-                reach: 4096,
-                sizes: &[8192, 2048, 2048],
-                branches: &[(0, 0, To::Start(2))],
-                islands: &[(0, To::Start(2))],
-                ways: &[Some(0)],
-            },
-        ),
-        (
-            "just in reach",
-            Case {
-                reach: 4096,
-                sizes: &[2048, 2032, 4],
-                branches: &[(0, 0, To::Start(2))],
-                islands: &[],
-                ways: &[None],
-            },
-        ),
-        (
-            "one pushes another",
-            Case {
-                reach: 4096,
-                sizes: &[2048, 2044, 4, 4],
-                branches: &[(0, 0, To::Start(3)), (0, 4, To::Start(2))],
-                islands: &[(0, To::Start(2)), (0, To::Start(3))],
-                ways: &[Some(1), Some(0)],
-            },
-        ),
-        (
-            "three rounds",
-            Case {
-                reach: 4096,
-                sizes: &[2048, 2012, 16, 16, 4, 4],
-                branches: &[
-                    (0, 0, To::Start(5)),
-                    (0, 4, To::Start(4)),
-                    (0, 8, To::Start(3)),
-                    (0, 12, To::Start(2)),
-                ],
-                islands: &[(0, To::Start(3)), (0, To::Start(4)), (0, To::Start(5))],
-                ways: &[Some(2), Some(1), Some(0), None],
-            },
-        ),
-        (
-            "two of a group to one target, and one of another group",
-            Case {
-                reach: 4096,
-                sizes: &[1024, 1024, 2048, 2048, 4],
-                branches: &[
-                    (0, 0, To::Start(4)),
-                    (1, 4, To::Start(4)),
-                    (2, 0, To::Start(4)),
-                    (3, 0, To::Start(4)),
-                ],
-                islands: &[(1, To::Start(4)), (2, To::Start(4))],
-                ways: &[Some(0), Some(0), Some(1), None],
-            },
-        ),
-        (
-            "the default reach",
-            Case {
-                reach: 134_217_728,
-                sizes: &[0x400_0000, 0x400_0000, 4],
-                branches: &[(0, 0, To::Start(2)), (0, 4, To::Start(2))],
-                islands: &[(0, To::Start(2))],
-                ways: &[Some(0), Some(0)],
-            },
-        ),
-    ];
-    assert_eq!(rt; first_wrong(rt.alloc(), &cases), "");
+    assert_eq!(rt; first_wrong(rt.alloc(), OUT_OF_REACH), "");
     Ok(())
 }
 
 // Targets that aren't functions, or lie between their words, and branches that aren't in `__text`.
+const OTHER_TARGETS: &[(&str, Case<'static>)] = &[
+    (
+        "data, near as it is",
+        Case {
+            reach: 134_217_728,
+            sizes: &[64, 64],
+            branches: &[
+                (0, 0, To::Data),
+                (1, 0, To::DataPlus(4)),
+                (1, 4, To::Constant),
+            ],
+            islands: &[(1, To::Data), (1, To::DataPlus(4))],
+            ways: &[Some(0), Some(1), None],
+        },
+    ),
+    (
+        "the header, and stubs by name",
+        Case {
+            reach: 4096,
+            sizes: &[2048, 2048, 2048],
+            branches: &[
+                (2, 0, To::Header),
+                (0, 0, To::Header),
+                (0, 4, To::Stub(1)),
+                (0, 8, To::Stub(0)),
+                (2, 4, To::Stub(1)),
+            ],
+            islands: &[(0, To::Stub(0)), (0, To::Stub(1)), (2, To::Header)],
+            ways: &[Some(2), None, Some(1), Some(0), None],
+        },
+    ),
+    (
+        "between words",
+        Case {
+            reach: 4096,
+            sizes: &[64, 64],
+            branches: &[(0, 0, To::Inside(1, 2)), (0, 4, To::Inside(1, 4))],
+            islands: &[(1, To::Inside(1, 2))],
+            ways: &[Some(0), None],
+        },
+    ),
+    (
+        "from constants",
+        Case {
+            reach: 4096,
+            sizes: &[8192],
+            branches: &[(9, 0, To::Start(0)), (9, 4, To::Data)],
+            islands: &[],
+            ways: &[None, None],
+        },
+    ),
+    (
+        "addends, by the bytes of an island",
+        Case {
+            reach: 4096,
+            sizes: &[2048, 2016, 32],
+            branches: &[(0, 0, To::Plus(2, 12))],
+            islands: &[],
+            ways: &[None],
+        },
+    ),
+    (
+        "addends, a word more",
+        Case {
+            reach: 4096,
+            sizes: &[2048, 2016, 32],
+            branches: &[(0, 0, To::Plus(2, 16))],
+            islands: &[(0, To::Plus(2, 16))],
+            ways: &[Some(0)],
+        },
+    ),
+    (
+        "no addend at the same place",
+        Case {
+            reach: 4096,
+            sizes: &[2048, 2016, 32],
+            branches: &[(0, 0, To::Inside(2, 16))],
+            islands: &[],
+            ways: &[None],
+        },
+    ),
+    (
+        "back by an addend, and below the first address",
+        Case {
+            reach: 4096,
+            sizes: &[64, 64],
+            branches: &[
+                (1, 0, To::Before(0, 32)),
+                (1, 4, To::Before(0, 0x2_0000_0000)),
+            ],
+            islands: &[(1, To::Before(0, 0x2_0000_0000))],
+            ways: &[None, Some(0)],
+        },
+    ),
+    (
+        "no branches",
+        Case {
+            reach: 4096,
+            sizes: &[64],
+            branches: &[],
+            islands: &[],
+            ways: &[],
+        },
+    ),
+];
+
 #[test]
 fn other_targets(rt: HostRuntime) -> Result<(), Fail> {
-    let cases = [
-        (
-            "data, near as it is",
-            Case {
-                reach: 134_217_728,
-                sizes: &[64, 64],
-                branches: &[
-                    (0, 0, To::Data),
-                    (1, 0, To::DataPlus(4)),
-                    (1, 4, To::Constant),
-                ],
-                islands: &[(1, To::Data), (1, To::DataPlus(4))],
-                ways: &[Some(0), Some(1), None],
-            },
-        ),
-        (
-            "the header, and stubs by name",
-            Case {
-                reach: 4096,
-                sizes: &[2048, 2048, 2048],
-                branches: &[
-                    (2, 0, To::Header),
-                    (0, 0, To::Header),
-                    (0, 4, To::Stub(1)),
-                    (0, 8, To::Stub(0)),
-                    (2, 4, To::Stub(1)),
-                ],
-                islands: &[(0, To::Stub(0)), (0, To::Stub(1)), (2, To::Header)],
-                ways: &[Some(2), None, Some(1), Some(0), None],
-            },
-        ),
-        (
-            "between words",
-            Case {
-                reach: 4096,
-                sizes: &[64, 64],
-                branches: &[(0, 0, To::Inside(1, 2)), (0, 4, To::Inside(1, 4))],
-                islands: &[(1, To::Inside(1, 2))],
-                ways: &[Some(0), None],
-            },
-        ),
-        (
-            "from constants",
-            Case {
-                reach: 4096,
-                sizes: &[8192],
-                branches: &[(9, 0, To::Start(0)), (9, 4, To::Data)],
-                islands: &[],
-                ways: &[None, None],
-            },
-        ),
-        (
-            "addends, by the bytes of an island",
-            Case {
-                reach: 4096,
-                sizes: &[2048, 2016, 32],
-                branches: &[(0, 0, To::Plus(2, 12))],
-                islands: &[],
-                ways: &[None],
-            },
-        ),
-        (
-            "addends, a word more",
-            Case {
-                reach: 4096,
-                sizes: &[2048, 2016, 32],
-                branches: &[(0, 0, To::Plus(2, 16))],
-                islands: &[(0, To::Plus(2, 16))],
-                ways: &[Some(0)],
-            },
-        ),
-        (
-            "no addend at the same place",
-            Case {
-                reach: 4096,
-                sizes: &[2048, 2016, 32],
-                branches: &[(0, 0, To::Inside(2, 16))],
-                islands: &[],
-                ways: &[None],
-            },
-        ),
-        (
-            "back by an addend, and below the first address",
-            Case {
-                reach: 4096,
-                sizes: &[64, 64],
-                branches: &[
-                    (1, 0, To::Before(0, 32)),
-                    (1, 4, To::Before(0, 0x2_0000_0000)),
-                ],
-                islands: &[(1, To::Before(0, 0x2_0000_0000))],
-                ways: &[None, Some(0)],
-            },
-        ),
-        (
-            "no branches",
-            Case {
-                reach: 4096,
-                sizes: &[64],
-                branches: &[],
-                islands: &[],
-                ways: &[],
-            },
-        ),
-    ];
-    assert_eq!(rt; first_wrong(rt.alloc(), &cases), "");
+    assert_eq!(rt; first_wrong(rt.alloc(), OTHER_TARGETS), "");
     Ok(())
 }
