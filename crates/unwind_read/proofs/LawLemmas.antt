@@ -22,6 +22,7 @@ use Rattle.unwind_read.specs.Laws.{AreApart, IsAtFault, IsBroken, IsInAtom, IsLe
 use Rattle.unwind_read.specs.Overlaps.{overlap, overlap_at, overlap_faults, overlaps_another}
 use Rattle.unwind_read.specs.Rules.{UnwindRule, entry_at, entry_count, entry_place, entry_relocs, faults_of, has_entries, section_faults, section_rules}
 use Rattle.unwind_read.specs.Unwinds.{first_fault, kept_function, section_spans, section_unwinds, span_at, span_with, spans_of, unwind_at, unwind_with, unwinds_of}
+use Rattle.unwind_read.proofs.LeastLemmas.{least_empty}
 use Rattle.unwind_read.proofs.PartLemmas.{Part, entry_in_atom, in_range, kept_part, no_some, some_is}
 
 -- ---- what an answer tells
@@ -144,10 +145,6 @@ told_in spans i j a b apart here there common =
     any_in_range (λ other. not (eqb other i) && option_map_or (overlap a) (slice_get spans other) false) 0 (length spans) j (omega arith) (omega arith) (and_from _ _ differs test) in
     let told : overlap_at spans i ≡ Some a.place = ap (option_and_then (λ span. when (overlaps_another spans i span) span.place)) here ∙ ap (λ (t : Bool). when t a.place) another in
     in_filter_map (overlap_at spans) (range_with_len 0 (length spans)) i a.place (in_range 0 (length spans) i (omega arith) (omega arith)) told
-
-least_empty : (xs : List ℕ) → least xs ≡ None → xs ≡ []
-least_empty [] e = refl
-least_empty (x ∷ xs) e = absurd (no_some (option_map_or (min x) (least xs) x) (sym e))
 
 right_empty : (xs ys : List ℕ) → xs ++ ys ≡ [] → ys ≡ []
 right_empty [] ys e = e

@@ -1,5 +1,5 @@
 -- The least of places, as things come.
-use Rattle.std.proofs.Common.{◌≡◌, ℕ, zero, suc, ◌+◌, ◌≤◌, ◌++◌, ◌∷◌, [], ◌||◌, min, List, Bool, true, false, Option, Some, None, refl, sym, ap, ◌∙◌, arith}
+use Rattle.std.proofs.Common.{◌≡◌, ℕ, zero, suc, ◌+◌, ◌++◌, ◌∷◌, [], ◌||◌, min, List, Bool, true, false, Option, Some, None, refl, sym, ap, ◌∙◌, arith}
 use Rattle.std.specs.List.{cons_option, filter_map, range_with_len}
 use Rattle.std.specs.Option.{option_map_or, option_to_list}
 use Rattle.mo_types.specs.RelocationRules.{least}
@@ -44,6 +44,10 @@ least-append (x ∷ xs) ys =
 pub least_one : (o : Option ℕ) → least (option_to_list o) ≡ o
 least_one None = refl
 least_one (Some x) = refl
+
+pub least_empty : (xs : List ℕ) → least xs ≡ None → xs ≡ []
+least_empty [] e = refl
+least_empty (x ∷ xs) e = absurd cc
 
 -- the least of what comes so far, and of one more
 

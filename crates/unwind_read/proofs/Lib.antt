@@ -1,10 +1,13 @@
 pub mod EndLemmas
 pub mod EntryLemmas
+pub mod EntryRowLemmas
 pub mod LawLemmas
 pub mod LeastLemmas
+pub mod MovedLemmas
 pub mod OverlapLemmas
 pub mod PartLemmas
 pub mod RowLemmas
 pub mod RuleLemmas
 pub mod SectionLemmas
+pub mod SectionNoteLemmas
 pub mod SpotLemmas

@@ -1,6 +1,6 @@
 -- Ranges that overlap, and ranges that don't.
 use Rattle.std.proofs.Common.{◌≡◌, ℕ, zero, suc, ◌+◌, ◌-◌, ◌<◌, ◌≤◌, ◌∷◌, [], ◌&&◌, ◌||◌, ◌⊎◌, inl, inr, List, length, map, drop, get_or, slice_get, All, Bool, true, false, not, cond, eqb, ltb, leb, Option, Some, None, refl, sym, ap, ◌∙◌, subst, arith}
-use Rattle.std.specs.List.{cons_option, count_by, filter_map, list_any, range_with_len}
+use Rattle.std.specs.List.{cons_option, count_by, filter_map, range_with_len}
 use Rattle.std.specs.Option.{option_and_then, option_map_or}
 use Rattle.std.specs.Cmp.{IsTotalOrder}
 use Rattle.std.specs.List.Sorted.{IsPartitionedBy, IsSortedBy}
@@ -9,7 +9,7 @@ use Rattle.std.specs.declared.cmp.Ordering.{Ordering}
 use Rattle.std.specs.declared.cmp.Ordering.TheVariants.{Less, Equal, Greater}
 use Rattle.std.proofs.lemmas.Cmp.{nat_cmp_total, on_total, then_total}
 use Rattle.std.proofs.lemmas.List.Sorted.{ranks_by, sorted_far}
-use Rattle.std.proofs.lemmas.Bool.{and_from, and_left, and_parts, and_right, cases_Bool, cases_lt, cases_order, eq-eqb, eqb-false, eqb-true, false≢true, lt-ltb, le-ltb, le-leb, lt-leb, ltb-false, ltb-true, ne_eqb, not-true, not_from_false, or_cases, or_from, or_left, or_parts, or_right}
+use Rattle.std.proofs.lemmas.Bool.{and_from, and_left, and_parts, and_right, cases_lt, cases_order, eq-eqb, eqb-false, eqb-true, false≢true, lt-ltb, le-ltb, le-leb, lt-leb, ltb-false, ltb-true, ne_eqb, not-true, not_from_false, or_cases, or_from, or_left, or_parts, or_right}
 use Rattle.std.proofs.lemmas.List.{drop_all, drop_more, get_or_read}
 use Rattle.std.proofs.lemmas.List.Sums.{sum_by-cons}
 use Rattle.std.proofs.lemmas.Option.{get_or_from_slice_get, slice_get-get_or, slice_get_within}
@@ -130,7 +130,7 @@ none_at spans at apart = chosen (slice_get spans at) refl
     chosen None e = refl
     chosen (Some span) e = rw (others span e) refl
 
-none_mapped : (h : ℕ → Option ℕ) (a n : ℕ) → ((k : ℕ) → h k ≡ None) → filter_map h (range_with_len a n) ≡ []
+pub none_mapped : (h : ℕ → Option ℕ) (a n : ℕ) → ((k : ℕ) → h k ≡ None) → filter_map h (range_with_len a n) ≡ []
 none_mapped h a zero none = refl
 none_mapped h a (suc n) none = rw (none a) (none_mapped h (a + 1) n none)
 
@@ -262,6 +262,27 @@ all_got spans a (suc n) e =
 overlaps_itself : (span : Span) → span.from < span.to → overlap span span ≡ true
 overlaps_itself span some = and_from _ _ (and_from _ _ (eq-eqb span.section span.section refl) (lt-ltb span.from span.to some)) (lt-ltb span.from span.to some)
 
+-- itself and the others that overlap a range
+others_counted : (spans : List Span) (at : ℕ) (own : Span) → IsSpan own → slice_get spans at ≡ Some own → count_by (overlap own) spans ≡ count_by (another (slice_get spans) (overlap own) at) (range_with_len 0 (length spans)) + 1
+others_counted spans at own is there =
+    let within : at < length spans = slice_get_within spans at own there in
+    let itself : option_map_or (overlap own) (slice_get spans at) false ≡ true = ap (λ o. option_map_or (overlap own) o false) there ∙ overlaps_itself own is.some in
+    ap (count_by (overlap own)) (sym (all_got spans 0 (length spans) (omega arith)))
+    ∙ around_it (slice_get spans) (overlap own) at 0 (length spans) (omega arith) (omega arith) itself
+
+-- a range overlaps another one where two ranges overlap it, itself among them
+pub by_count : (spans : List Span) (at : ℕ) (own : Span) → IsSpan own → slice_get spans at ≡ Some own → overlaps_another spans at own ≡ leb 2 (count_by (overlap own) spans)
+by_count spans at own is there =
+    any_counts (another (slice_get spans) (overlap own) at) (range_with_len 0 (length spans))
+    ∙ one_aside (count_by (another (slice_get spans) (overlap own) at) (range_with_len 0 (length spans))) (count_by (overlap own) spans) (others_counted spans at own is there)
+  where
+    one_aside : (others all : ℕ) → all ≡ others + 1 → leb 1 others ≡ leb 2 all
+    one_aside others all e =
+        elim (cases_lt 0 others) [
+          | inl more ↦ le-leb 1 others (omega arith) ∙ sym (le-leb 2 all (omega arith))
+          | inr none ↦ lt-leb 1 others (omega arith) ∙ sym (lt-leb 2 all (omega arith))
+        ]
+
 same_span : (x y : Span) → Some x ≡ Some y → x ≡ y
 same_span x y e = cc
 
@@ -270,8 +291,8 @@ more_than_itself spans at begins ends own begun ended spare all bounds within is
     let same : own ≡ span = is ∙ get_or_from_slice_get spans at span own here in
     subst (λ (s : Span). ltb 1 spare ≡ overlaps_another spans at s) same (counted (here ∙ ap Some (sym same)))
   where
-    taken : (over all others ended begun spare : ℕ) {stopped started : ℕ} → over ≡ all → all ≡ others + 1 → ended ≡ stopped → over + stopped ≡ started → begun ≡ started → spare ≡ begun - ended → spare ≡ others + 1
-    taken over all others ended begun spare = omega arith
+    taken : (over others ended begun spare : ℕ) {stopped started : ℕ} → over ≡ others + 1 → ended ≡ stopped → over + stopped ≡ started → begun ≡ started → spare ≡ begun - ended → spare ≡ others + 1
+    taken over others ended begun spare = omega arith
 
     some_left : (others spare : ℕ) → spare ≡ others + 1 → ltb 1 spare ≡ leb 1 others
     some_left others spare e =
@@ -284,14 +305,12 @@ more_than_itself spans at begins ends own begun ended spare all bounds within is
     counted there =
         let some : own.from < own.to = subst (λ (s : Span). s.from < s.to) (sym is) (all at own within).some in
         let others : ℕ = count_by (another (slice_get spans) (overlap own) at) (range_with_len 0 (length spans)) in
-        let itself : option_map_or (overlap own) (slice_get spans at) false ≡ true = ap (λ o. option_map_or (overlap own) o false) there ∙ overlaps_itself own some in
-        let listed : count_by (overlap own) spans ≡ count_by (overlap own) (filter_map (slice_get spans) (range_with_len 0 (length spans))) = ap (count_by (overlap own)) (sym (all_got spans 0 (length spans) (omega arith))) in
-        let around : count_by (overlap own) (filter_map (slice_get spans) (range_with_len 0 (length spans))) ≡ others + 1 = around_it (slice_get spans) (overlap own) at 0 (length spans) (omega arith) (omega arith) itself in
+        let around : count_by (overlap own) spans ≡ others + 1 = others_counted spans at own (record { some = some }) there in
         let begun_is : begun ≡ count_by (λ other. is_before (begin_of other) (end_of own)) spans =
         begins_is ∙ count_moved (λ other. is_before other (end_of own)) (map begin_of spans) begins bounds.from.moved ∙ count_mapped (λ other. is_before other (end_of own)) begin_of spans in
         let ended_is : ended ≡ count_by (λ other. not (is_before (begin_of own) (end_of other))) spans =
         ends_is ∙ count_moved (λ other. not (is_before (begin_of own) other)) (map end_of spans) ends bounds.to.moved ∙ count_mapped (λ other. not (is_before (begin_of own) other)) end_of spans in
-        let left : spare ≡ others + 1 = taken _ _ _ _ _ _ listed around ended_is (splits own spans some all) begun_is rest in
+        let left : spare ≡ others + 1 = taken _ _ _ _ _ around ended_is (splits own spans some all) begun_is rest in
         some_left others spare left ∙ sym (any_counts (another (slice_get spans) (overlap own) at) (range_with_len 0 (length spans)))
 
 pub ruleset overlaps = (more_than_itself)

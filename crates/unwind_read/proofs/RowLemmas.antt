@@ -1,5 +1,5 @@
 -- The relocations of entries' fields, as relocations come.
-use Rattle.std.proofs.Common.{◌≡◌, ℕ, zero, suc, ◌+◌, ◌-◌, ◌*◌, ◌/◌, ◌%◌, ◌^◌, ◌<◌, ◌≤◌, ◌++◌, ◌∷◌, [], ◌&&◌, ◌||◌, ◌⊎◌, inl, inr, List, length, get_or, set, take, replicate, slice_get, Bool, true, false, not, eqb, ltb, Option, Some, None, is_none, is_some, find, refl, sym, ap, ◌∙◌, subst, arith}
+use Rattle.std.proofs.Common.{◌≡◌, ℕ, zero, suc, ◌+◌, ◌-◌, ◌*◌, ◌/◌, ◌%◌, ◌^◌, ◌<◌, ◌≤◌, ◌++◌, ◌∷◌, [], ◌&&◌, ◌||◌, ◌⊎◌, inl, inr, List, length, get_or, set, take, replicate, slice_get, Bool, true, false, not, eqb, ltb, Option, Some, None, is_none, is_some, refl, sym, ap, ◌∙◌, subst, arith}
 use Rattle.std.specs.List.{filter_map, range_with_len}
 use Rattle.std.specs.Option.{option_map_or, option_or}
 use Rattle.std.proofs.lemmas.Bool.{and_from, and_left, and_parts, and_right, cases_Bool, cases_eq, eq-eqb, eqb-true, false≢true, lt-ltb, ltb-true, ne_eqb, not_from_false, not_from_true, or_from, or_left, or_right}
@@ -12,7 +12,12 @@ use Rattle.mo_types.specs.declared.object.Section.{Section}
 use Rattle.mo_types.specs.RelocationRules.{least}
 use Rattle.mo_types.specs.Rows.{when}
 use Rattle.reloc_read.specs.Faults.{lesser}
+use Rattle.list_lemmas.proofs.Members.{find_some}
+use Rattle.unwind_read.specs.declared.entry_rows.EntryRow.{EntryRow}
+use Rattle.unwind_read.specs.declared.entry_rows.Named.{Named}
+use Rattle.unwind_read.specs.declared.entry_rows.Named.TheVariants.{Nothing, BySection, BySymbol}
 use Rattle.unwind_read.specs.declared.pointers.EntryRelocs.{EntryRelocs}
+use Rattle.unwind_read.specs.EntryRows.{is_empty, is_nothing, pointer_of, pointer_with, relocs_in}
 use Rattle.unwind_read.specs.Pointers.{AreRows, is_pointer, is_pointer_at, pointer_at, relocs_of, row_with}
 use Rattle.unwind_read.specs.Rules.{entry_count, faults_of, is_field, is_in_entry, is_other, other_relocation, place_of}
 use Rattle.unwind_read.proofs.LeastLemmas.{least_more}
@@ -98,7 +103,7 @@ same_row : (relocs others : List RawReloc) (i : ℕ) → pointer_at relocs (32 *
 unfolding relocs_of
 same_row relocs others i function personality lsda = rw (function, personality, lsda) refl
 
-pub others_change_nothing : (section : Section) (before : List RawReloc) (reloc : RawReloc) (rows : List EntryRelocs) → AreRows before rows → length rows ≡ entry_count section → is_other section before reloc ≡ true → AreRows (before ++ reloc ∷ []) rows
+pub others_change_nothing : (section : Section) (before : List RawReloc) (reloc : RawReloc) (rows : List EntryRow) → AreRows before rows → length rows ≡ entry_count section → is_other section before reloc ≡ true → AreRows (before ++ reloc ∷ []) rows
 others_change_nothing section before reloc rows are count other = record {
   each = λ i d within.
       let inside : i < entry_count section = omega (arith, count) in
@@ -255,38 +260,38 @@ unput_other section before reloc i entry e =
 put_own : (section : Section) (before : List RawReloc) (reloc : RawReloc) (i : ℕ) (row : EntryRelocs) → (is_pointer reloc && is_in_entry section reloc) ≡ true → IsPut before reloc i row → is_other section before reloc ≡ false
 put_own section before reloc i row placed put = or_from _ _ (not_from_true _ (and_from _ _ placed put.field)) put.first
 
-row_is : (before : List RawReloc) (rows : List EntryRelocs) (i : ℕ) (row : EntryRelocs) → AreRows before rows → i < length rows → row ≡ get_or rows i row → row ≡ relocs_of before i
-row_is before rows i row are within is = is ∙ are.each i row within
+pub row_is : (before : List RawReloc) (rows : List EntryRow) (i : ℕ) (row : EntryRow) → AreRows before rows → i < length rows → row ≡ get_or rows i row → relocs_in i row ≡ relocs_of before i
+row_is before rows i row are within is = ap (relocs_in i) is ∙ are.each i row within
 
 pub own_unplaced : (section : Section) (before : List RawReloc) (reloc : RawReloc) → (is_pointer reloc && is_in_entry section reloc) ≡ false → false ≡ not (is_other section before reloc)
 own_unplaced section before reloc e = sym (not_from_true _ (unplaced_other section before reloc e))
 
-pub rows_unplaced : (section : Section) (before : List RawReloc) (reloc : RawReloc) (rows : List EntryRelocs) → (is_pointer reloc && is_in_entry section reloc) ≡ false → length rows ≡ entry_count section → AreRows before rows → AreRows (before ++ reloc ∷ []) rows
+pub rows_unplaced : (section : Section) (before : List RawReloc) (reloc : RawReloc) (rows : List EntryRow) → (is_pointer reloc && is_in_entry section reloc) ≡ false → length rows ≡ entry_count section → AreRows before rows → AreRows (before ++ reloc ∷ []) rows
 rows_unplaced section before reloc rows e count are = others_change_nothing section before reloc rows are count (unplaced_other section before reloc e)
 
-pub placed_within : (section : Section) (reloc : RawReloc) (rows : List EntryRelocs) → (is_pointer reloc && is_in_entry section reloc) ≡ true → length rows ≡ entry_count section → reloc.address / 32 < length rows
+pub placed_within : (section : Section) (reloc : RawReloc) (rows : List EntryRow) → (is_pointer reloc && is_in_entry section reloc) ≡ true → length rows ≡ entry_count section → reloc.address / 32 < length rows
 placed_within section reloc rows e count =
     let inside : reloc.address / 32 < entry_count section = ltb-true (reloc.address / 32) (entry_count section) ((and_parts (ltb reloc.address (2 ^ 31)) (ltb (reloc.address / 32) (entry_count section)) ((and_parts (is_pointer reloc) (is_in_entry section reloc) e).1)).1) in
     omega (arith, count)
 
-pub own_unput : (section : Section) (before : List RawReloc) (reloc : RawReloc) (rows : List EntryRelocs) (row : EntryRelocs) → AreRows before rows → reloc.address / 32 < length rows → row ≡ get_or rows (reloc.address / 32) row → row_with row reloc ≡ None → false ≡ not (is_other section before reloc)
+pub own_unput : (section : Section) (before : List RawReloc) (reloc : RawReloc) (rows : List EntryRow) (row : EntryRow) → AreRows before rows → reloc.address / 32 < length rows → row ≡ get_or rows (reloc.address / 32) row → row_with (relocs_in (reloc.address / 32) row) reloc ≡ None → false ≡ not (is_other section before reloc)
 own_unput section before reloc rows row are within is none =
     sym (not_from_true _ (unput_other section before reloc (reloc.address / 32) refl
     (ap (λ r. row_with r reloc) (sym (row_is before rows (reloc.address / 32) row are within is)) ∙ none)))
 
-pub rows_unput : (section : Section) (before : List RawReloc) (reloc : RawReloc) (rows : List EntryRelocs) (row : EntryRelocs) → AreRows before rows → length rows ≡ entry_count section → reloc.address / 32 < length rows → row ≡ get_or rows (reloc.address / 32) row → row_with row reloc ≡ None → AreRows (before ++ reloc ∷ []) rows
+pub rows_unput : (section : Section) (before : List RawReloc) (reloc : RawReloc) (rows : List EntryRow) (row : EntryRow) → AreRows before rows → length rows ≡ entry_count section → reloc.address / 32 < length rows → row ≡ get_or rows (reloc.address / 32) row → row_with (relocs_in (reloc.address / 32) row) reloc ≡ None → AreRows (before ++ reloc ∷ []) rows
 rows_unput section before reloc rows row are count within is none =
     others_change_nothing section before reloc rows are count (unput_other section before reloc (reloc.address / 32) refl
     (ap (λ r. row_with r reloc) (sym (row_is before rows (reloc.address / 32) row are within is)) ∙ none))
 
-put_into : (section : Section) (before : List RawReloc) (reloc : RawReloc) (rows : List EntryRelocs) (row more : EntryRelocs) → (is_pointer reloc && is_in_entry section reloc) ≡ true → AreRows before rows → reloc.address / 32 < length rows → row ≡ get_or rows (reloc.address / 32) row → row_with row reloc ≡ Some more → IsPut before reloc (reloc.address / 32) more
+put_into : (section : Section) (before : List RawReloc) (reloc : RawReloc) (rows : List EntryRow) (row more : EntryRow) → (is_pointer reloc && is_in_entry section reloc) ≡ true → AreRows before rows → reloc.address / 32 < length rows → row ≡ get_or rows (reloc.address / 32) row → row_with (relocs_in (reloc.address / 32) row) reloc ≡ Some (relocs_in (reloc.address / 32) more) → IsPut before reloc (reloc.address / 32) (relocs_in (reloc.address / 32) more)
 put_into section before reloc rows row more placed are within is some =
-    put_is before reloc (reloc.address / 32) more ((and_parts _ _ placed).0) refl
+    put_is before reloc (reloc.address / 32) (relocs_in (reloc.address / 32) more) ((and_parts _ _ placed).0) refl
     (ap (λ r. row_with r reloc) (sym (row_is before rows (reloc.address / 32) row are within is)) ∙ some)
 
-pub own_put : (section : Section) (before : List RawReloc) (reloc : RawReloc) (rows : List EntryRelocs) (row more : EntryRelocs) → (is_pointer reloc && is_in_entry section reloc) ≡ true → AreRows before rows → reloc.address / 32 < length rows → row ≡ get_or rows (reloc.address / 32) row → row_with row reloc ≡ Some more → true ≡ not (is_other section before reloc)
+pub own_put : (section : Section) (before : List RawReloc) (reloc : RawReloc) (rows : List EntryRow) (row more : EntryRow) → (is_pointer reloc && is_in_entry section reloc) ≡ true → AreRows before rows → reloc.address / 32 < length rows → row ≡ get_or rows (reloc.address / 32) row → row_with (relocs_in (reloc.address / 32) row) reloc ≡ Some (relocs_in (reloc.address / 32) more) → true ≡ not (is_other section before reloc)
 own_put section before reloc rows row more placed are within is some =
-    sym (not_from_false _ (put_own section before reloc (reloc.address / 32) more placed (put_into section before reloc rows row more placed are within is some)))
+    sym (not_from_false _ (put_own section before reloc (reloc.address / 32) (relocs_in (reloc.address / 32) more) placed (put_into section before reloc rows row more placed are within is some)))
 
 -- another entry's row
 other_row : (before : List RawReloc) (reloc : RawReloc) (i : ℕ) → (reloc.address / 32 ≡ i → ⊥) → relocs_of before i ≡ relocs_of (before ++ reloc ∷ []) i
@@ -296,14 +301,14 @@ other_row before reloc i differs =
     (sym (elsewhere before reloc (32 * i + 16) (not_at reloc (32 * i + 16) (λ e. differs (ap (λ n. n / 32) e ∙ omega arith)))))
     (sym (elsewhere before reloc (32 * i + 24) (not_at reloc (32 * i + 24) (λ e. differs (ap (λ n. n / 32) e ∙ omega arith)))))
 
-pub rows_put : (section : Section) (before : List RawReloc) (reloc : RawReloc) (rows : List EntryRelocs) (row more : EntryRelocs) → (is_pointer reloc && is_in_entry section reloc) ≡ true → AreRows before rows → reloc.address / 32 < length rows → row ≡ get_or rows (reloc.address / 32) row → row_with row reloc ≡ Some more → AreRows (before ++ reloc ∷ []) (set rows (reloc.address / 32) more)
+pub rows_put : (section : Section) (before : List RawReloc) (reloc : RawReloc) (rows : List EntryRow) (row more : EntryRow) → (is_pointer reloc && is_in_entry section reloc) ≡ true → AreRows before rows → reloc.address / 32 < length rows → row ≡ get_or rows (reloc.address / 32) row → row_with (relocs_in (reloc.address / 32) row) reloc ≡ Some (relocs_in (reloc.address / 32) more) → AreRows (before ++ reloc ∷ []) (set rows (reloc.address / 32) more)
 rows_put section before reloc rows row more placed are within is some = record {
   each = λ i d inside. elim (cases_eq (reloc.address / 32) i) [
     | inl here ↦
-        subst (λ (k : ℕ). get_or (set rows (reloc.address / 32) more) k d ≡ relocs_of (before ++ reloc ∷ []) k) here
-        (get_or-set_same rows (reloc.address / 32) more d within ∙ (put_into section before reloc rows row more placed are within is some).made)
+        subst (λ (k : ℕ). relocs_in k (get_or (set rows (reloc.address / 32) more) k d) ≡ relocs_of (before ++ reloc ∷ []) k) here
+        (ap (relocs_in (reloc.address / 32)) (get_or-set_same rows (reloc.address / 32) more d within) ∙ (put_into section before reloc rows row more placed are within is some).made)
     | inr there ↦
-        get_or-set_other rows (reloc.address / 32) i more d (λ e. there (sym e))
+        ap (relocs_in i) (get_or-set_other rows (reloc.address / 32) i more d (λ e. there (sym e)))
         ∙ are.each i d (subst (λ (n : ℕ). i < n) (length-set rows (reloc.address / 32) more) inside)
         ∙ other_row before reloc i there
   ];
@@ -317,14 +322,14 @@ pub ruleset puts = (own_unplaced, rows_unplaced, placed_within, own_unput, rows_
 abbrev pub other_at : Section → List RawReloc → ℕ → Option ℕ
 other_at section relocs k = when (option_map_or (is_other section (take k relocs)) (slice_get relocs k) false) (option_map_or (place_of section) (slice_get relocs k) section.file_offset)
 
-pub record Filled (section : Section) (relocs : List RawReloc) (at : ℕ) (rows : List EntryRelocs) (fault : Option ℕ) : Type 0 where
+pub record Filled (section : Section) (relocs : List RawReloc) (at : ℕ) (rows : List EntryRow) (fault : Option ℕ) : Type 0 where
   pub by_entry : AreRows (take at relocs) rows
   pub told : fault ≡ least (filter_map (other_at section relocs) (range_with_len 0 at))
 
-pub filled_none : (section : Section) (relocs : List RawReloc) (rows : List EntryRelocs) → AreRows [] rows → Filled section relocs 0 rows None
+pub filled_none : (section : Section) (relocs : List RawReloc) (rows : List EntryRow) → AreRows [] rows → Filled section relocs 0 rows None
 filled_none section relocs rows are = record { by_entry = are; told = refl }
 
-pub filled_more : (section : Section) (relocs : List RawReloc) (at : ℕ) (rows new : List EntryRelocs) (fault more here : Option ℕ) (reloc : RawReloc) → Filled section relocs at rows fault → at < length relocs → reloc ≡ get_or relocs at reloc → ((before : List RawReloc) → AreRows before rows → here ≡ when (is_other section before reloc) (place_of section reloc)) → ((before : List RawReloc) → AreRows before rows → AreRows (before ++ reloc ∷ []) new) → more ≡ lesser fault here → Filled section relocs (at + 1) new more
+pub filled_more : (section : Section) (relocs : List RawReloc) (at : ℕ) (rows new : List EntryRow) (fault more here : Option ℕ) (reloc : RawReloc) → Filled section relocs at rows fault → at < length relocs → reloc ≡ get_or relocs at reloc → ((before : List RawReloc) → AreRows before rows → here ≡ when (is_other section before reloc) (place_of section reloc)) → ((before : List RawReloc) → AreRows before rows → AreRows (before ++ reloc ∷ []) new) → more ≡ lesser fault here → Filled section relocs (at + 1) new more
 filled_more section relocs at rows new fault more here reloc are within is told put joined =
     let one : slice_get relocs at ≡ Some reloc = slice_get_read relocs (length relocs) at reloc refl within is in
     let same : get_or relocs at reloc ≡ reloc = sym is in
@@ -334,10 +339,10 @@ filled_more section relocs at rows new fault more here reloc are within is told 
           (told (take at relocs) are.by_entry ∙ sym (rw one refl)) joined;
     }
 
-pub filled_rows : (section : Section) (relocs : List RawReloc) (at : ℕ) (rows : List EntryRelocs) (fault : Option ℕ) → Filled section relocs at rows fault → relocs ≡ section.relocs → length relocs ≤ at → AreRows section.relocs rows
+pub filled_rows : (section : Section) (relocs : List RawReloc) (at : ℕ) (rows : List EntryRow) (fault : Option ℕ) → Filled section relocs at rows fault → relocs ≡ section.relocs → length relocs ≤ at → AreRows section.relocs rows
 filled_rows section relocs at rows fault are is past = subst (λ (xs : List RawReloc). AreRows xs rows) (take_all at relocs past ∙ is) are.by_entry
 
-pub filled_fault : (object : Object) (section : Section) (relocs : List RawReloc) (at : ℕ) (rows : List EntryRelocs) (fault : Option ℕ) → Filled section relocs at rows fault → relocs ≡ section.relocs → at ≡ length relocs → fault ≡ least (faults_of object section other_relocation)
+pub filled_fault : (object : Object) (section : Section) (relocs : List RawReloc) (at : ℕ) (rows : List EntryRow) (fault : Option ℕ) → Filled section relocs at rows fault → relocs ≡ section.relocs → at ≡ length relocs → fault ≡ least (faults_of object section other_relocation)
 filled_fault object section relocs at rows fault are is last =
     let all : fault ≡ least (filter_map (other_at section relocs) (range_with_len 0 (length relocs))) =
     are.told ∙ ap (λ n. least (filter_map (other_at section relocs) (range_with_len 0 n))) last in
@@ -347,27 +352,56 @@ pub ruleset fills = (filled_none, filled_more, filled_rows, filled_fault)
 
 -- rows without relocations
 
-abbrev pub no_relocs : EntryRelocs
-no_relocs = record { function = None; personality = None; lsda = None }
+abbrev pub no_row : EntryRow
+no_row = record { function = 0; personality = 0; lsda = 0; function_named = Nothing; personality_named = Nothing; lsda_named = Nothing }
 
-abbrev no_rows : List EntryRelocs
+abbrev no_rows : List EntryRow
 no_rows = []
 
 take_nil : (n : ℕ) → take n no_rows ≡ no_rows
 take_nil zero = refl
 take_nil (suc n) = refl
 
-none_of : (i : ℕ) → no_relocs ≡ relocs_of [] i
-unfolding relocs_of
+none_of : (i : ℕ) → relocs_in i no_row ≡ relocs_of [] i
+unfolding relocs_in relocs_of
 none_of i = refl
 
-pub empty_are : (count size : ℕ) (old rows : List EntryRelocs) → rows ≡ take count old ++ replicate (count - size) no_relocs → old ≡ [] → size ≡ 0 → AreRows [] rows
+pub empty_are : (count size : ℕ) (old rows : List EntryRow) → rows ≡ take count old ++ replicate (count - size) no_row → old ≡ [] → size ≡ 0 → AreRows [] rows
 empty_are count size old rows is none start =
     let first : take count old ≡ [] = ap (take count) none ∙ take_nil count in
     let rest : count - size ≡ count = omega arith in
-    let all : rows ≡ replicate count no_relocs = is ∙ ap (λ xs. xs ++ replicate (count - size) no_relocs) first ∙ ap (λ n. replicate n no_relocs) rest in
+    let all : rows ≡ replicate count no_row = is ∙ ap (λ xs. xs ++ replicate (count - size) no_row) first ∙ ap (λ n. replicate n no_row) rest in
     record {
       each = λ i d within.
-          let inside : i < count = subst (λ (n : ℕ). i < n) (ap length all ∙ length-replicate count no_relocs) within in
-          ap (λ xs. get_or xs i d) all ∙ get_or-replicate count i no_relocs d inside ∙ none_of i;
+          let inside : i < count = subst (λ (n : ℕ). i < n) (ap length all ∙ length-replicate count no_row) within in
+          ap (λ xs. relocs_in i (get_or xs i d)) all ∙ ap (relocs_in i) (get_or-replicate count i no_row d inside) ∙ none_of i;
     }
+
+-- a row with relocations is that of an entry whose fields have addresses of 32 bits
+
+low_address : (relocs : List RawReloc) (a : ℕ) (reloc : RawReloc) → pointer_at relocs a ≡ Some reloc → a < 2 ^ 31
+low_address relocs a reloc e =
+    let at : IsAt reloc a = is_at reloc a (find_some (is_pointer_at a) relocs reloc e).1 in
+    let address : reloc.address ≡ a = at.address in
+    let low : reloc.address < 2 ^ 31 = at.low in
+    omega arith
+
+low_pointer : (relocs : List RawReloc) (a number : ℕ) (named : Named) → pointer_of a number named ≡ pointer_at relocs a → is_nothing named ≡ false → a < 2 ^ 31
+low_pointer relocs a number Nothing e some = absurd (false≢true (sym some))
+low_pointer relocs a number BySection e some = low_address relocs a (pointer_with a number false) (sym e)
+low_pointer relocs a number BySymbol e some = low_address relocs a (pointer_with a number true) (sym e)
+
+pub row_is_low : (relocs : List RawReloc) (rows : List EntryRow) (i : ℕ) (row : EntryRow) → AreRows relocs rows → i < length rows → row ≡ get_or rows i row → is_empty row ≡ false → 32 * i + 24 < 2 ^ 32
+unfolding relocs_in relocs_of
+row_is_low relocs rows i row are within is some =
+    let same : relocs_in i row ≡ relocs_of relocs i = row_is relocs rows i row are within is in
+    elim (cases_Bool (is_nothing row.function_named)) [
+      | inl no_function ↦ elim (cases_Bool (is_nothing row.personality_named)) [
+        | inl no_personality ↦ elim (cases_Bool (is_nothing row.lsda_named)) [
+          | inl no_lsda ↦ absurd (false≢true (sym some ∙ and_from _ _ (and_from _ _ no_function no_personality) no_lsda))
+          | inr lsda ↦ let low : 32 * i + 24 < 2 ^ 31 = low_pointer relocs (32 * i + 24) row.lsda row.lsda_named (ap (λ (r : EntryRelocs). r.lsda) same) lsda in omega arith
+        ]
+        | inr personality ↦ let low : 32 * i + 16 < 2 ^ 31 = low_pointer relocs (32 * i + 16) row.personality row.personality_named (ap (λ (r : EntryRelocs). r.personality) same) personality in omega arith
+      ]
+      | inr function ↦ let low : 32 * i < 2 ^ 31 = low_pointer relocs (32 * i) row.function row.function_named (ap (λ (r : EntryRelocs). r.function) same) function in omega arith
+    ]

@@ -1,5 +1,5 @@
 -- The least place at which a part of the rule fails in a section.
-use Rattle.std.proofs.Common.{◌≡◌, ℕ, ◌+◌, ◌*◌, ◌++◌, ◌∷◌, [], ◌||◌, List, Bool, true, false, not, eqb, Option, Some, None, refl, sym, ap, ◌∙◌}
+use Rattle.std.proofs.Common.{◌≡◌, ℕ, ◌*◌, ◌++◌, ◌∷◌, [], ◌||◌, List, Bool, true, false, not, eqb, Option, Some, None, refl, sym, ap, ◌∙◌}
 use Rattle.std.specs.List.{cons_option, filter_map, flat_map, range_with_len}
 use Rattle.mo_types.specs.declared.object.Object.{Object}
 use Rattle.mo_types.specs.declared.object.Section.{Section}

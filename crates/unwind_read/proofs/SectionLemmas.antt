@@ -1,12 +1,11 @@
 -- The entries of sections, as they come.
-use Rattle.std.proofs.Common.{◌≡◌, ℕ, ◌+◌, ◌<◌, ◌≤◌, ◌++◌, ◌∷◌, [], List, length, get_or, take, Bool, true, false, Option, Some, None, Result, Ok, Err, All, refl, sym, ap, ◌∙◌, subst, append_assoc, append-nil, arith}
+use Rattle.std.proofs.Common.{◌≡◌, ℕ, ◌+◌, ◌<◌, ◌≤◌, ◌++◌, ◌∷◌, [], List, length, get_or, take, true, false, Option, Some, None, Ok, Err, All, refl, sym, ap, ◌∙◌, append_assoc, append-nil}
 use Rattle.std.specs.List.{filter_map, flat_map, range_with_len}
 use Rattle.std.specs.Option.{option_map, option_to_list}
 use Rattle.std.proofs.lemmas.Grind.{flat_map-append}
 use Rattle.std.proofs.lemmas.List.{take_all, take_more}
 use Rattle.mo_types.specs.declared.key.FileId.{FileId}
 use Rattle.mo_types.specs.declared.object.Object.{Object}
-use Rattle.mo_types.specs.declared.object.RawReloc.{RawReloc}
 use Rattle.mo_types.specs.declared.object.Section.{Section}
 use Rattle.mo_types.specs.declared.unwind.Unwind.{Unwind}
 use Rattle.mo_types.specs.RelocationRules.{least}
@@ -14,16 +13,19 @@ use Rattle.reloc_read.specs.Faults.{lesser}
 use Rattle.reloc_read.proofs.ApartLemmas.{mapped_more}
 use Rattle.unwind_read.specs.declared.entries.Found.{Found}
 use Rattle.unwind_read.specs.declared.fault.UnwindFault.TheVariants.{BadEntry}
+use Rattle.unwind_read.specs.declared.entry_rows.EntryRow.{EntryRow}
 use Rattle.unwind_read.specs.declared.pointers.EntryRelocs.{EntryRelocs}
+use Rattle.unwind_read.specs.EntryRows.{relocs_in}
 use Rattle.unwind_read.specs.declared.spans.Span.{Span}
 use Rattle.unwind_read.specs.declared.spots.Spot.{Spot}
 use Rattle.unwind_read.specs.Added.{Added, AreAll}
 use Rattle.unwind_read.specs.Found.{entry_fault, found_with}
 use Rattle.unwind_read.specs.Overlaps.{IsSpan, overlap_faults}
-use Rattle.unwind_read.specs.Pointers.{AreRows, relocs_of}
+use Rattle.unwind_read.specs.Pointers.{AreRows}
 use Rattle.unwind_read.specs.Rules.{entry_at, entry_count, entry_place, entry_relocs, has_entries, section_faults}
 use Rattle.unwind_read.specs.Unwinds.{first_fault, kept_function, section_spans, section_unwinds, span_at, span_with, unwind_at, unwind_with, unwinds_of}
 use Rattle.unwind_read.proofs.LeastLemmas.{least-append, least_more}
+use Rattle.unwind_read.proofs.RowLemmas.{row_is}
 
 -- what one entry says
 
@@ -48,9 +50,9 @@ span_is object file section i found e = ap (option_map (λ (f : Found). f.span))
 
 pub ruleset founds = (unwind_is, span_is)
 
-pub row_is : (section : Section) (rows : List EntryRelocs) (i : ℕ) (row : EntryRelocs) → AreRows section.relocs rows → i < length rows → row ≡ get_or rows i row → row ≡ entry_relocs section i
+pub entry_row_is : (section : Section) (rows : List EntryRow) (i : ℕ) (row : EntryRow) (relocs : EntryRelocs) → AreRows section.relocs rows → i < length rows → row ≡ get_or rows i row → relocs ≡ relocs_in i row → relocs ≡ entry_relocs section i
 unfolding entry_relocs
-row_is section rows i row are within is = is ∙ are.each i row within
+entry_row_is section rows i row relocs are within is read = read ∙ row_is section.relocs rows i row are within is
 
 -- the entries of a section so far
 

@@ -1,18 +1,16 @@
 -- The places to which fields lead.
-use Rattle.std.proofs.Common.{◌≡◌, ℕ, ◌+◌, ◌-◌, ◌^◌, ◌<◌, ◌≤◌, ◌&&◌, List, length, slice_get, get_or, codes, Bool, true, false, not, Option, Some, None, refl, sym, ap, ◌∙◌, subst, arith}
+use Rattle.std.proofs.Common.{◌≡◌, ℕ, ◌+◌, ◌-◌, ◌^◌, ◌<◌, ◌≤◌, length, slice_get, get_or, codes, Bool, true, false, not, Some, None, refl, subst, arith}
 use Rattle.std.specs.Str.{bytes_eq}
 use Rattle.std.proofs.lemmas.Bool.{and_parts, leb-true, not-true}
 use Rattle.std.proofs.lemmas.Option.{get_or_from_slice_get, slice_get_within}
 use Rattle.mo_types.specs.declared.object.Object.{Object}
 use Rattle.mo_types.specs.declared.object.Section.{Section}
 use Rattle.mo_types.specs.declared.object.Symbol.{Symbol}
-use Rattle.mo_types.specs.declared.object.SymbolKind.{SymbolKind}
 use Rattle.mo_types.specs.declared.object.SymbolKind.TheVariants.{Defined}
 use Rattle.mo_types.specs.Atoms.{cut_of}
 use Rattle.mo_types.specs.RelocationRules.{is_within, section_numbered}
 use Rattle.mo_types.specs.Whole.{IsDefinedWithin, IsDefinition, IsWhole, IsWholeSection, is_dropped}
 use Rattle.reloc_read.proofs.LookupLemmas.{element_at}
-use Rattle.unwind_read.specs.declared.spots.Spot.{Spot}
 use Rattle.unwind_read.specs.Spots.{end_of, holds, spot_at, spot_of}
 use Rattle.unwind_read.proofs.EndLemmas.{whole_section}
 

@@ -1,10 +1,12 @@
 pub mod Added
 pub mod CutObject
 pub mod Entry
+pub mod EntryRows
 pub mod Found
 pub mod Laws
 pub mod Overlaps
 pub mod Pointers
 pub mod Rules
+pub mod SectionNotes
 pub mod Spots
 pub mod Unwinds

@@ -3,7 +3,9 @@ use Rattle.std.specs.Prelude.{ℕ, ◌+◌, ◌*◌, ◌%◌, ◌^◌, ◌≡◌
 use Rattle.mo_format.specs.declared.reloc.TheConstants.{ARM64_RELOC_UNSIGNED}
 use Rattle.mo_types.specs.declared.object.RawReloc.{RawReloc}
 use Rattle.mo_types.specs.Rows.{when}
+use Rattle.unwind_read.specs.declared.entry_rows.EntryRow.{EntryRow}
 use Rattle.unwind_read.specs.declared.pointers.EntryRelocs.{EntryRelocs}
+use Rattle.unwind_read.specs.EntryRows.{relocs_in}
 
 -- the address of a field of 8 bytes; r_address is signed, and there is no field below the section
 abbrev pub is_pointer : RawReloc → Bool
@@ -34,5 +36,5 @@ row_with row reloc =
     else None
 
 -- each row has the relocations of its entry
-pub record AreRows (relocs : List RawReloc) (rows : List EntryRelocs) : Type 0 where
-  pub each : (i : ℕ) (d : EntryRelocs) → i < length rows → slice_index_or rows i d ≡ relocs_of relocs i
+pub record AreRows (relocs : List RawReloc) (rows : List EntryRow) : Type 0 where
+  pub each : (i : ℕ) (d : EntryRow) → i < length rows → relocs_in i (slice_index_or rows i d) ≡ relocs_of relocs i

@@ -1,5 +1,5 @@
 -- The rule that entries of compact unwind keep, each part with the places at which it fails.
-use Rattle.std.specs.Prelude.{ℕ, ◌+◌, ◌*◌, ◌/◌, ◌%◌, ◌^◌, ◌==◌, ◌&&◌, ◌||◌, Bool, false, true, not, nat_lt, List, [], ◌∷◌, length, map, take, codes, slice_get, Option, is_none, is_some, if◌then◌else◌}
+use Rattle.std.specs.Prelude.{ℕ, ◌+◌, ◌*◌, ◌/◌, ◌%◌, ◌^◌, ◌==◌, ◌&&◌, ◌||◌, Bool, false, true, not, nat_lt, List, [], ◌∷◌, length, map, take, codes, slice_get, is_none, is_some, if◌then◌else◌}
 use Rattle.std.specs.List.{filter_map, flat_map, list_any, range_with_len}
 use Rattle.std.specs.Option.{option_map_or}
 use Rattle.std.specs.Str.{bytes_eq}

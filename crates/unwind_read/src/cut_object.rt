@@ -13,23 +13,17 @@ ghost use Rattle.reloc_read.specs.CutObject.{IsHigh, IsLow, IsPointOf};
 ghost use Rattle.unwind_read.specs.CutObject.{IsCut};
 ghost use Rattle.unwind_read.specs.Spots.{end_of};
 
+use crate::guide::Hint;
+use crate::section_notes::SectionNote;
 use mo_types::{Atom, AtomKey, FileId, Object, Section};
 
-/// An object with its atoms.
+/// An object with its atoms, and what is noted of its sections.
 #[derive(Clone, Copy)]
 pub struct CutObject<'a> {
     pub object: &'a Object,
     pub atoms: &'a [Atom],
+    pub notes: &'a [SectionNote],
     pub file: FileId,
-}
-
-/// Where atoms were found last, each the index behind one: the search for the next ones begins there. No promise rests
-/// on them.
-#[derive(Debug, Drop)]
-pub struct Hints {
-    pub function: usize,
-    pub personality: usize,
-    pub lsda: usize,
 }
 
 fn is_up_to(key: &AtomKey, number: u16, offset: u64) -> bool
@@ -92,18 +86,22 @@ fn is_high(atoms: &[Atom], number: u16, offset: u64, at: usize) -> bool
     }
 }
 
-// How many atoms aren't after an offset of the section of a number, where the search begins at a place.
+// How many atoms aren't after an offset of the section of a number, where the search begins at the hint.
 #[tactic(auto, using(reloc_read::proofs::PointLemmas::founds))]
-fn count_from(atoms: &[Atom], number: u16, offset: u64, from: usize) -> usize
+fn count_from(atoms: &[Atom], hint: &mut Hint, number: u16, offset: u64) -> usize
     requires { AllPairs (λ a b. IsBefore a.key b.key) atoms.now }
     ensures bound { result ≤ length atoms.now }
     ensures point { IsPointOf number offset atoms.now result }
 {
-    let near = walk(atoms, number, offset, from);
+    let near = walk(atoms, number, offset, hint.first_for(number, offset));
     if is_low(atoms, number, offset, near) && is_high(atoms, number, offset, near) {
+        hint.found(near);
         return near;
     }
-    count_up_to(atoms, number, offset)
+    hint.missed(number);
+    let far = count_up_to(atoms, number, offset);
+    hint.found(far);
+    far
 }
 
 // The last of some atoms.
@@ -116,10 +114,10 @@ fn last_of(atoms: &[Atom], count: usize) -> Atom
 }
 
 /// Where the atom begins and ends to which an offset of the section of a number belongs. The search begins at the hint,
-/// which becomes the place behind the atom.
+/// which then stands behind the atom.
 pub fn bounds_of(
     cut: &CutObject,
-    hint: &mut usize,
+    hint: &mut Hint,
     number: u32,
     section: &Section,
     offset: u64,
@@ -134,8 +132,7 @@ pub fn bounds_of(
     ensures high { offset ≤ result.1 }
     ensures room { result.1 ≤ section.now.size }
 {
-    let count = count_from(cut.atoms, number as u16, offset, *hint);
-    *hint = count;
+    let count = count_from(cut.atoms, hint, number as u16, offset);
     let atom = last_of(cut.atoms, count);
     (atom.key.offset, atom.key.offset + atom.size)
 }

@@ -10,9 +10,10 @@ ghost use Rattle.unwind_read.specs.Rules as rules;
 ghost use Rattle.unwind_read.specs.Spots.{IsSpot};
 ghost use Rattle.unwind_read.specs.Unwinds as unwinds;
 
-use crate::cut_object::{CutObject, Hints};
+use crate::cut_object::CutObject;
 use crate::entry::CompactUnwindEntry;
 use crate::fields::{AtFault, atom_of, function_of, lsda_of, offset_of, personality_of};
+use crate::guide::Hints;
 use crate::pointers::EntryRelocs;
 use crate::spans::Span;
 use crate::spots::Spot;

@@ -7,8 +7,9 @@ ghost use Rattle.unwind_read.specs.Rules as rules;
 ghost use Rattle.unwind_read.specs.Spots.{IsSpot};
 ghost use Rattle.unwind_read.specs.Unwinds as unwinds;
 
-use crate::cut_object::{CutObject, Hints};
+use crate::cut_object::CutObject;
 use crate::entry::CompactUnwindEntry;
+use crate::guide::{Hint, Hints};
 use crate::pointers::EntryRelocs;
 use crate::spots::{Spot, pointee, spot_at};
 use mo_types::{AtomKey, FileId, RawReloc, Section, Symbol, SymbolKind, Target};
@@ -120,7 +121,7 @@ fn is_bad_name(cut: &CutObject, number: u32) -> bool
 }
 
 // The personality to which a relocation leads, whose field holds a number.
-fn personality_at(cut: &CutObject, hint: &mut usize, held: u64, reloc: &RawReloc) -> Option<Target>
+fn personality_at(cut: &CutObject, hint: &mut Hint, held: u64, reloc: &RawReloc) -> Option<Target>
     requires { IsCut cut.now }
     ensures fault { is_none result ≡ rules.is_bad_personality cut.now.object.now held reloc.now }
     ensures value { OnSome result (result ≡ unwinds.personality_at cut.now.object.now cut.now.file held reloc.now) }

@@ -15,9 +15,10 @@
 //! The laws say that each entry stands for a part of an atom that isn't empty (`entries_lie_in_atoms`), that no two have a
 //! byte of an atom in common (`entries_are_apart`), and which fault is told (`the_least_fault_is_told`).
 //!
-//! Relocations are sorted by their entries in one pass, and each entry is read once. The search for an atom begins
-//! behind the one that was found last. Ranges are sorted only where they don't rise. As `reloc_read` the crate takes an
-//! object with its atoms, and so can be asked by the reader of objects.
+//! Relocations are sorted by their entries in one pass, into a table of 16 bytes an entry, and each entry is read once.
+//! The search for an atom begins behind the one that was found last, or, where many were far from the last, where a guide
+//! says. Ranges are sorted only where they don't rise, and counted only where two of them overlap. As `reloc_read` the
+//! crate takes an object with its atoms, and so can be asked by the reader of objects.
 //!
 //! Refused are a body that takes a personality from its lsda's relocation, one that lets a range go past its atom's
 //! end, one that keeps an entry whose range is empty, and one that takes an address for the section's start.
@@ -32,12 +33,15 @@ ghost use Rattle.unwind_read.specs.Unwinds.{IsUnwindFault, unwinds_of};
 mod cut_object;
 mod entries;
 mod entry;
+mod entry_rows;
 mod fault;
 mod fields;
+mod guide;
 mod laws;
 mod least;
 mod overlaps;
 mod pointers;
+mod section_notes;
 mod sections;
 mod spans;
 mod spots;
@@ -49,7 +53,8 @@ pub use laws::{entries_are_apart, entries_lie_in_atoms, the_least_fault_is_told}
 use least::lesser;
 use mo_types::{AtomList, FileId, Object, UnwindList};
 use overlaps::overlap_fault;
-use sections::{Entries, add_sections};
+use section_notes::notes_of;
+use sections::{Entries, add_sections, room_for};
 use std::alloc::Global;
 
 /// The unwind entries of a whole object with its atoms, in the order of its sections of them; or the least place at
@@ -64,15 +69,14 @@ pub fn unwind_of(
     requires atoms { atoms.now ≡ atoms_of object.now file }
     ensures { Gives IsUnwindFault result (unwinds_of object.now file) }
 {
+    let notes = notes_of(alloc, object.sections.as_slice())?;
     let cut = CutObject {
         object,
         atoms: atoms.as_slice(),
+        notes: notes.as_slice(),
         file,
     };
-    let mut entries = Entries {
-        unwinds: Vec::new(alloc),
-        spans: Vec::new(alloc),
-    };
+    let mut entries = room_for(alloc, object.sections.as_slice())?;
     let broken = add_sections(alloc, &mut entries, &cut, object.sections.as_slice())?;
     let overlapping = overlap_fault(alloc, entries.spans.as_slice())?;
     if let Some(place) = lesser(broken, overlapping) {

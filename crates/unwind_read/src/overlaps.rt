@@ -2,6 +2,7 @@
 
 ghost use Rattle.std.specs.Prelude.{◌≡◌, ◌<◌, true, not, None, Some, map, All, IfOk, length, slice_get};
 ghost use Rattle.std.specs.List.{count_by};
+ghost use Rattle.std.specs.List.Sorted.{IsPermutation};
 ghost use Rattle.mo_types.specs.RelocationRules.{least};
 ghost use Rattle.unwind_read.specs.Overlaps as overlaps;
 ghost use Rattle.unwind_read.specs.Overlaps.{AreBounds, IsOrdered, IsRising, IsSpan};
@@ -55,6 +56,15 @@ fn rise(spans: &[Span]) -> bool
         }
     }
     true
+}
+
+// The ranges, by where they begin.
+fn by_begin(alloc: Global, spans: &[Span]) -> Result<Vec<Span>, OutOfMemory>
+    ensures { IfOk result (λ sorted. IsPermutation spans.now sorted.items) }
+{
+    let mut sorted = spans.to_vec(alloc)?;
+    sorted.sort_unstable();
+    Ok(sorted)
 }
 
 fn in_order(bounds: Vec<Bound>) -> Vec<Bound>
@@ -142,13 +152,23 @@ fn least_overlap(spans: &[Span], begins: &[Bound], ends: &[Bound]) -> Option<u64
     fault
 }
 
+// Whether each range begins where one ends that begins before it, or after that.
+#[tactic(auto, using(crate::proofs::MovedLemmas::moves))]
+fn are_apart(alloc: Global, spans: &[Span]) -> Result<bool, OutOfMemory>
+    requires { All IsSpan spans.now }
+    ensures { IfOk result (λ apart. apart ≡ true → None ≡ least (overlaps.overlap_faults spans.now)) }
+{
+    let sorted = by_begin(alloc, spans)?;
+    Ok(rise(sorted.as_slice()))
+}
+
 /// The least place of an entry whose range overlaps that of another one, in time n log n of n entries; nothing is
 /// sorted where the ranges rise all the way.
 pub fn overlap_fault(alloc: Global, spans: &[Span]) -> Result<Option<u64>, OutOfMemory>
     requires { All IsSpan spans.now }
     ensures { IfOk result (λ fault. fault ≡ least (overlaps.overlap_faults spans.now)) }
 {
-    if rise(spans) {
+    if rise(spans) || are_apart(alloc, spans)? {
         return Ok(None);
     }
     let begins = in_order(begins_of(alloc, spans)?);

@@ -9,6 +9,7 @@ ghost use Rattle.unwind_read.specs.Pointers as pointers;
 ghost use Rattle.unwind_read.specs.Pointers.{AreRows};
 ghost use Rattle.unwind_read.specs.Rules as rules;
 
+use crate::entry_rows::{EMPTY, EntryRow, row_with};
 use crate::least::lesser;
 use mo_format::reloc::ARM64_RELOC_UNSIGNED;
 use mo_types::{OutOfMemory, RawReloc, Section};
@@ -21,13 +22,6 @@ pub struct EntryRelocs {
     pub personality: Option<RawReloc>,
     pub lsda: Option<RawReloc>,
 }
-
-// No field has one.
-const NONE: EntryRelocs = EntryRelocs {
-    function: None,
-    personality: None,
-    lsda: None,
-};
 
 fn is_pointer(reloc: &RawReloc) -> bool
     ensures { result ≡ pointers.is_pointer reloc.now }
@@ -51,28 +45,6 @@ pub fn entry_place(section: &Section, at: usize) -> u64
     ensures { result ≡ rules.entry_place section.now at }
 {
     section.file_offset + 32 * at as u64
-}
-
-// The relocations of an entry's fields with one more, which is a pointer; `None` where it isn't that of a field, or not
-// the first one.
-fn row_with(row: &EntryRelocs, reloc: &RawReloc) -> Option<EntryRelocs>
-    ensures { result ≡ pointers.row_with row.now reloc.now }
-{
-    match reloc.address % 32 {
-        0 if row.function.is_none() => Some(EntryRelocs {
-            function: Some(*reloc),
-            ..*row
-        }),
-        16 if row.personality.is_none() => Some(EntryRelocs {
-            personality: Some(*reloc),
-            ..*row
-        }),
-        24 if row.lsda.is_none() => Some(EntryRelocs {
-            lsda: Some(*reloc),
-            ..*row
-        }),
-        _ => None,
-    }
 }
 
 fn is_in_entry(section: &Section, reloc: &RawReloc) -> bool
@@ -103,7 +75,7 @@ fn is_placed(section: &Section, reloc: &RawReloc) -> bool
 
 // Puts a relocation among those of its entry's fields, where it is the first pointer of one; whether it is.
 #[tactic(auto, using(crate::proofs::RowLemmas::puts))]
-fn is_put(rows: &mut [EntryRelocs], section: &Section, reloc: &RawReloc) -> bool
+fn is_put(rows: &mut [EntryRow], section: &Section, reloc: &RawReloc) -> bool
     requires { length rows.old ≡ rules.entry_count section.now }
     ensures own { (before : List RawReloc) → AreRows before rows.old → result ≡ not (rules.is_other section.now before reloc.now) }
     ensures rows { (before : List RawReloc) → AreRows before rows.old → AreRows (before ++ reloc.now ∷ []) rows.new }
@@ -120,7 +92,7 @@ fn is_put(rows: &mut [EntryRelocs], section: &Section, reloc: &RawReloc) -> bool
 }
 
 // Puts a relocation among those of its entry's fields, or tells its entry's place.
-fn put(rows: &mut [EntryRelocs], section: &Section, reloc: &RawReloc) -> Option<u64>
+fn put(rows: &mut [EntryRow], section: &Section, reloc: &RawReloc) -> Option<u64>
     requires count { length rows.old ≡ rules.entry_count section.now }
     requires room { section.now.file_offset + length section.now.bytes < 2 ^ 64 }
     ensures fault { (before : List RawReloc) → AreRows before rows.old
@@ -136,7 +108,7 @@ fn put(rows: &mut [EntryRelocs], section: &Section, reloc: &RawReloc) -> Option<
 // Puts the relocations of a section among those of its entries' fields, and tells the least place at which one is no
 // first pointer of a field.
 #[tactic(auto, using(crate::proofs::RowLemmas::fills))]
-fn fill(rows: &mut [EntryRelocs], section: &Section, relocs: &[RawReloc]) -> Option<u64>
+fn fill(rows: &mut [EntryRow], section: &Section, relocs: &[RawReloc]) -> Option<u64>
     requires relocs { relocs.now ≡ section.now.relocs }
     requires rows { AreRows [] rows.old }
     requires count { length rows.old ≡ rules.entry_count section.now }
@@ -151,12 +123,12 @@ fn fill(rows: &mut [EntryRelocs], section: &Section, relocs: &[RawReloc]) -> Opt
     fault
 }
 
-fn empty_rows(alloc: Global, count: usize) -> Result<Vec<EntryRelocs>, OutOfMemory>
+fn empty_rows(alloc: Global, count: usize) -> Result<Vec<EntryRow>, OutOfMemory>
     ensures count { IfOk result (λ rows. length rows.items ≡ count) }
     ensures rows { IfOk result (λ rows. AreRows [] rows.items) }
 {
     let mut rows = Vec::new(alloc);
-    rows.resize(count, NONE)?;
+    rows.resize(count, EMPTY)?;
     Ok(rows)
 }
 
@@ -164,7 +136,7 @@ fn empty_rows(alloc: Global, count: usize) -> Result<Vec<EntryRelocs>, OutOfMemo
 /// these.
 #[derive(Debug, Drop)]
 pub struct Pointers {
-    pub rows: Vec<EntryRelocs>,
+    pub rows: Vec<EntryRow>,
     pub fault: Option<u64>,
 }
 

@@ -1,6 +1,6 @@
 //! One pass over the sections of entries: the least place at which an entry is at fault, and the entries that are kept.
 
-ghost use Rattle.std.specs.Prelude.{◌≡◌, ◌+◌, ◌*◌, ◌≤◌, ◌<◌, ◌==◌, ◌++◌, None, All, IfOk, IfSome, OnOk, is_err, length, not};
+ghost use Rattle.std.specs.Prelude.{◌≡◌, ◌+◌, ◌*◌, ◌≤◌, ◌<◌, ◌==◌, ◌++◌, [], None, All, IfOk, IfSome, OnOk, is_err, length, not};
 ghost use Rattle.std.specs.Option.{option_map, option_to_list};
 ghost use Rattle.std.specs.Result.{result_unwrap_or};
 ghost use Rattle.mo_types.specs.RelocationRules.{least};
@@ -14,10 +14,12 @@ ghost use Rattle.unwind_read.specs.Pointers.{AreRows};
 ghost use Rattle.unwind_read.specs.Rules as rules;
 ghost use Rattle.unwind_read.specs.Unwinds as unwinds;
 
-use crate::cut_object::{CutObject, Hints};
+use crate::cut_object::CutObject;
 use crate::entries::{Found, read_entry};
 use crate::entry::CompactUnwindEntry;
+use crate::entry_rows::{EntryRow, relocs_in};
 use crate::fields::AtFault;
+use crate::guide::Hints;
 use crate::least::lesser;
 use crate::pointers::{EntryRelocs, entry_count, entry_place, pointers_of};
 use crate::spans::Span;
@@ -99,10 +101,11 @@ fn add_entry(
 
 // Reads the entries of a section by the relocations of their fields.
 fn add_entries(
+    alloc: Global,
     out: &mut Entries,
     cut: &CutObject,
     section: &Section,
-    rows: &[EntryRelocs],
+    rows: &[EntryRow],
 ) -> Result<Option<u64>, OutOfMemory>
     requires cut { IsCut cut.now }
     requires whole { IsWholeSection section.now }
@@ -112,14 +115,15 @@ fn add_entries(
     ensures { IfOk result (Added cut.now.object.now cut.now.file section.now out.old.unwinds.items out.new.unwinds.items
         out.old.spans.items out.new.spans.items (rules.entry_count section.now)) }
 {
-    let mut hints = Hints {
-        function: 0,
-        personality: 0,
-        lsda: 0,
-    };
+    let mut hints = Hints::new(alloc);
     let mut fault = None;
-    for (at, relocs) in rows.iter().enumerate() {
-        fault = lesser(fault, add_entry(out, cut, &mut hints, section, at, relocs)?);
+    for (at, row) in rows.iter().enumerate() {
+        hints.renew(alloc, cut.atoms)?;
+        let relocs = relocs_in(row, at);
+        fault = lesser(
+            fault,
+            add_entry(out, cut, &mut hints, section, at, &relocs)?,
+        );
     }
     Ok(fault)
 }
@@ -143,6 +147,29 @@ fn has_entries(section: &Section) -> bool
         && section.name.as_slice() == b"__compact_unwind".as_slice()
 }
 
+// How many entries the sections of an object have.
+fn count_entries(sections: &[Section]) -> usize {
+    let mut count = 0usize;
+    for section in sections {
+        if has_entries(section) {
+            count = count.saturating_add(entry_count(section));
+        }
+    }
+    count
+}
+
+/// No entries, with room for those of an object's sections.
+pub fn room_for(alloc: Global, sections: &[Section]) -> Result<Entries, OutOfMemory>
+    ensures unwinds { IfOk result (λ out. out.unwinds.items ≡ []) }
+    ensures spans { IfOk result (λ out. out.spans.items ≡ []) }
+{
+    let count = count_entries(sections);
+    Ok(Entries {
+        unwinds: Vec::with_capacity(alloc, count)?,
+        spans: Vec::with_capacity(alloc, count)?,
+    })
+}
+
 // Reads the entries of a section of them, and tells the least place at which a part of the rule fails in it.
 #[tactic(auto, using(crate::proofs::SectionLemmas::none_there, crate::proofs::RuleLemmas::sections))]
 fn add_section(
@@ -163,7 +190,7 @@ fn add_section(
         return Ok(None);
     }
     let pointers = pointers_of(alloc, section)?;
-    let broken = add_entries(out, cut, section, pointers.rows.as_slice())?;
+    let broken = add_entries(alloc, out, cut, section, pointers.rows.as_slice())?;
     let other = lesser(pointers.fault, broken);
     Ok(lesser(not_whole(section), other))
 }

@@ -3,10 +3,13 @@
 ghost use Rattle.std.specs.Prelude.{◌≡◌, ◌+◌, ◌^◌, ◌<◌, IfSome};
 ghost use Rattle.mo_types.specs.RelocationRules as places;
 ghost use Rattle.unwind_read.specs.CutObject.{IsCut};
+ghost use Rattle.unwind_read.specs.SectionNotes.{note_of};
 ghost use Rattle.unwind_read.specs.Spots as spots;
 ghost use Rattle.unwind_read.specs.Spots.{IsSpot};
 
 use crate::cut_object::{CutObject, bounds_of};
+use crate::guide::Hint;
+use crate::section_notes::{SectionNote, note_at};
 use mo_types::{RawReloc, Section, SymbolKind};
 
 /// A place in an atom of a linked section.
@@ -30,21 +33,23 @@ fn is_within(section: &Section, address: u64) -> bool
     section.address <= address && address - section.address <= section.size
 }
 
-fn holds(section: &Section, address: u64) -> bool
+fn holds(section: &Section, note: &SectionNote, address: u64) -> bool
+    requires { note.now ≡ note_of section.now }
     ensures { result ≡ spots.holds section.now address }
 {
-    !section.is_dropped() && is_within(section, address)
+    note.is_linked && is_within(section, address)
 }
 
 /// The place of an address in the section of a number, where that is linked and holds it, its end included.
 #[tactic(auto, using(crate::proofs::SpotLemmas::spots))]
-pub fn spot_at(cut: &CutObject, hint: &mut usize, number: u32, address: u64) -> Option<Spot>
+pub fn spot_at(cut: &CutObject, hint: &mut Hint, number: u32, address: u64) -> Option<Spot>
     requires { IsCut cut.now }
     ensures value { result ≡ spots.spot_at cut.now.object.now number address }
     ensures spot { IfSome result IsSpot }
 {
     let section = cut.object.section(number)?;
-    if !holds(section, address) {
+    let note = note_at(cut.object.sections.as_slice(), cut.notes, number, section);
+    if !holds(section, &note, address) {
         return None;
     }
     let offset = address - section.address;
@@ -54,7 +59,7 @@ pub fn spot_at(cut: &CutObject, hint: &mut usize, number: u32, address: u64) -> 
         start,
         offset,
         end,
-        in_text: section.segment.as_slice() == b"__TEXT".as_slice(),
+        in_text: note.in_text,
     })
 }
 
@@ -72,7 +77,7 @@ fn moved(address: u64, by: u64) -> Option<u64>
 /// Where a field that holds a number leads, by its relocation: to the object's own definition of a symbol, moved by
 /// that number, or to the address that it is.
 #[tactic(auto, using(crate::proofs::SpotLemmas::pointees), unfolding(crate::specs::Spots::pointee))]
-pub fn pointee(cut: &CutObject, hint: &mut usize, held: u64, reloc: &RawReloc) -> Option<Spot>
+pub fn pointee(cut: &CutObject, hint: &mut Hint, held: u64, reloc: &RawReloc) -> Option<Spot>
     requires { IsCut cut.now }
     ensures value { result ≡ spots.pointee cut.now.object.now held reloc.now }
     ensures spot { IfSome result IsSpot }

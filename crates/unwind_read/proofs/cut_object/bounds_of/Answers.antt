@@ -1,4 +1,4 @@
-use Rattle.std.proofs.Common.{◌≡◌, ◌+◌, ◌<◌, ◌≤◌, ◌^◌, arith}
+use Rattle.std.proofs.Common.{◌+◌, ◌<◌, ◌≤◌, ◌^◌, arith}
 use Rattle.mo_types.specs.Whole.{IsWholeSection}
 use Rattle.reloc_read.proofs.LookupLemmas.{rising_atoms}
 use Rattle.unwind_read.proofs.EndLemmas.{bounds, some_atom, whole_section}

@@ -1,5 +1,4 @@
-use Rattle.std.proofs.Common.{◌≡◌, ◌<◌, ◌∙◌, refl, arith, subst, ℕ}
-use Rattle.unwind_read.specs.Unwinds.{length_of}
+use Rattle.std.proofs.Common.{◌<◌, refl, subst, ℕ}
 use Rattle.unwind_read.proofs.EntryLemmas.{kept_says, passes, positive}
 use Rattle.unwind_read.proofs.entries.read_entry.Goals as goal
 

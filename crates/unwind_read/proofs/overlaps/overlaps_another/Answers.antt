@@ -1,4 +1,4 @@
-use Rattle.std.proofs.Common.{◌≡◌, ◌∙◌, not, ap, get_or}
+use Rattle.std.proofs.Common.{◌∙◌, not, ap, get_or}
 use Rattle.std.specs.List.{count_by}
 use Rattle.std.proofs.lemmas.List.{get_or_default}
 use Rattle.unwind_read.specs.declared.spans.Span.{Span}

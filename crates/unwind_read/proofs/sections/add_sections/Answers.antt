@@ -1,4 +1,4 @@
-use Rattle.std.proofs.Common.{◌<◌, arith, length}
+use Rattle.std.proofs.Common.{arith}
 use Rattle.unwind_read.proofs.SectionLemmas.{all_more}
 use Rattle.unwind_read.proofs.sections.add_sections.Goals as goal
 
