@@ -7,10 +7,12 @@ pub mod Finish
 pub mod Sound
 pub mod Meaning
 pub mod Positions
+pub mod Around
 pub mod Pushed
 pub mod Areas
 pub mod Fitting
 pub mod Moving
+pub mod Larger
 pub mod Ranged
 pub mod Single
 pub mod Planned

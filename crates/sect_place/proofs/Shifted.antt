@@ -1,8 +1,9 @@
 -- The address that a look-up answers is that of the layout with islands.
-use Rattle.std.proofs.Common.{◌≡◌, ℕ, ◌+◌, ◌⊎◌, List, [], ◌∷◌, map, Option, Some, None, All, Contains, codes, refl, sym, ap, subst, ◌∙◌, inl, inr, arith}
+use Rattle.std.proofs.Common.{◌≡◌, ℕ, ◌+◌, ◌≤◌, ◌⊎◌, Bool, true, false, List, [], ◌∷◌, map, Option, Some, None, All, Contains, codes, refl, sym, ap, subst, ◌∙◌, inl, inr, arith}
 use Rattle.std.specs.List.{filter, AllByRecursion}
 use Rattle.std.specs.List.Sorted.{IsStrictlySortedBy}
 use Rattle.std.specs.Ordering.{on}
+use Rattle.std.proofs.lemmas.Bool.{cases_Bool, false≢true}
 use Rattle.std.proofs.lemmas.List.Elements.{All-from_recursion, recursion_from_All}
 use Rattle.std.proofs.lemmas.List.Sorted.{Contains-permutation, IsPermutation-sym}
 use Rattle.list_lemmas.proofs.Members.{In, Contains_from_in, all_in, from_filter, from_map, in_from_Contains, in_map, from_flat, in_left}
@@ -27,12 +28,14 @@ use Rattle.sect_place.specs.declared.layout.PlacedSection.{PlacedSection}
 use Rattle.sect_place.specs.declared.shift.Region.TheVariants.{Code, Text}
 use Rattle.sect_place.specs.declared.shift.Step.{Step}
 use Rattle.sect_place.specs.declared.size.PlaceSizes.{PlaceSizes}
+use Rattle.sect_place.specs.inner.Around.{IsAround, IsShiftAt, IsShiftIn, shift_in}
 use Rattle.sect_place.specs.inner.Room.{capped}
+use Rattle.sect_place.proofs.Around.{code_in_text, one_section, stands_amid}
 use Rattle.sect_place.proofs.Fitting.{low_section, unit_below}
 use Rattle.sect_place.proofs.Moving.{moved_law}
 use Rattle.sect_list.proofs.Once.{one_by_map}
 use Rattle.sect_place.proofs.Planned.{AreThose, all_there, listed_back, listed_there, same_unit, text_ends, those}
-use Rattle.sect_place.proofs.Positions.{agree, chosen_there, image_apart, image_keys, kept_listed, part_keys, text_keys}
+use Rattle.sect_place.proofs.Positions.{agree, chosen_there, from_pairs, image_apart, image_keys, kept_listed, part_keys, text_keys}
 use Rattle.sect_place.proofs.Shifting.{steps_come_to, steps_rise}
 
 -- what a look-up rests on
@@ -173,17 +176,10 @@ module _ (kept : List Atom) (sections : List OutSection) (slots : Slots) (island
       let moved = moved_law kept sections slots islands sizes command is.ordered is.behind is.rising key place h in
       none moved.0 (Contains-permutation before_all layout.placed (record { atom = key; address = moved.0 }) is.laid.places moved.1)
 
-  in_text : (key : AtomKey) → Contains (code_keys sections) key → Contains (text_keys_of sections) key
-  unfolding code_keys
-  in_text key h =
-      let found : (section : OutSection) × In section (filter is_code sections) × In key section.atoms = from_flat (λ (s : OutSection). s.atoms) (filter is_code sections) key (in_from_Contains (keys_of (filter is_code sections)) key h) in
-      let passed = from_filter is_code sections found.0 found.1 in
-      Contains_from_in (text_keys_of sections) key (chosen_there (is_in (codes "__TEXT")) sections found.0 key passed.0 ((agree found.0).code passed.1) found.2)
-
   by_code : (key : AtomKey) (a b : ℕ) → Contains (code_keys sections) key → Moves key a b → b ≡ a + step_before table.steps table.all key
   by_code key a b code (inl m) = m.1 ∙ ap (λ (n : ℕ). a + n) (sym (before_same key))
   by_code key a b code (inr (inl m)) = absurd (m.1 code)
-  by_code key a b code (inr (inr m)) = absurd (m.0 (in_text key code))
+  by_code key a b code (inr (inr m)) = absurd (m.0 (code_in_text sections key code))
 
   by_text : (key : AtomKey) (a b : ℕ) → (Contains (code_keys sections) key → ⊥) → Contains (text_keys_of sections) key → Moves key a b → b ≡ a + table.all
   by_text key a b away text (inl m) = absurd (away m.0)
@@ -226,3 +222,50 @@ module _ (kept : List Atom) (sections : List OutSection) (slots : Slots) (island
       by (inl p) = answers_code key place result h p.0 (answered ∙ ap (λ (n : ℕ). capped (place + n)) p.1)
       by (inr (inl p)) = answers_text key place result h p.0 p.1 (answered ∙ ap (λ (n : ℕ). capped (place + n)) p.2)
       by (inr (inr p)) = answers_pages key place result h p.0 p.1 (answered ∙ ap (λ (n : ℕ). capped (place + n)) p.2)
+
+  -- ---- in the midst of a section
+
+  abbrev There : PlacedSection → AtomKey → Type 0
+  There p key = In p layout.sections × In key p.section.atoms
+
+  around : (key : AtomKey) (place : ℕ) (p : PlacedSection) → Has key place → IsAround layout.sections place p → There p key
+  around key place p h is_around = stands_amid kept sections slots sizes command layout is.laid key place p h is_around
+
+  -- sections that list an atom are one
+  listed_in : (t : OutSection → Bool) (key : AtomKey) (p : PlacedSection) → There p key → Contains (keys_of (filter t (sections_in layout.sections))) key → t p.section ≡ true
+  listed_in t key p there h =
+      let found : (section : OutSection) × In section (filter t (sections_in layout.sections)) × In key section.atoms = from_flat (λ (s : OutSection). s.atoms) (filter t (sections_in layout.sections)) key (in_from_Contains (keys_of (filter t (sections_in layout.sections))) key h) in
+      let passed = from_filter t (sections_in layout.sections) found.0 found.1 in
+      let own : (section : OutSection) → In section (sections_in layout.sections) → In key section.atoms → In section sections = λ section k listed. by section listed (are.known section k) in
+      let same : found.0 ≡ p.section = one_section sections found.0 p.section key (from_pairs (keys_of sections) is.ordered.once) (own found.0 passed.0 found.2) (own p.section (in_map (λ (q : PlacedSection). q.section) layout.sections p there.0) there.1) found.2 there.1 in
+      subst (λ (s : OutSection). t s ≡ true) same passed.1
+    where
+      by : (section : OutSection) → In key section.atoms → In section sections ⊎ ((section.atoms ≡ []) × ((section.align ≤ 2) ⊎ (is_in (codes "__TEXT") section ≡ false))) → In section sections
+      by section listed (inl h) = h
+      by section listed (inr none) = absurd (subst (λ (keys : List AtomKey). In key keys) none.0 listed)
+
+  in_region_of : (t : OutSection → Bool) (key : AtomKey) (p : PlacedSection) → There p key → t p.section ≡ true → Contains (keys_of (filter t (sections_in layout.sections))) key
+  in_region_of t key p there passes =
+      Contains_from_in (keys_of (filter t (sections_in layout.sections))) key
+      (chosen_there t (sections_in layout.sections) p.section key (in_map (λ (q : PlacedSection). q.section) layout.sections p there.0) passes there.1)
+
+  pub answers_amid : (key : AtomKey) (place bytes result : ℕ) (p : PlacedSection) → Has key place → IsAround layout.sections place p → IsShiftIn p.section table key bytes → result ≡ capped (place + bytes) → Answers key (Some result)
+  answers_amid key place bytes result p h is_around shift answered = by (cases_Bool (is_code p.section)) (cases_Bool (is_in (codes "__TEXT") p.section))
+    where
+      there : There p key
+      there = around key place p h is_around
+
+      away : (t : OutSection → Bool) → t p.section ≡ false → Contains (keys_of (filter t (sections_in layout.sections))) key → ⊥
+      away t none listed = false≢true (sym none ∙ listed_in t key p there listed)
+
+      moved : (n : ℕ) → shift_in p.section table key ≡ n → result ≡ capped (place + n)
+      moved n e = answered ∙ ap (λ (m : ℕ). capped (place + m)) (shift table_rises ∙ e)
+
+      by : (is_code p.section ≡ true) ⊎ (is_code p.section ≡ false) → (is_in (codes "__TEXT") p.section ≡ true) ⊎ (is_in (codes "__TEXT") p.section ≡ false) → Answers key (Some result)
+      by (inl code) text = answers_code key place result h (in_region_of is_code key p there code) (moved (step_before table.steps table.all key) (rw code refl))
+      by (inr other) (inl text) = answers_text key place result h (away is_code other) (in_region_of (is_in (codes "__TEXT")) key p there text) (moved table.all (rw (other, text) refl))
+      by (inr other) (inr late) = answers_pages key place result h (away is_code other) (away (is_in (codes "__TEXT")) late) (moved table.pages (rw (other, late) refl))
+
+  pub answers_at : (key : AtomKey) (place bytes result : ℕ) → Has key place → IsShiftAt layout.sections table key place bytes → result ≡ capped (place + bytes) → Answers key (Some result)
+  answers_at key place bytes result h (inl shift) answered = answers key place bytes result h shift answered
+  answers_at key place bytes result h (inr amid) answered = answers_amid key place bytes result amid.0 h amid.1 amid.2 answered

@@ -40,6 +40,11 @@ abbrev pub AreBehindCode : List Atom → List OutSection → List IslandArea →
 AreBehindCode kept sections areas =
     All (λ (area : IslandArea). Contains (map (λ (atom : Atom). atom.key) (atoms_of kept (code_keys sections))) area.last) areas
 
+-- areas each of which is one of others, with no fewer islands there
+abbrev pub AreAmong : List IslandArea → List IslandArea → Type 0
+AreAmong few more =
+    All (λ (area : IslandArea). (other : IslandArea) × Contains more other × (other.last ≡ area.last) × (length area.targets ≤ length other.targets)) few
+
 -- the areas that count: all, or those before an atom of `__text`
 abbrev pub counts : Option AtomKey → IslandArea → Bool
 counts None area = true

@@ -15,7 +15,7 @@ ghost use Rattle.tlv_plan.specs.Template.{keys_of, stand};
 ghost use Rattle.sect_place.specs.Layout.{IsLayoutOf, Plan, image_stand, image_places, image_sections, plan_of};
 ghost use Rattle.sect_list.specs.OutSections.{out_sections};
 ghost use Rattle.sect_place.specs.Places.{AreLeast, places, part_from, page_up};
-ghost use Rattle.sect_place.specs.Moved.{AreBehindCode, AreInOrder, IsMoved, areas_bytes, no_islands, pages_moved, text_end};
+ghost use Rattle.sect_place.specs.Moved.{AreAmong, AreBehindCode, AreInOrder, IsMoved, areas_bytes, no_islands, pages_moved, text_end};
 ghost use Rattle.sect_place.specs.declared.island.IslandArea.{IslandArea};
 ghost use Rattle.sect_place.specs.declared.island.IslandPlan.{IslandPlan};
 ghost use Rattle.sect_place.specs.declared.layout.Layout.{Layout};
@@ -97,4 +97,17 @@ pub fn islands_move_what_follows()
         × IsMoved sections islands.areas (text_end kept sections slots sizes command) key before after }
     ensures areas { (unit : ℕ) (limit : Option AtomKey) (areas : List IslandArea) → (count : ℕ) × (areas_bytes unit limit areas ≡ count * 2 ^ unit) }
     ensures pages { (end bytes : ℕ) → (count : ℕ) × (pages_moved end bytes ≡ count * 2 ^ 14) }
+{}
+
+/// A larger set of islands moves nothing down: where each area is one of more, with no fewer islands there, no atom stands
+/// below its place with the fewer.
+pub fn more_islands_move_nothing_down()
+    ensures { (kept : List Atom) (sections : List OutSection) (slots : Slots) (few more : IslandPlan) (sizes : PlaceSizes) (command : Command)
+        → AreInOrder kept sections → AreBehindCode kept sections few.areas → AreBehindCode kept sections more.areas
+        → IsStrictlySortedBy (on (λ (area : IslandArea). area.last) compare_keys) few.areas
+        → IsStrictlySortedBy (on (λ (area : IslandArea). area.last) compare_keys) more.areas
+        → AreAmong few.areas more.areas → (key : AtomKey) (low high : ℕ)
+        → Contains (image_places (plan_of kept sections slots few sizes command)) (record { atom = key; address = low })
+        → Contains (image_places (plan_of kept sections slots more sizes command)) (record { atom = key; address = high })
+        → low ≤ high }
 {}

@@ -10,11 +10,12 @@
 //!
 //! `address` answers an atom's address, or `None` exactly where the layout doesn't have it; `address_near` looks at
 //! one place of the list first. `IslandShifts` tells how far an `IslandPlan` moves what a layout without islands has
-//! (`specs/Shifts.antt`), and `address_with` an atom's address by it, where the sections list their atoms in order.
-//! These look-ups take no memory.
+//! (`specs/Shifts.antt`), and `address_with` an atom's address by it, where the sections list their atoms in order: mostly
+//! the atom's place in the layout tells its section, else the sections' lists are searched. These look-ups take no memory.
 //!
 //! The laws say that atoms and sections stand apart and aligned, that places are least (`places_are_least`), that each
-//! kept atom that a section lists has a place, and that a layout is one thing where no atom is listed twice.
+//! kept atom that a section lists has a place, that a layout is one thing where no atom is listed twice, how far islands
+//! move what follows, and that more of them move nothing down.
 //!
 //! A body that places an atom where the one before ends, whatever its alignment, isn't proved, nor one that answers an
 //! image of 2^32 bytes, or leaves room for half the islands.
@@ -35,7 +36,8 @@ mod wide;
 pub use island::{AreaList, BranchTarget, BranchTargetList, IslandArea, IslandPlan, WayList};
 pub use laws::{
     a_layout_is_one, atoms_stand_apart, each_listed_atom_is_placed, islands_move_what_follows,
-    no_atom_is_placed_twice, places_are_least, sections_are_in_order, sections_stand_apart,
+    more_islands_move_nothing_down, no_atom_is_placed_twice, places_are_least,
+    sections_are_in_order, sections_stand_apart,
 };
 pub use layout::{
     Layout, Placed, PlacedList, PlacedSection, PlacedSectionList, Segment, SegmentList,

@@ -1,5 +1,5 @@
 //! Where atoms stand in an image with islands, found by its layout without them.
-ghost use Rattle.std.specs.Prelude.{◌≡◌, ◌+◌, ◌<◌, ◌≤◌, ◌^◌, ◌++◌, All, Contains, IfOk, IsTrue, List, None, false, length, map, true};
+ghost use Rattle.std.specs.Prelude.{◌≡◌, ◌+◌, ◌<◌, ◌≤◌, ◌^◌, ◌++◌, All, Contains, IfOk, IfSome, IsTrue, List, None, false, length, map, true};
 ghost use Rattle.std.specs.List.Sorted.{IsPartitionPoint, IsStrictlySortedBy};
 ghost use Rattle.std.specs.Ordering.{on, is_lt};
 ghost use Rattle.command_line.specs.declared.command.Command.{Command};
@@ -16,6 +16,7 @@ ghost use Rattle.sect_place.specs.declared.island.IslandPlan.{IslandPlan};
 ghost use Rattle.sect_place.specs.declared.layout.PlacedSection.{PlacedSection};
 ghost use Rattle.sect_place.specs.declared.shift.Step.{Step};
 ghost use Rattle.sect_place.specs.declared.size.PlaceSizes.{PlaceSizes};
+ghost use Rattle.sect_place.specs.inner.Around as inner;
 ghost use Rattle.sect_place.specs.inner.Room.{capped};
 
 use crate::island::{IslandArea, IslandPlan};
@@ -173,13 +174,61 @@ pub fn address_with(layout: &Layout, shifts: &IslandShifts, atom: AtomKey) -> Op
         → spec.IsAddressIn (plan_of kept sections slots islands sizes command) atom result }
 {
     match address(layout, atom) {
-        Some(place) => Some(sum_to(place, bytes_to(layout.sections.as_slice(), shifts, &atom))),
+        Some(place) => {
+            let bytes = bytes_to(layout.sections.as_slice(), shifts, &atom, place);
+            Some(sum_to(place, bytes))
+        }
         None => None,
     }
 }
 
-// How far an atom moves.
-fn bytes_to(sections: &[PlacedSection], shifts: &IslandShifts, atom: &AtomKey) -> u128
+// How far an atom moves that stands at a place. Mostly the place tells its section.
+fn bytes_to(sections: &[PlacedSection], shifts: &IslandShifts, atom: &AtomKey, place: u64) -> u128
+    ensures { inner.IsShiftAt sections.now shifts.now atom.now place result }
+{
+    match section_around(sections, place) {
+        Some(placed) => bytes_in(&placed.section, shifts, atom),
+        None => bytes_by_lists(sections, shifts, atom),
+    }
+}
+
+// The section in whose midst a place is, if a look at it tells.
+fn section_around(sections: &[PlacedSection], place: u64) -> Option<&PlacedSection>
+    ensures { IfSome result (λ p. inner.IsAround sections.now place p.now) }
+{
+    let before = sections.partition_point(|placed| placed.address < place);
+    if before == 0 {
+        return None;
+    }
+    let placed = &sections[before - 1];
+    if is_amid(placed, place) {
+        return Some(placed);
+    }
+    None
+}
+
+// Whether a place is in a section, and isn't its start.
+fn is_amid(placed: &PlacedSection, place: u64) -> bool
+    ensures { IsTrue result → (placed.now.address < place) × (place < placed.now.address + placed.now.size) }
+{
+    placed.address < place && widened(place) < widened(placed.address) + widened(placed.size)
+}
+
+// How far an atom of a section moves.
+fn bytes_in(section: &OutSection, shifts: &IslandShifts, atom: &AtomKey) -> u128
+    ensures { inner.IsShiftIn section.now shifts.now atom.now result }
+{
+    if is_code(section) {
+        return bytes_before(shifts.steps.as_slice(), shifts.all, atom);
+    }
+    if is_in(section, b"__TEXT") {
+        return shifts.all;
+    }
+    shifts.pages
+}
+
+// How far an atom moves, by the sections' lists.
+fn bytes_by_lists(sections: &[PlacedSection], shifts: &IslandShifts, atom: &AtomKey) -> u128
     ensures { spec.IsShift sections.now shifts.now atom.now result }
 {
     if lists(sections, Region::Code, atom) {

@@ -1,7 +1,7 @@
 use Rattle.std.proofs.Common.{refl, ap, inl, ◌∙◌}
 use Rattle.sect_place.specs.Shifts.{ShiftTable}
 use Rattle.sect_place.proofs.Shifting.{read_before}
-use Rattle.sect_place.proofs.shift.bytes_to.Goals as goal
+use Rattle.sect_place.proofs.shift.bytes_by_lists.Goals as goal
 
 pub returns-then-lists : goal.returns-then-lists
 returns-then-lists c = λ placed steps. inl (
