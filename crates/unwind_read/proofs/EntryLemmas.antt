@@ -11,7 +11,6 @@ use Rattle.unwind_read.specs.declared.pointers.EntryRelocs.{EntryRelocs}
 use Rattle.unwind_read.specs.declared.spans.Span.{Span}
 use Rattle.unwind_read.specs.declared.spots.Spot.{Spot}
 use Rattle.unwind_read.specs.Found.{found_with}
-use Rattle.unwind_read.specs.Overlaps.{IsSpan}
 use Rattle.unwind_read.specs.Rules.{fails_test, has_bad_function, has_bad_lsda, has_bad_personality, has_no_function}
 use Rattle.unwind_read.specs.Unwinds.{atom_of, function_of, kept_function, length_of, lsda_of, offset_of, personality_of, span_with}
 
@@ -68,11 +67,8 @@ kept_says object file place entry relocs function atom offset length encoding pe
     let more : ltb 0 (length_of entry function) ≡ true = lt-ltb 0 (length_of entry function) some in
     rw (← e, is, more) (rw (is_atom, is_offset, is_length, is_encoding, is_personality, is_lsda, is_span) refl)
 
-pub span_is_some : (place : ℕ) (entry : CompactUnwindEntry) (function : Spot) (span : Span) → 0 < length_of entry function → span ≡ span_with place entry function → IsSpan span
-span_is_some place entry function span some is = rw is (record { some = omega arith })
-
 pub positive : (n : ℕ) → (n ≡ 0 → ⊥) → 0 < n
 positive zero other = absurd (other refl)
 positive (suc n) other = omega arith
 
-pub ruleset entries = (function_fails, lsda_fails, personality_fails, passes, failed_says_none, empty_says_none, kept_says, span_is_some)
+pub ruleset entries = (function_fails, lsda_fails, personality_fails, passes, failed_says_none, empty_says_none, kept_says)

@@ -80,10 +80,10 @@ in_atoms object file entries e =
 
 -- ---- the ranges of entries are their spans
 
-abbrev SameRange : Unwind → Span → Type 0
+abbrev pub SameRange : Unwind → Span → Type 0
 SameRange entry span = (span.section ≡ entry.atom.section) × (span.from ≡ entry.atom.offset + entry.offset) × (span.to ≡ span.from + entry.length)
 
-abbrev Match : List Unwind → List Span → Type 0
+abbrev pub Match : List Unwind → List Span → Type 0
 Match [] [] = Unit {0}
 Match [] (s ∷ ss) = ⊥
 Match (e ∷ es) [] = ⊥
@@ -116,17 +116,17 @@ match_section object file section = by (has_entries section)
     by true = match_range object file section (range_with_len 0 (entry_count section))
     by false = tt
 
-match_all : (object : Object) (file : FileId) (sections : List Section) → Match (flat_map (section_unwinds object file) sections) (flat_map (section_spans object) sections)
+pub match_all : (object : Object) (file : FileId) (sections : List Section) → Match (flat_map (section_unwinds object file) sections) (flat_map (section_spans object) sections)
 match_all object file [] = tt
 match_all object file (section ∷ sections) =
     match_append (section_unwinds object file section) (flat_map (section_unwinds object file) sections) (section_spans object section) (flat_map (section_spans object) sections) (match_section object file section) (match_all object file sections)
 
-record SpanOf (es : List Unwind) (ss : List Span) (k : ℕ) (d : Unwind) : Type 0 where
-  span : Span
-  there : slice_get ss k ≡ Some span
-  same : SameRange (get_or es k d) span
+pub record SpanOf (es : List Unwind) (ss : List Span) (k : ℕ) (d : Unwind) : Type 0 where
+  pub span : Span
+  pub there : slice_get ss k ≡ Some span
+  pub same : SameRange (get_or es k d) span
 
-span_of : (es : List Unwind) (ss : List Span) (k : ℕ) (d : Unwind) → Match es ss → k < length es → SpanOf es ss k d
+pub span_of : (es : List Unwind) (ss : List Span) (k : ℕ) (d : Unwind) → Match es ss → k < length es → SpanOf es ss k d
 span_of [] ss k d match low = absurd (omega arith)
 span_of (e ∷ es) [] k d match low = absurd match
 span_of (e ∷ es) (s ∷ ss) zero d match low = record { span = s; there = refl; same = match.0 }

@@ -6,6 +6,8 @@ pub mod LeastLemmas
 pub mod MovedLemmas
 pub mod OverlapLemmas
 pub mod PartLemmas
+pub mod RangeLemmas
+pub mod RoomLemmas
 pub mod RowLemmas
 pub mod RuleLemmas
 pub mod SectionLemmas

@@ -1,5 +1,5 @@
 -- The entries of sections, as they come.
-use Rattle.std.proofs.Common.{◌≡◌, ℕ, ◌+◌, ◌<◌, ◌≤◌, ◌++◌, ◌∷◌, [], List, length, get_or, take, true, false, Option, Some, None, Ok, Err, All, refl, sym, ap, ◌∙◌, append_assoc, append-nil}
+use Rattle.std.proofs.Common.{◌≡◌, ℕ, ◌+◌, ◌<◌, ◌≤◌, ◌++◌, ◌∷◌, [], List, length, get_or, take, true, false, Option, Some, None, Ok, Err, refl, sym, ap, ◌∙◌, append_assoc, append-nil, subst}
 use Rattle.std.specs.List.{filter_map, flat_map, range_with_len}
 use Rattle.std.specs.Option.{option_map, option_to_list}
 use Rattle.std.proofs.lemmas.Grind.{flat_map-append}
@@ -16,14 +16,16 @@ use Rattle.unwind_read.specs.declared.fault.UnwindFault.TheVariants.{BadEntry}
 use Rattle.unwind_read.specs.declared.entry_rows.EntryRow.{EntryRow}
 use Rattle.unwind_read.specs.declared.pointers.EntryRelocs.{EntryRelocs}
 use Rattle.unwind_read.specs.EntryRows.{relocs_in}
+use Rattle.unwind_read.specs.declared.ranges.Ranges.{Ranges}
 use Rattle.unwind_read.specs.declared.spans.Span.{Span}
 use Rattle.unwind_read.specs.declared.spots.Spot.{Spot}
 use Rattle.unwind_read.specs.Added.{Added, AreAll}
 use Rattle.unwind_read.specs.Found.{entry_fault, found_with}
-use Rattle.unwind_read.specs.Overlaps.{IsSpan, overlap_faults}
+use Rattle.unwind_read.specs.Overlaps.{overlap_faults}
+use Rattle.unwind_read.specs.Ranges.{AreRangesOf}
 use Rattle.unwind_read.specs.Pointers.{AreRows}
 use Rattle.unwind_read.specs.Rules.{entry_at, entry_count, entry_place, entry_relocs, has_entries, section_faults}
-use Rattle.unwind_read.specs.Unwinds.{first_fault, kept_function, section_spans, section_unwinds, span_at, span_with, unwind_at, unwind_with, unwinds_of}
+use Rattle.unwind_read.specs.Unwinds.{first_fault, kept_function, section_spans, section_unwinds, span_at, span_with, spans_of, unwind_at, unwind_with, unwinds_of}
 use Rattle.unwind_read.proofs.LeastLemmas.{least-append, least_more}
 use Rattle.unwind_read.proofs.RowLemmas.{row_is}
 
@@ -56,8 +58,11 @@ entry_row_is section rows i row relocs are within is read = read ∙ row_is sect
 
 -- the entries of a section so far
 
-pub added_none : (object : Object) (file : FileId) (section : Section) (unwinds : List Unwind) (spans : List Span) → All IsSpan spans → Added object file section unwinds unwinds spans spans 0 None
-added_none object file section unwinds spans kept = record { told = refl; entries = sym (append-nil unwinds); ranges = sym (append-nil spans); kept = kept }
+moved_ranges : (ranges : Ranges) (spans more : List Span) → spans ≡ more → AreRangesOf ranges spans → AreRangesOf ranges more
+moved_ranges ranges spans more e are = subst (λ (xs : List Span). AreRangesOf ranges xs) e are
+
+pub added_none : (object : Object) (file : FileId) (section : Section) (unwinds : List Unwind) (ranges : Ranges) → Added object file section unwinds unwinds ranges ranges 0 None
+added_none object file section unwinds ranges = record { told = refl; entries = sym (append-nil unwinds); spans = λ spans are. moved_ranges ranges spans (spans ++ []) (sym (append-nil spans)) are }
 
 more_listed : {X : Type 0} (h : ℕ → Option X) (at : ℕ) (xs ys zs : List X) → ys ≡ xs ++ filter_map h (range_with_len 0 at) → zs ≡ ys ++ option_to_list (h at) → zs ≡ xs ++ filter_map h (range_with_len 0 (at + 1))
 more_listed h at xs ys zs is more =
@@ -65,42 +70,43 @@ more_listed h at xs ys zs is more =
     ∙ append_assoc xs (filter_map h (range_with_len 0 at)) (option_to_list (h at))
     ∙ ap (λ l. xs ++ l) (sym (mapped_more h at (h at) refl))
 
-pub added_more : (object : Object) (file : FileId) (section : Section) (unwinds new_unwinds more_unwinds : List Unwind) (spans new_spans more_spans : List Span) (at : ℕ) (fault here more : Option ℕ) → Added object file section unwinds new_unwinds spans new_spans at fault → here ≡ entry_fault object section at → more ≡ lesser fault here → more_unwinds ≡ new_unwinds ++ option_to_list (unwind_at object file section at) → more_spans ≡ new_spans ++ option_to_list (span_at object section at) → All IsSpan more_spans → Added object file section unwinds more_unwinds spans more_spans (at + 1) more
-added_more object file section unwinds new_unwinds more_unwinds spans new_spans more_spans at fault here more are is joined more_u more_s kept = record {
+pub added_more : (object : Object) (file : FileId) (section : Section) (unwinds new_unwinds more_unwinds : List Unwind) (ranges new_ranges more_ranges : Ranges) (at : ℕ) (fault here more : Option ℕ) → Added object file section unwinds new_unwinds ranges new_ranges at fault → here ≡ entry_fault object section at → more ≡ lesser fault here → more_unwinds ≡ new_unwinds ++ option_to_list (unwind_at object file section at) → ((spans : List Span) → AreRangesOf new_ranges spans → AreRangesOf more_ranges (spans ++ option_to_list (span_at object section at))) → Added object file section unwinds more_unwinds ranges more_ranges (at + 1) more
+added_more object file section unwinds new_unwinds more_unwinds ranges new_ranges more_ranges at fault here more are is joined more_u more_s = record {
   told = least_more (entry_fault object section) at fault more here are.told is joined;
   entries = more_listed (unwind_at object file section) at unwinds new_unwinds more_unwinds are.entries more_u;
-  ranges = more_listed (span_at object section) at spans new_spans more_spans are.ranges more_s;
-  kept = kept;
+  spans = λ spans old. moved_ranges more_ranges _ _ ((more_listed (span_at object section) at spans (spans ++ filter_map (span_at object section) (range_with_len 0 at)) (spans ++ filter_map (span_at object section) (range_with_len 0 at) ++ option_to_list (span_at object section at)) refl refl)) (more_s (spans ++ filter_map (span_at object section) (range_with_len 0 at)) (are.spans spans old));
 }
+
+pub added_all : (object : Object) (file : FileId) (section : Section) (unwinds new_unwinds : List Unwind) (ranges new_ranges : Ranges) (at : ℕ) (fault : Option ℕ) → Added object file section unwinds new_unwinds ranges new_ranges at fault → at ≡ entry_count section → Added object file section unwinds new_unwinds ranges new_ranges (entry_count section) fault
+added_all object file section unwinds new_unwinds ranges new_ranges at fault are last = subst (λ (n : ℕ). Added object file section unwinds new_unwinds ranges new_ranges n fault) last are
 
 pub section_unwinds_are : (object : Object) (file : FileId) (section : Section) (unwinds new : List Unwind) (count : ℕ) → has_entries section ≡ true → count ≡ entry_count section → new ≡ unwinds ++ filter_map (unwind_at object file section) (range_with_len 0 count) → new ≡ unwinds ++ section_unwinds object file section
 unfolding section_unwinds
 section_unwinds_are object file section unwinds new count has is e = rw has (e ∙ ap (λ n. unwinds ++ filter_map (unwind_at object file section) (range_with_len 0 n)) is)
 
-pub section_spans_are : (object : Object) (section : Section) (spans new : List Span) (count : ℕ) → has_entries section ≡ true → count ≡ entry_count section → new ≡ spans ++ filter_map (span_at object section) (range_with_len 0 count) → new ≡ spans ++ section_spans object section
+pub section_spans_are : (object : Object) (section : Section) (ranges : Ranges) (spans : List Span) (count : ℕ) → has_entries section ≡ true → count ≡ entry_count section → AreRangesOf ranges (spans ++ filter_map (span_at object section) (range_with_len 0 count)) → AreRangesOf ranges (spans ++ section_spans object section)
 unfolding section_spans
-section_spans_are object section spans new count has is e = rw has (e ∙ ap (λ n. spans ++ filter_map (span_at object section) (range_with_len 0 n)) is)
+section_spans_are object section ranges spans count has is are = rw has (moved_ranges ranges _ _ (ap (λ n. spans ++ filter_map (span_at object section) (range_with_len 0 n)) is) are)
 
 pub no_section_unwinds : (object : Object) (file : FileId) (section : Section) (unwinds : List Unwind) → has_entries section ≡ false → unwinds ≡ unwinds ++ section_unwinds object file section
 unfolding section_unwinds
 no_section_unwinds object file section unwinds none = rw none (sym (append-nil unwinds))
 
-pub no_section_spans : (object : Object) (section : Section) (spans : List Span) → has_entries section ≡ false → spans ≡ spans ++ section_spans object section
+pub no_section_spans : (object : Object) (section : Section) (ranges : Ranges) (spans : List Span) → has_entries section ≡ false → AreRangesOf ranges spans → AreRangesOf ranges (spans ++ section_spans object section)
 unfolding section_spans
-no_section_spans object section spans none = rw none (sym (append-nil spans))
+no_section_spans object section ranges spans none are = rw none (moved_ranges ranges _ _ (sym (append-nil spans)) are)
 
 pub ruleset none_there = (no_section_unwinds, no_section_spans)
 
 -- the sections so far
 
-pub record AddedAll (object : Object) (file : FileId) (sections : List Section) (unwinds new_unwinds : List Unwind) (spans new_spans : List Span) (at : ℕ) (fault : Option ℕ) : Type 0 where
+pub record AddedAll (object : Object) (file : FileId) (sections : List Section) (unwinds new_unwinds : List Unwind) (ranges new_ranges : Ranges) (at : ℕ) (fault : Option ℕ) : Type 0 where
   pub told : fault ≡ least (flat_map (section_faults object) (take at sections))
   pub entries : new_unwinds ≡ unwinds ++ flat_map (section_unwinds object file) (take at sections)
-  pub ranges : new_spans ≡ spans ++ flat_map (section_spans object) (take at sections)
-  pub kept : All IsSpan new_spans
+  pub spans : (spans : List Span) → AreRangesOf ranges spans → AreRangesOf new_ranges (spans ++ flat_map (section_spans object) (take at sections))
 
-pub all_none : (object : Object) (file : FileId) (sections : List Section) (unwinds : List Unwind) (spans : List Span) → All IsSpan spans → AddedAll object file sections unwinds unwinds spans spans 0 None
-all_none object file sections unwinds spans kept = record { told = refl; entries = sym (append-nil unwinds); ranges = sym (append-nil spans); kept = kept }
+pub all_none : (object : Object) (file : FileId) (sections : List Section) (unwinds : List Unwind) (ranges : Ranges) → AddedAll object file sections unwinds unwinds ranges ranges 0 None
+all_none object file sections unwinds ranges = record { told = refl; entries = sym (append-nil unwinds); spans = λ spans are. moved_ranges ranges spans (spans ++ []) (sym (append-nil spans)) are }
 
 flat_one : {X : Type 0} (f : Section → List X) (x : Section) → flat_map f (x ∷ []) ≡ f x
 flat_one f x = append-nil (f x)
@@ -116,23 +122,21 @@ flat_listed f sections at section xs ys zs within is so_far more =
     more ∙ ap (λ l. l ++ f section) so_far ∙ append_assoc xs (flat_map f (take at sections)) (f section)
     ∙ ap (λ l. xs ++ l) (sym (flat_more f sections at section within is))
 
-pub all_more : (object : Object) (file : FileId) (sections : List Section) (unwinds new_unwinds more_unwinds : List Unwind) (spans new_spans more_spans : List Span) (at : ℕ) (fault here more : Option ℕ) (section : Section) → AddedAll object file sections unwinds new_unwinds spans new_spans at fault → at < length sections → section ≡ get_or sections at section → here ≡ least (section_faults object section) → more ≡ lesser fault here → more_unwinds ≡ new_unwinds ++ section_unwinds object file section → more_spans ≡ new_spans ++ section_spans object section → All IsSpan more_spans → AddedAll object file sections unwinds more_unwinds spans more_spans (at + 1) more
-all_more object file sections unwinds new_unwinds more_unwinds spans new_spans more_spans at fault here more section are within is is_here joined more_u more_s kept = record {
+pub all_more : (object : Object) (file : FileId) (sections : List Section) (unwinds new_unwinds more_unwinds : List Unwind) (ranges new_ranges more_ranges : Ranges) (at : ℕ) (fault here more : Option ℕ) (section : Section) → AddedAll object file sections unwinds new_unwinds ranges new_ranges at fault → at < length sections → section ≡ get_or sections at section → here ≡ least (section_faults object section) → more ≡ lesser fault here → more_unwinds ≡ new_unwinds ++ section_unwinds object file section → ((spans : List Span) → AreRangesOf new_ranges spans → AreRangesOf more_ranges (spans ++ section_spans object section)) → AddedAll object file sections unwinds more_unwinds ranges more_ranges (at + 1) more
+all_more object file sections unwinds new_unwinds more_unwinds ranges new_ranges more_ranges at fault here more section are within is is_here joined more_u more_s = record {
   told = joined ∙ ap (λ o. lesser o here) are.told ∙ ap (lesser (least (flat_map (section_faults object) (take at sections)))) is_here
       ∙ sym (least-append (flat_map (section_faults object) (take at sections)) (section_faults object section))
       ∙ ap least (sym (flat_more (section_faults object) sections at section within is));
   entries = flat_listed (section_unwinds object file) sections at section unwinds new_unwinds more_unwinds within is are.entries more_u;
-  ranges = flat_listed (section_spans object) sections at section spans new_spans more_spans within is are.ranges more_s;
-  kept = kept;
+  spans = λ spans old. moved_ranges more_ranges _ _ (flat_listed (section_spans object) sections at section spans (spans ++ flat_map (section_spans object) (take at sections)) (spans ++ flat_map (section_spans object) (take at sections) ++ section_spans object section) within is refl refl) (more_s (spans ++ flat_map (section_spans object) (take at sections)) (are.spans spans old));
 }
 
-pub all_end : (object : Object) (file : FileId) (sections all : List Section) (unwinds new_unwinds : List Unwind) (spans new_spans : List Span) (at : ℕ) (fault : Option ℕ) → AddedAll object file sections unwinds new_unwinds spans new_spans at fault → sections ≡ all → length sections ≤ at → AreAll object file all unwinds new_unwinds spans new_spans fault
-all_end object file sections all unwinds new_unwinds spans new_spans at fault are is past =
+pub all_end : (object : Object) (file : FileId) (sections all : List Section) (unwinds new_unwinds : List Unwind) (ranges new_ranges : Ranges) (at : ℕ) (fault : Option ℕ) → AddedAll object file sections unwinds new_unwinds ranges new_ranges at fault → sections ≡ all → length sections ≤ at → AreAll object file all unwinds new_unwinds ranges new_ranges fault
+all_end object file sections all unwinds new_unwinds ranges new_ranges at fault are is past =
     let whole : take at sections ≡ all = take_all at sections past ∙ is in record {
       told = are.told ∙ ap (λ xs. least (flat_map (section_faults object) xs)) whole;
       entries = are.entries ∙ ap (λ xs. unwinds ++ flat_map (section_unwinds object file) xs) whole;
-      ranges = are.ranges ∙ ap (λ xs. spans ++ flat_map (section_spans object) xs) whole;
-      kept = are.kept;
+      spans = λ spans old. moved_ranges new_ranges _ _ (ap (λ xs. spans ++ flat_map (section_spans object) xs) whole) (are.spans spans old);
     }
 
 pub ruleset alls = (all_none, all_end)
@@ -142,21 +146,24 @@ pub ruleset alls = (all_none, all_end)
 from_nothing : {X : Type 0} (old rest new : List X) → new ≡ old ++ rest → old ≡ [] → new ≡ rest
 from_nothing old rest new e none = e ∙ ap (λ xs. xs ++ rest) none
 
-fault_is : (object : Object) (broken overlapping found : Option ℕ) (old spans : List Span) → broken ≡ least (flat_map (section_faults object) object.sections) → spans ≡ old ++ flat_map (section_spans object) object.sections → old ≡ [] → overlapping ≡ least (overlap_faults spans) → found ≡ lesser broken overlapping → found ≡ first_fault object
+fault_is : (object : Object) (broken overlapping found : Option ℕ) → broken ≡ least (flat_map (section_faults object) object.sections) → overlapping ≡ least (overlap_faults (spans_of object)) → found ≡ lesser broken overlapping → found ≡ first_fault object
 unfolding first_fault
-fault_is object broken overlapping found old spans is_broken is_spans none is_overlapping joined =
+fault_is object broken overlapping found is_broken is_overlapping joined =
     joined ∙ ap (λ o. lesser o overlapping) is_broken
-    ∙ ap (lesser (least (flat_map (section_faults object) object.sections))) (is_overlapping ∙ ap (λ xs. least (overlap_faults xs)) (from_nothing old (flat_map (section_spans object) object.sections) spans is_spans none))
+    ∙ ap (lesser (least (flat_map (section_faults object) object.sections))) is_overlapping
     ∙ sym (least-append (flat_map (section_faults object) object.sections) (overlap_faults (flat_map (section_spans object) object.sections)))
 
-pub answer_fault : (object : Object) (file : FileId) (broken overlapping found : Option ℕ) (place : ℕ) (old_unwinds unwinds : List Unwind) (old spans : List Span) → AreAll object file object.sections old_unwinds unwinds old spans broken → old ≡ [] → overlapping ≡ least (overlap_faults spans) → found ≡ lesser broken overlapping → found ≡ Some place → unwinds_of object file ≡ Err (BadEntry place)
+pub all_entries : (object : Object) (file : FileId) (old unwinds : List Unwind) (ranges new_ranges : Ranges) (broken : Option ℕ) → AreAll object file object.sections old unwinds ranges new_ranges broken → old ≡ [] → unwinds ≡ flat_map (section_unwinds object file) object.sections
+all_entries object file old unwinds ranges new_ranges broken are none = from_nothing old (flat_map (section_unwinds object file) object.sections) unwinds are.entries none
+
+pub answer_fault : (object : Object) (file : FileId) (broken overlapping found : Option ℕ) (place : ℕ) → broken ≡ least (flat_map (section_faults object) object.sections) → overlapping ≡ least (overlap_faults (spans_of object)) → found ≡ lesser broken overlapping → found ≡ Some place → unwinds_of object file ≡ Err (BadEntry place)
 unfolding unwinds_of
-answer_fault object file broken overlapping found place old_unwinds unwinds old spans are none is joined some =
-    let e : first_fault object ≡ Some place = sym (fault_is object broken overlapping found old spans are.told are.ranges none is joined) ∙ some in
+answer_fault object file broken overlapping found place told is joined some =
+    let e : first_fault object ≡ Some place = sym (fault_is object broken overlapping found told is joined) ∙ some in
     rw e refl
 
-pub answer_unwinds : (object : Object) (file : FileId) (broken overlapping found : Option ℕ) (old_unwinds unwinds : List Unwind) (old spans : List Span) → AreAll object file object.sections old_unwinds unwinds old spans broken → old ≡ [] → old_unwinds ≡ [] → overlapping ≡ least (overlap_faults spans) → found ≡ lesser broken overlapping → found ≡ None → unwinds_of object file ≡ Ok unwinds
+pub answer_unwinds : (object : Object) (file : FileId) (broken overlapping found : Option ℕ) (unwinds : List Unwind) → broken ≡ least (flat_map (section_faults object) object.sections) → unwinds ≡ flat_map (section_unwinds object file) object.sections → overlapping ≡ least (overlap_faults (spans_of object)) → found ≡ lesser broken overlapping → found ≡ None → unwinds_of object file ≡ Ok unwinds
 unfolding unwinds_of
-answer_unwinds object file broken overlapping found old_unwinds unwinds old spans are none nothing is joined no_fault =
-    let e : first_fault object ≡ None = sym (fault_is object broken overlapping found old spans are.told are.ranges none is joined) ∙ no_fault in
-    rw e (ap Ok (sym (from_nothing old_unwinds (flat_map (section_unwinds object file) object.sections) unwinds are.entries nothing)))
+answer_unwinds object file broken overlapping found unwinds told are is joined no_fault =
+    let e : first_fault object ≡ None = sym (fault_is object broken overlapping found told is joined) ∙ no_fault in
+    rw e (ap Ok (sym are))

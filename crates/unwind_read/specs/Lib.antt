@@ -6,6 +6,7 @@ pub mod Found
 pub mod Laws
 pub mod Overlaps
 pub mod Pointers
+pub mod Ranges
 pub mod Rules
 pub mod SectionNotes
 pub mod Spots

@@ -1,11 +1,10 @@
 //! What an entry says, where it is at fault by itself neither in its function nor in its personality or lsda.
 
-ghost use Rattle.std.specs.Prelude.{◌≡◌, ◌-◌, is_err, min, None, IfSome};
+ghost use Rattle.std.specs.Prelude.{◌≡◌, ◌-◌, is_err, min, None};
 ghost use Rattle.std.specs.Result.{result_unwrap_or};
 ghost use Rattle.std.specs.Option.{option_map};
 ghost use Rattle.unwind_read.specs.CutObject.{IsCut};
 ghost use Rattle.unwind_read.specs.Found as found;
-ghost use Rattle.unwind_read.specs.Overlaps.{IsSpan};
 ghost use Rattle.unwind_read.specs.Rules as rules;
 ghost use Rattle.unwind_read.specs.Spots.{IsSpot};
 ghost use Rattle.unwind_read.specs.Unwinds as unwinds;
@@ -63,7 +62,6 @@ pub fn read_entry(
     ensures fault { is_err result ≡ rules.fails_test cut.now.object.now entry.now relocs.now }
     ensures value { result_unwrap_or result None ≡ option_map (found.found_with cut.now.object.now cut.now.file place entry.now relocs.now)
         (unwinds.kept_function cut.now.object.now entry.now relocs.now) }
-    ensures span { IfSome (result_unwrap_or result None) (λ found. IsSpan found.span) }
 {
     let function = function_of(cut, hints, entry, relocs)?;
     let lsda = lsda_of(cut, hints, entry, relocs)?;

@@ -41,6 +41,7 @@ mod laws;
 mod least;
 mod overlaps;
 mod pointers;
+mod ranges;
 mod section_notes;
 mod sections;
 mod spans;
@@ -52,7 +53,7 @@ pub use fault::UnwindFault;
 pub use laws::{entries_are_apart, entries_lie_in_atoms, the_least_fault_is_told};
 use least::lesser;
 use mo_types::{AtomList, FileId, Object, UnwindList};
-use overlaps::overlap_fault;
+use ranges::range_fault;
 use section_notes::notes_of;
 use sections::{Entries, add_sections, room_for};
 use std::alloc::Global;
@@ -78,7 +79,7 @@ pub fn unwind_of(
     };
     let mut entries = room_for(alloc, object.sections.as_slice())?;
     let broken = add_sections(alloc, &mut entries, &cut, object.sections.as_slice())?;
-    let overlapping = overlap_fault(alloc, entries.spans.as_slice())?;
+    let overlapping = range_fault(alloc, &cut, entries.unwinds.as_slice(), &entries.ranges)?;
     if let Some(place) = lesser(broken, overlapping) {
         return Err(UnwindFault::BadEntry { place });
     }

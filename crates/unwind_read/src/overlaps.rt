@@ -20,7 +20,8 @@ pub struct Bound {
     pub offset: u64,
 }
 
-fn begin_of(span: &Span) -> Bound
+/// Where a range begins.
+pub fn begin_of(span: &Span) -> Bound
     ensures { result ≡ overlaps.begin_of span.now }
 {
     Bound {
@@ -29,7 +30,8 @@ fn begin_of(span: &Span) -> Bound
     }
 }
 
-fn end_of(span: &Span) -> Bound
+/// Where a range ends.
+pub fn end_of(span: &Span) -> Bound
     ensures { result ≡ overlaps.end_of span.now }
 {
     Bound {
@@ -38,7 +40,8 @@ fn end_of(span: &Span) -> Bound
     }
 }
 
-fn is_before(a: &Bound, b: &Bound) -> bool
+/// Whether a place is before another one.
+pub fn is_before(a: &Bound, b: &Bound) -> bool
     ensures { result ≡ overlaps.is_before a.now b.now }
 {
     a.section < b.section || a.section == b.section && a.offset < b.offset
@@ -59,12 +62,12 @@ fn rise(spans: &[Span]) -> bool
 }
 
 // The ranges, by where they begin.
-fn by_begin(alloc: Global, spans: &[Span]) -> Result<Vec<Span>, OutOfMemory>
-    ensures { IfOk result (λ sorted. IsPermutation spans.now sorted.items) }
+fn by_begin(spans: Vec<Span>) -> Vec<Span>
+    ensures { IsPermutation spans.items result.items }
 {
-    let mut sorted = spans.to_vec(alloc)?;
+    let mut sorted = spans;
     sorted.sort_unstable();
-    Ok(sorted)
+    sorted
 }
 
 fn in_order(bounds: Vec<Bound>) -> Vec<Bound>
@@ -152,25 +155,22 @@ fn least_overlap(spans: &[Span], begins: &[Bound], ends: &[Bound]) -> Option<u64
     fault
 }
 
-// Whether each range begins where one ends that begins before it, or after that.
+/// Whether no two ranges overlap, where this is told: by their begins in order, each begins where the one before it ends,
+/// or after that.
 #[tactic(auto, using(crate::proofs::MovedLemmas::moves))]
-fn are_apart(alloc: Global, spans: &[Span]) -> Result<bool, OutOfMemory>
-    requires { All IsSpan spans.now }
-    ensures { IfOk result (λ apart. apart ≡ true → None ≡ least (overlaps.overlap_faults spans.now)) }
+pub fn are_apart(spans: Vec<Span>) -> bool
+    requires { All IsSpan spans.items }
+    ensures { result ≡ true → None ≡ least (overlaps.overlap_faults spans.items) }
 {
-    let sorted = by_begin(alloc, spans)?;
-    Ok(rise(sorted.as_slice()))
+    let sorted = by_begin(spans);
+    rise(sorted.as_slice())
 }
 
-/// The least place of an entry whose range overlaps that of another one, in time n log n of n entries; nothing is
-/// sorted where the ranges rise all the way.
+/// The least place of an entry whose range overlaps that of another one, in time n log n of n entries.
 pub fn overlap_fault(alloc: Global, spans: &[Span]) -> Result<Option<u64>, OutOfMemory>
     requires { All IsSpan spans.now }
     ensures { IfOk result (λ fault. fault ≡ least (overlaps.overlap_faults spans.now)) }
 {
-    if rise(spans) || are_apart(alloc, spans)? {
-        return Ok(None);
-    }
     let begins = in_order(begins_of(alloc, spans)?);
     let ends = in_order(ends_of(alloc, spans)?);
     Ok(least_overlap(spans, begins.as_slice(), ends.as_slice()))

@@ -1,6 +1,6 @@
 //! One pass over the sections of entries: the least place at which an entry is at fault, and the entries that are kept.
 
-ghost use Rattle.std.specs.Prelude.{◌≡◌, ◌+◌, ◌*◌, ◌≤◌, ◌<◌, ◌==◌, ◌++◌, [], None, All, IfOk, IfSome, OnOk, is_err, length, not};
+ghost use Rattle.std.specs.Prelude.{◌≡◌, ◌+◌, ◌*◌, ◌≤◌, ◌<◌, ◌==◌, ◌++◌, [], None, List, IfOk, OnOk, is_err, length, not};
 ghost use Rattle.std.specs.Option.{option_map, option_to_list};
 ghost use Rattle.std.specs.Result.{result_unwrap_or};
 ghost use Rattle.mo_types.specs.RelocationRules.{least};
@@ -9,10 +9,11 @@ ghost use Rattle.mo_types.specs.Whole.{IsWholeSection};
 ghost use Rattle.unwind_read.specs.Added.{Added, AreAll};
 ghost use Rattle.unwind_read.specs.CutObject.{IsCut};
 ghost use Rattle.unwind_read.specs.Found as found;
-ghost use Rattle.unwind_read.specs.Overlaps.{IsSpan};
 ghost use Rattle.unwind_read.specs.Pointers.{AreRows};
+ghost use Rattle.unwind_read.specs.Ranges.{AreRangesOf};
 ghost use Rattle.unwind_read.specs.Rules as rules;
 ghost use Rattle.unwind_read.specs.Unwinds as unwinds;
+ghost use Rattle.unwind_read.specs.declared.spans.Span.{Span};
 
 use crate::cut_object::CutObject;
 use crate::entries::{Found, read_entry};
@@ -22,7 +23,7 @@ use crate::fields::AtFault;
 use crate::guide::Hints;
 use crate::least::lesser;
 use crate::pointers::{EntryRelocs, entry_count, entry_place, pointers_of};
-use crate::spans::Span;
+use crate::ranges::Ranges;
 use mo_types::{OutOfMemory, Section, Unwind};
 use std::alloc::Global;
 
@@ -30,22 +31,20 @@ use std::alloc::Global;
 #[derive(Debug, Drop)]
 pub struct Entries {
     pub unwinds: Vec<Unwind>,
-    pub spans: Vec<Span>,
+    pub ranges: Ranges,
 }
 
 // Puts an entry at the end of the others, where it is kept.
 fn add(out: &mut Entries, found: Option<Found>) -> Result<(), OutOfMemory>
-    requires { IfSome found (λ found. IsSpan found.span) }
     ensures unwinds { OnOk result (out.new.unwinds.items ≡ out.old.unwinds.items ++ option_to_list (option_map (λ found. found.unwind) found)) }
-    ensures spans { OnOk result (out.new.spans.items ≡ out.old.spans.items ++ option_to_list (option_map (λ found. found.span) found)) }
-    ensures kept { All IsSpan out.old.spans.items → OnOk result (All IsSpan out.new.spans.items) }
+    ensures spans { (spans : List Span) → AreRangesOf out.old.ranges spans
+        → OnOk result (AreRangesOf out.new.ranges (spans ++ option_to_list (option_map (λ found. found.span) found))) }
 {
     let Some(found) = found else {
         return Ok(());
     };
     out.unwinds.push(found.unwind)?;
-    out.spans.push(found.span)?;
-    Ok(())
+    out.ranges.push(&found.span)
 }
 
 // Reads the entry of a section with a number from 0, by the relocations of its fields.
@@ -64,7 +63,6 @@ fn read_at(
     ensures fault { is_err result ≡ rules.fails_test cut.now.object.now (rules.entry_at section.now at) (rules.entry_relocs section.now at) }
     ensures unwind { option_map (λ found. found.unwind) (result_unwrap_or result None) ≡ unwinds.unwind_at cut.now.object.now cut.now.file section.now at }
     ensures span { option_map (λ found. found.span) (result_unwrap_or result None) ≡ unwinds.span_at cut.now.object.now section.now at }
-    ensures kept { IfSome (result_unwrap_or result None) (λ found. IsSpan found.span) }
 {
     let place = entry_place(section, at);
     let entry = CompactUnwindEntry::read(section.bytes.as_slice(), 32 * at);
@@ -87,8 +85,8 @@ fn add_entry(
     requires relocs { relocs.now ≡ rules.entry_relocs section.now at }
     ensures fault { IfOk result (λ fault. fault ≡ found.entry_fault cut.now.object.now section.now at) }
     ensures unwinds { OnOk result (out.new.unwinds.items ≡ out.old.unwinds.items ++ option_to_list (unwinds.unwind_at cut.now.object.now cut.now.file section.now at)) }
-    ensures spans { OnOk result (out.new.spans.items ≡ out.old.spans.items ++ option_to_list (unwinds.span_at cut.now.object.now section.now at)) }
-    ensures kept { All IsSpan out.old.spans.items → OnOk result (All IsSpan out.new.spans.items) }
+    ensures spans { (spans : List Span) → AreRangesOf out.old.ranges spans
+        → OnOk result (AreRangesOf out.new.ranges (spans ++ option_to_list (unwinds.span_at cut.now.object.now section.now at))) }
 {
     let read = read_at(cut, hints, section, at, relocs);
     let is_at_fault = read.is_err();
@@ -111,9 +109,8 @@ fn add_entries(
     requires whole { IsWholeSection section.now }
     requires count { length rows.now ≡ rules.entry_count section.now }
     requires rows { AreRows section.now.relocs rows.now }
-    requires kept { All IsSpan out.old.spans.items }
     ensures { IfOk result (Added cut.now.object.now cut.now.file section.now out.old.unwinds.items out.new.unwinds.items
-        out.old.spans.items out.new.spans.items (rules.entry_count section.now)) }
+        out.old.ranges out.new.ranges (rules.entry_count section.now)) }
 {
     let mut hints = Hints::new(alloc);
     let mut fault = None;
@@ -161,12 +158,12 @@ fn count_entries(sections: &[Section]) -> usize {
 /// No entries, with room for those of an object's sections.
 pub fn room_for(alloc: Global, sections: &[Section]) -> Result<Entries, OutOfMemory>
     ensures unwinds { IfOk result (λ out. out.unwinds.items ≡ []) }
-    ensures spans { IfOk result (λ out. out.spans.items ≡ []) }
+    ensures ranges { IfOk result (λ out. AreRangesOf out.ranges []) }
 {
     let count = count_entries(sections);
     Ok(Entries {
         unwinds: Vec::with_capacity(alloc, count)?,
-        spans: Vec::with_capacity(alloc, count)?,
+        ranges: Ranges::with_capacity(alloc, count)?,
     })
 }
 
@@ -180,11 +177,10 @@ fn add_section(
 ) -> Result<Option<u64>, OutOfMemory>
     requires cut { IsCut cut.now }
     requires whole { IsWholeSection section.now }
-    requires kept { All IsSpan out.old.spans.items }
     ensures fault { IfOk result (λ fault. fault ≡ least (rules.section_faults cut.now.object.now section.now)) }
     ensures unwinds { OnOk result (out.new.unwinds.items ≡ out.old.unwinds.items ++ unwinds.section_unwinds cut.now.object.now cut.now.file section.now) }
-    ensures spans { OnOk result (out.new.spans.items ≡ out.old.spans.items ++ unwinds.section_spans cut.now.object.now section.now) }
-    ensures kept { OnOk result (All IsSpan out.new.spans.items) }
+    ensures spans { (spans : List Span) → AreRangesOf out.old.ranges spans
+        → OnOk result (AreRangesOf out.new.ranges (spans ++ unwinds.section_spans cut.now.object.now section.now)) }
 {
     if !has_entries(section) {
         return Ok(None);
@@ -205,9 +201,8 @@ pub fn add_sections(
 ) -> Result<Option<u64>, OutOfMemory>
     requires cut { IsCut cut.now }
     requires sections { sections.now ≡ cut.now.object.now.sections }
-    requires kept { All IsSpan out.old.spans.items }
     ensures { IfOk result (AreAll cut.now.object.now cut.now.file cut.now.object.now.sections out.old.unwinds.items out.new.unwinds.items
-        out.old.spans.items out.new.spans.items) }
+        out.old.ranges out.new.ranges) }
 {
     let mut fault = None;
     for section in sections {

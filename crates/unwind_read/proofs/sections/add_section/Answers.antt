@@ -2,7 +2,7 @@ use Rattle.std.proofs.Common.{◌∙◌, ap, sym, refl}
 use Rattle.reloc_read.specs.Faults.{lesser}
 use Rattle.unwind_read.specs.Rules.{entry_count}
 use Rattle.unwind_read.proofs.RuleLemmas.{section_least}
-use Rattle.unwind_read.proofs.SectionLemmas.{section_spans_are, section_unwinds_are}
+use Rattle.unwind_read.proofs.SectionLemmas.{no_section_spans, section_spans_are, section_unwinds_are}
 use Rattle.unwind_read.proofs.sections.add_section.Goals as goal
 
 pub returns-clause-fault : goal.returns-clause-fault
@@ -15,5 +15,9 @@ returns-clause-unwinds c =
     section_unwinds_are c.args.cut.now.object.now c.args.cut.now.file c.args.section.now _ _ (entry_count c.args.section.now) (sym c.if-not-has_entries.ensures) refl c.in_ok-broken.ensures.entries
 
 pub returns-clause-spans : goal.returns-clause-spans
-returns-clause-spans c =
-    section_spans_are c.args.cut.now.object.now c.args.section.now _ _ (entry_count c.args.section.now) (sym c.if-not-has_entries.ensures) refl c.in_ok-broken.ensures.ranges
+returns-clause-spans c = λ spans are.
+    section_spans_are c.args.cut.now.object.now c.args.section.now _ spans (entry_count c.args.section.now) (sym c.if-not-has_entries.ensures) refl (c.in_ok-broken.ensures.spans spans are)
+
+pub returns-then-not-has_entries-clause-spans : goal.returns-then-not-has_entries-clause-spans
+returns-then-not-has_entries-clause-spans c = λ spans are.
+    no_section_spans c.args.cut.now.object.now c.args.section.now c.args.out.now.ranges spans (sym c.if-not-has_entries.ensures) are
