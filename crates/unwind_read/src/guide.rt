@@ -7,7 +7,7 @@ use std::alloc::Global;
 const MOST_MISSED: u32 = 256;
 
 // About so many atoms begin in a stretch.
-const EACH: usize = 2;
+const EACH: usize = 4;
 
 /// For a section that is cut into stretches of 2 to the power `shift` bytes, the index of the first atom that begins in
 /// a stretch or after it.
