@@ -3,8 +3,11 @@
 use mo_types::{Atom, OutOfMemory};
 use std::alloc::Global;
 
-// So often an atom may be far from the one that was found last; then a guide is made.
-const MOST_MISSED: u32 = 256;
+// So often an atom is far from the one that was found last before a guide is made: some times, and once for each so many
+// atoms, by which a guide costs no more than the searches that were far.
+const FEW_MISSED: usize = 256;
+
+const ATOMS_A_MISS: usize = 64;
 
 // About so many atoms begin in a stretch.
 const EACH: usize = 4;
@@ -23,7 +26,7 @@ struct Guide {
 #[derive(Debug, Drop)]
 pub struct Hint {
     behind: usize,
-    missed: u32,
+    missed: usize,
     section: u16,
     guide: Guide,
 }
@@ -136,7 +139,8 @@ impl Hint {
 
     // Makes a guide, where many atoms were far.
     fn renew(&mut self, alloc: Global, atoms: &[Atom]) -> Result<(), OutOfMemory> {
-        if self.missed < MOST_MISSED || self.guide.section == self.section {
+        let many = FEW_MISSED.saturating_add(atoms.len() / ATOMS_A_MISS);
+        if self.missed < many || self.guide.section == self.section {
             return Ok(());
         }
         self.guide = Guide::of(alloc, atoms, self.section)?;
