@@ -1,0 +1,5 @@
+pub mod LoadLemmas
+pub mod NumberLemmas
+pub mod ReachLemmas
+pub mod SectionLemmas
+pub mod StubLemmas
