@@ -15,7 +15,7 @@ use mo_types::{
 };
 use name_ids::{NameTable, NumberList, gather};
 use resolve::{GoalTable, PlaceList};
-use slot_needs::{Referring, needs};
+use slot_needs::{Referring, Unmet, first_unmet, needs};
 use slot_plan::{NeedList, Way};
 use std::alloc::Global;
 use std::test::Fail;
@@ -32,30 +32,34 @@ enum To {
     Anywhere,
 }
 
-// A reference with its addend, and how it needs its goal.
-type Row = (RefKind, i64, To, Option<Way>);
+// A reference with its addend, how it needs its goal, and whether it can't be met in another image.
+type Row = (RefKind, i64, To, Option<Way>, bool);
 
-const ROWS: [Row; 20] = [
-    (RefKind::Branch, 0, To::Atom, None),
-    (RefKind::Branch, 0, To::Weak, Some(Way::Stub)),
-    (RefKind::Branch, 0, To::Header, None),
-    (RefKind::Branch, 0, To::Library, Some(Way::Stub)),
-    (RefKind::Branch, 0, To::Anywhere, Some(Way::Stub)),
-    (RefKind::Branch, 4, To::Weak, None),
-    (RefKind::Branch, -4, To::Library, None),
-    (RefKind::Pointer, 0, To::Library, None),
-    (RefKind::Pointer, 8, To::Weak, None),
-    (RefKind::Diff32, 0, To::Weak, None),
-    (RefKind::Diff64, 0, To::Atom, None),
-    (RefKind::Page, 0, To::Weak, None),
-    (RefKind::PageOff, 0, To::Header, None),
-    (RefKind::GotPage, 0, To::Atom, Some(Way::Got)),
-    (RefKind::GotPageOff, 0, To::Library, Some(Way::Got)),
-    (RefKind::GotDelta, 0, To::Weak, Some(Way::Got)),
-    (RefKind::GotPointer, 0, To::Header, Some(Way::Got)),
-    (RefKind::TlvPage, 0, To::Atom, Some(Way::Tlv)),
-    (RefKind::TlvPageOff, 0, To::Anywhere, Some(Way::Tlv)),
-    (RefKind::TlvPage, 0, To::Library, Some(Way::Tlv)),
+const ROWS: [Row; 24] = [
+    (RefKind::Branch, 0, To::Atom, None, false),
+    (RefKind::Branch, 0, To::Weak, Some(Way::Stub), false),
+    (RefKind::Branch, 0, To::Header, None, false),
+    (RefKind::Branch, 0, To::Library, Some(Way::Stub), false),
+    (RefKind::Branch, 0, To::Anywhere, Some(Way::Stub), false),
+    (RefKind::Branch, 4, To::Weak, None, false),
+    (RefKind::Branch, -4, To::Library, None, true),
+    (RefKind::Pointer, 0, To::Library, None, false),
+    (RefKind::Pointer, 8, To::Weak, None, false),
+    (RefKind::Diff32, 0, To::Weak, None, false),
+    (RefKind::Diff64, 0, To::Atom, None, false),
+    (RefKind::Page, 0, To::Weak, None, false),
+    (RefKind::PageOff, 0, To::Header, None, false),
+    (RefKind::GotPage, 0, To::Atom, Some(Way::Got), false),
+    (RefKind::GotPageOff, 0, To::Library, Some(Way::Got), false),
+    (RefKind::GotDelta, 0, To::Weak, Some(Way::Got), false),
+    (RefKind::GotPointer, 0, To::Header, Some(Way::Got), false),
+    (RefKind::TlvPage, 0, To::Atom, Some(Way::Tlv), false),
+    (RefKind::TlvPageOff, 0, To::Anywhere, Some(Way::Tlv), false),
+    (RefKind::TlvPage, 0, To::Library, Some(Way::Tlv), false),
+    (RefKind::Page, 0, To::Library, None, true),
+    (RefKind::PageOff, 8, To::Anywhere, None, true),
+    (RefKind::Diff32, 0, To::Library, None, true),
+    (RefKind::Diff64, 0, To::Anywhere, None, true),
 ];
 
 // Where an executable begins, and whether that needs a stub.
@@ -82,14 +86,14 @@ fn goal_of(to: To) -> Goal {
     }
 }
 
-// A file whose one atom refers twice to its one symbol.
+// A file whose one atom refers twice to its one symbol, at its end first.
 fn referring_file(alloc: Global, kind: RefKind, addend: i64) -> Result<LoadedFile, OutOfMemory> {
     let mut file = file(
         alloc,
         file_id(1),
         object(SectionList::new(alloc), SymbolList::new(alloc)),
     );
-    for place in [0u64, 8] {
+    for place in [8u64, 0] {
         file.refs.push(Ref {
             atom: key(1, 1, 0),
             place,
@@ -133,14 +137,23 @@ fn are(needs: &NeedList, to: To, way: Option<Way>) -> bool {
     }
 }
 
-// Whether a reference of an atom needs its goal as it is to, where the atom is kept, and else nothing.
+// Whether the first reference that can't be met is the one at the atom's start, or there is none.
+fn is_first(found: Option<Unmet>, is_there: bool) -> bool {
+    match found {
+        Some(unmet) => is_there && unmet.file == 0 && unmet.reference.place == 0,
+        None => !is_there,
+    }
+}
+
+// Whether a reference of an atom needs its goal as it is to and is met where it is to be, where the atom is kept, and else
+// needs nothing.
 fn row_holds(
     alloc: Global,
     symbols: &SymbolTable,
     row: &Row,
     is_kept: bool,
 ) -> Result<bool, OutOfMemory> {
-    let (kind, addend, to, way) = *row;
+    let (kind, addend, to, way, is_unmet) = *row;
     let loaded = only(alloc, referring_file(alloc, kind, addend)?)?;
     let goals = table_of(alloc, goal_of(to))?;
     let keys = keys_of(alloc, is_kept)?;
@@ -153,7 +166,8 @@ fn row_holds(
         entry: Some(&entry),
     };
     let found = needs(alloc, &referring)?;
-    Ok(are(&found, to, if is_kept { way } else { None }))
+    let unmet = first_unmet(&referring);
+    Ok(are(&found, to, if is_kept { way } else { None }) && is_first(unmet, is_kept && is_unmet))
 }
 
 // Whether an entry needs what it is to.

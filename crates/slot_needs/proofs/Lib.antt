@@ -1,4 +1,5 @@
 pub mod FileLemmas
 pub mod GatheringLemmas
 pub mod SlotLemmas
+pub mod UnmetLemmas
 pub mod WalkLemmas
