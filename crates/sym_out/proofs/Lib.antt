@@ -1,4 +1,5 @@
 pub mod Sought
+pub mod Starts
 pub mod Orders
 pub mod ByAtom
 pub mod Naming

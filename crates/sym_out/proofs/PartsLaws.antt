@@ -32,7 +32,7 @@ use Rattle.sym_out.specs.Entries.{Entry}
 use Rattle.sym_out.specs.Files.{FileSymbol, file_of, stands, symbol_of, symbols_in, symbols_of}
 use Rattle.sym_out.specs.Laws.{IsItsSymbol}
 use Rattle.sym_out.specs.Sites.{Site, section_number, site_of}
-use Rattle.sym_out.specs.Symbols.{AreRanges, AreSymbolParts, Local, Ranges, compare_locals, compare_symbols, compare_there, exported_entry, hidden_local, local_at, local_entry, locals_of, own_local, parts_of, undefined_entry, winner_place, winning_symbol}
+use Rattle.sym_out.specs.Symbols.{AreRanges, AreSymbolParts, Local, Ranges, compare_locals, compare_symbols, compare_there, hidden_local, local_at, local_entry, locals_of, own_local, parts_of, winner_place, winning_symbol}
 use Rattle.sym_out.specs.declared.parts.SymbolParts.{SymbolParts}
 use Rattle.sym_out.proofs.OneOrder.{one_order}
 use Rattle.sym_out.proofs.Orders.{compare_locals_total}

@@ -1,4 +1,5 @@
 pub mod Numbers
 pub mod Ranged
+pub mod Standing
 pub mod Tables
 pub mod Written

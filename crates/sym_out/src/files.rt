@@ -28,6 +28,15 @@ pub(crate) fn file_of(files: &[LoadedFile], id: FileId) -> Option<&LoadedFile>
     }
 }
 
+/// How many symbols files have together.
+pub(crate) fn symbol_count(files: &[LoadedFile]) -> usize {
+    let mut count = 0usize;
+    for file in files {
+        count = count.saturating_add(file.object.symbols.len());
+    }
+    count
+}
+
 /// What the file of an id is called.
 #[tactic(auto, unfolding(crate::specs::Files::label_of))]
 pub(crate) fn label_of(files: &[LoadedFile], id: FileId) -> &[u8]

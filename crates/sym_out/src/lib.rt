@@ -21,12 +21,14 @@
 //! symbol is seen by other files, or wins, doesn't count. `specs/Files.antt` has the symbols of files and where they
 //! stand.
 //!
-//! The module `placed` finds the places of atoms by hints, and `sites` their addresses and the numbers of their
-//! sections (`specs/Sites.antt`); `locals` and `ranges` gather symbols, `sizes` tells their sizes, `entry` writes them,
-//! and `parts` makes the parts. Of the map, `names` notes the names of all atoms in one walk over the symbols, `files`
-//! finds what files are called, and `map` puts the rows in order and spells them. The calls take whole files, a layout
-//! of fewer than 256 sections that places no atom twice, winners and bound goals by rising names, and for the map atoms
-//! of fewer than 2^32 bytes; the one error is want of memory.
+//! The module `cursor` finds where a file's symbols stand, from one to the next, `placed` the places of their atoms, and
+//! `sites` the addresses of these and the numbers of their sections (`specs/Sites.antt`); `hints` keeps the places for the
+//! winners, which stand by name. All of them begin at a place that mostly is the one that is asked for, and search where it
+//! isn't. `locals` and `ranges` gather symbols, `sizes` tells their sizes, `entry` writes them, and `parts` makes the parts.
+//! Of the map, `names` notes the names of all atoms in one walk over the symbols, `files` finds what files are called, and
+//! `map` puts the rows in order and spells them. The calls take whole files, a layout of fewer than 256 sections that places
+//! no atom twice, winners and bound goals by rising names, and for the map atoms of fewer than 2^32 bytes; the one error is
+//! want of memory.
 //!
 //! The laws say that the sizes of the parts are known by counts, that each symbol leads to its name, that a stub or
 //! slot leads to a symbol of its goal's name, that a bound goal and a winner that other images see have one symbol
@@ -35,8 +37,10 @@
 //! an import don't meet the contracts.
 #![tactic(auto)]
 
+mod cursor;
 mod entry;
 mod files;
+mod hints;
 mod laws;
 mod locals;
 mod map;

@@ -10,15 +10,17 @@ ghost use Rattle.sym_out.specs.Sizes.{strings_size};
 ghost use Rattle.sym_out.specs.Symbols as spec;
 ghost use Rattle.sym_out.specs.inner.Written.{Puts};
 
+use crate::cursor::Cursor;
 use crate::entry::{Entry, put_entry};
-use crate::files::{file_of, is_own};
+use crate::files::{file_of, is_own, symbol_count};
+use crate::hints::{Hints, near_at};
 use crate::sites::{Site, Sites};
 use mo_format::nlist::{N_ALT_ENTRY, N_PEXT, N_SECT};
 use mo_types::{Loaded, LoadedFile, OutOfMemory, Symbol, compare_atoms};
 use std::alloc::Global;
 use std::cmp::Ordering;
 use std::marker::Model;
-use symbol_winners::{Place, SymbolTable, Winner, place_of};
+use symbol_winners::{Place, SymbolTable, Winner};
 
 /// A symbol of a file, and where in the image it stands.
 #[derive(Drop)]
@@ -96,14 +98,14 @@ fn local_at<'a>(
     symbol: &'a Symbol,
     index: u32,
     place: Place,
-    near: &mut usize,
+    cursor: &mut Cursor,
 ) -> Option<Local<'a>>
     ensures { result ≡ spec.local_at sites.now (record { file = file.now; index = index; symbol = symbol.now }) place }
 {
     if is_own(symbol.name.as_slice()) {
         return None;
     }
-    let site = sites.find(near, &place.atom)?;
+    let site = cursor.site_of(sites, &place.atom)?;
     Some(Local {
         file,
         symbol,
@@ -119,18 +121,19 @@ fn own_local<'a>(
     sites: &Sites<'a>,
     file: &'a LoadedFile,
     index: u32,
-    near: &mut usize,
+    cursor: &mut Cursor,
 ) -> Option<Local<'a>>
     requires whole { IsWholeFile file.now }
     requires index { index < length file.now.object.symbols }
     ensures { (d : Declared) → result ≡ spec.own_local sites.now (record { file = file.now; index = index; symbol = slice_index_or file.now.object.symbols index d }) }
 {
     let symbol = &file.object.symbols.as_slice()[index as usize];
+    let place = cursor.place_of(file, index)?;
     if symbol.external {
+        let _placed = cursor.site_of(sites, &place.atom);
         return None;
     }
-    let place = place_of(file, index)?;
-    local_at(sites, file, symbol, index, place, near)
+    local_at(sites, file, symbol, index, place, cursor)
 }
 
 // The symbol of a winner, if no other image sees it and it is written.
@@ -140,6 +143,7 @@ fn hidden_local<'a>(
     symbols: &SymbolTable,
     files: &'a [LoadedFile],
     winner: &Winner,
+    near: usize,
 ) -> Option<Local<'a>>
     requires { AllPairs (λ (a : Loads) (b : Loads). IsBefore a.id b.id) files.now }
     ensures { result ≡ spec.hidden_local sites.now symbols.now files.now winner.now }
@@ -154,22 +158,26 @@ fn hidden_local<'a>(
         atom: symbols.representative(winner.atom),
         offset: winner.offset,
     };
-    let mut near = 0;
-    local_at(sites, file, symbol, index, place, &mut near)
+    let mut cursor = Cursor::at(near);
+    local_at(sites, file, symbol, index, place, &mut cursor)
 }
 
-// Appends the symbols of a file that no other file sees.
+// Appends the symbols of a file that no other file sees, and notes where all of them stand.
 fn push_own<'a>(
     locals: &mut Vec<Local<'a>>,
     sites: &Sites<'a>,
     file: &'a LoadedFile,
+    hints: &mut Hints,
 ) -> Result<(), OutOfMemory>
     requires { IsWholeFile file.now }
     ensures { OnOk result (locals.new.items ≡ locals.old.items ++ filter_map (spec.own_local sites.now) (symbols_in file.now)) }
 {
-    let mut near = 0;
+    hints.begin(file.id)?;
+    let mut cursor = Cursor::new();
     for index in 0..file.object.symbols.len() as u32 {
-        if let Some(local) = own_local(sites, file, index, &mut near) {
+        let own = own_local(sites, file, index, &mut cursor);
+        hints.note(&cursor)?;
+        if let Some(local) = own {
             locals.push(local)?;
         }
     }
@@ -183,30 +191,32 @@ fn push_hidden<'a>(
     symbols: &SymbolTable,
     files: &'a [LoadedFile],
     winners: &[Winner],
+    nears: &[u32],
 ) -> Result<(), OutOfMemory>
     requires { AllPairs (λ (a : Loads) (b : Loads). IsBefore a.id b.id) files.now }
     ensures { OnOk result (locals.new.items ≡ locals.old.items ++ filter_map (spec.hidden_local sites.now symbols.now files.now) winners.now) }
 {
-    for winner in winners {
-        if let Some(local) = hidden_local(sites, symbols, files, winner) {
+    for (i, winner) in winners.iter().enumerate() {
+        if let Some(local) = hidden_local(sites, symbols, files, winner, near_at(nears, i)) {
             locals.push(local)?;
         }
     }
     Ok(())
 }
 
-// The symbols of files that no other file sees.
+// The symbols of files that no other file sees. Notes where all symbols stand.
 fn own_locals<'a>(
     alloc: Global,
     sites: &Sites<'a>,
     files: &'a [LoadedFile],
+    hints: &mut Hints,
 ) -> Result<Vec<Local<'a>>, OutOfMemory>
     requires { All IsWholeFile files.now }
     ensures { IfOk result (λ locals. locals.items ≡ filter_map (spec.own_local sites.now) (symbols_of files.now)) }
 {
-    let mut locals = Vec::new(alloc);
+    let mut locals = Vec::with_capacity(alloc, symbol_count(files))?;
     for file in files {
-        push_own(&mut locals, sites, file)?;
+        push_own(&mut locals, sites, file, hints)?;
     }
     Ok(locals)
 }
@@ -218,20 +228,31 @@ fn put_in_order(locals: &mut Vec<Local>)
     locals.sort_unstable_by(|a, b| a.compare(b));
 }
 
-/// The local symbols of an image, in order.
+/// The local symbols of an image, in order. Notes at which places the atoms of winners mostly stand.
 pub(crate) fn locals_of<'a>(
     alloc: Global,
     sites: &Sites<'a>,
     symbols: &SymbolTable,
     loaded: &'a Loaded,
+    nears: &mut Vec<u32>,
 ) -> Result<Vec<Local<'a>>, OutOfMemory>
     requires { IsWholeLoaded loaded.now }
     ensures same { IfOk result (λ locals. IsPermutation (spec.locals_of sites.now symbols.now loaded.now.files) locals.items) }
     ensures sorted { IfOk result (λ locals. IsSorted spec.compare_locals locals.items) }
 {
     let files = loaded.files.as_slice();
-    let mut locals = own_locals(alloc, sites, files)?;
-    push_hidden(&mut locals, sites, symbols, files, symbols.winners())?;
+    let winners = symbols.winners();
+    let mut hints = Hints::new(alloc, files.len(), symbol_count(files))?;
+    let mut locals = own_locals(alloc, sites, files, &mut hints)?;
+    hints.note_winners(nears, winners)?;
+    push_hidden(
+        &mut locals,
+        sites,
+        symbols,
+        files,
+        winners,
+        nears.as_slice(),
+    )?;
     put_in_order(&mut locals);
     Ok(locals)
 }

@@ -48,13 +48,18 @@ impl<'a> MapRow<'a> {
     }
 }
 
-// The row of an atom, if it is placed.
-fn row_of<'a>(placed: &PlacedAtoms, names: &Names<'a>, atom: &'a Atom) -> Option<MapRow<'a>>
+// The row of an atom that mostly stands at a place, if it is placed.
+fn row_of<'a>(
+    placed: &PlacedAtoms,
+    names: &Names<'a>,
+    atom: &'a Atom,
+    near: usize,
+) -> Option<MapRow<'a>>
     requires { length names.now.items ≡ length placed.now }
     ensures { (symbols : List FileSymbol) → AreNames (spec.first_name symbols) placed.now names.now.items
         → result ≡ spec.row_of placed.now symbols atom.now }
 {
-    match placed.find(&atom.key) {
+    match placed.find_near(near, &atom.key) {
         Some(at) => Some(MapRow {
             atom,
             address: placed.as_slice()[at].address,
@@ -77,7 +82,7 @@ fn rows_of<'a>(
 {
     let mut rows = Vec::with_capacity(alloc, atoms.len())?;
     for atom in atoms {
-        if let Some(row) = row_of(placed, names, atom) {
+        if let Some(row) = row_of(placed, names, atom, rows.len()) {
             rows.push(row)?;
         }
     }
@@ -171,7 +176,7 @@ pub fn write_map(
     ensures { IfOk result (spec.IsMap layout.now.placed kept.now loaded.now.files) }
 {
     let files = loaded.files.as_slice();
-    let placed = PlacedAtoms::of(alloc, layout)?;
+    let placed = PlacedAtoms::of(layout);
     let names = names_of(alloc, &placed, files)?;
     let mut rows = rows_of(alloc, &placed, &names, kept.as_slice())?;
     put_in_order(&mut rows);

@@ -7,18 +7,18 @@ ghost use Rattle.sym_out.specs.Files.{symbols_in, symbols_of};
 ghost use Rattle.sym_out.specs.Map as map;
 ghost use Rattle.sym_out.specs.inner.Tables.{AreNames, filled};
 
+use crate::cursor::Cursor;
 use crate::files::is_own;
 use crate::placed::PlacedAtoms;
 use mo_types::{AtomKey, LoadedFile, OutOfMemory, Symbol};
 use std::alloc::Global;
-use symbol_winners::place_of;
 
 /// For each placed atom a symbol that names it.
 pub(crate) type Names<'a> = Vec<Option<&'a Symbol>>;
 
 // The atom that a file's symbol of an index names.
 #[tactic(auto, unfolding(crate::specs::Map::named_by))]
-fn named_by(file: &LoadedFile, index: u32) -> Option<AtomKey>
+fn named_by(file: &LoadedFile, index: u32, cursor: &mut Cursor) -> Option<AtomKey>
     requires whole { IsWholeFile file.now }
     requires index { index < length file.now.object.symbols }
     ensures { (d : Declared) → result ≡ map.named_by (record { file = file.now; index = index; symbol = slice_index_or file.now.object.symbols index d }) }
@@ -30,7 +30,7 @@ fn named_by(file: &LoadedFile, index: u32) -> Option<AtomKey>
     ) {
         return None;
     }
-    let place = place_of(file, index)?;
+    let place = cursor.place_of(file, index)?;
     if place.offset == 0 {
         Some(place.atom)
     } else {
@@ -39,7 +39,13 @@ fn named_by(file: &LoadedFile, index: u32) -> Option<AtomKey>
 }
 
 // Notes a file's symbol of an index as the name of the atom that it names, unless that has a name.
-fn note<'a>(names: &mut Names<'a>, placed: &PlacedAtoms, file: &'a LoadedFile, index: u32)
+fn note<'a>(
+    names: &mut Names<'a>,
+    placed: &PlacedAtoms,
+    file: &'a LoadedFile,
+    index: u32,
+    cursor: &mut Cursor,
+)
     requires whole { IsWholeFile file.now }
     requires index { index < length file.now.object.symbols }
     requires names { length names.old.items ≡ length placed.now }
@@ -47,8 +53,8 @@ fn note<'a>(names: &mut Names<'a>, placed: &PlacedAtoms, file: &'a LoadedFile, i
     ensures noted { (f : Key → Option (List ℕ)) (d : Declared) → AreNames f placed.now names.old.items
         → AreNames (filled f (record { file = file.now; index = index; symbol = slice_index_or file.now.object.symbols index d } ∷ [])) placed.now names.new.items }
 {
-    if let Some(atom) = named_by(file, index) {
-        if let Some(at) = placed.find(&atom) {
+    if let Some(atom) = named_by(file, index, cursor) {
+        if let Some(at) = cursor.find(placed, &atom) {
             let name = &mut names[at];
             *name = name.or(Some(&file.object.symbols.as_slice()[index as usize]));
         }
@@ -63,8 +69,9 @@ fn note_file<'a>(names: &mut Names<'a>, placed: &PlacedAtoms, file: &'a LoadedFi
     ensures noted { (f : Key → Option (List ℕ)) → AreNames f placed.now names.old.items
         → AreNames (filled f (symbols_in file.now)) placed.now names.new.items }
 {
+    let mut cursor = Cursor::new();
     for index in 0..file.object.symbols.len() as u32 {
-        note(names, placed, file, index);
+        note(names, placed, file, index, &mut cursor);
     }
 }
 

@@ -4,17 +4,15 @@ ghost use Rattle.atom_index.specs.Stands.{StandsAt};
 ghost use Rattle.sect_place.specs.Addresses.{AreOnce};
 ghost use Rattle.sym_out.specs.inner.Tables.{atom_of};
 
-use atom_index::{AtomIndex, is_at};
-use mo_types::{AtomKey, OutOfMemory};
+use atom_index::{find, is_at};
+use mo_types::AtomKey;
 use sect_place::{Layout, Placed};
-use std::alloc::Global;
 use std::marker::Model;
 
 /// The atoms of a layout, each once, in the order of their keys. Contracts see the list of them.
 #[derive(Drop)]
 pub(crate) struct PlacedAtoms<'a> {
     placed: &'a [Placed],
-    hints: AtomIndex,
 }
 
 impl<'a> Model for PlacedAtoms<'a> {
@@ -31,13 +29,13 @@ impl<'a> Model for PlacedAtoms<'a> {
 
 impl<'a> PlacedAtoms<'a> {
     /// Those of a layout.
-    pub fn of(alloc: Global, layout: &'a Layout) -> Result<PlacedAtoms<'a>, OutOfMemory>
+    pub fn of(layout: &'a Layout) -> PlacedAtoms<'a>
         requires { AreOnce layout.now.placed }
-        ensures { IfOk result (λ placed. placed ≡ layout.now.placed) }
+        ensures { result ≡ layout.now.placed }
     {
-        let placed = layout.placed.as_slice();
-        let hints = AtomIndex::of(alloc, placed)?;
-        Ok(PlacedAtoms { placed, hints })
+        PlacedAtoms {
+            placed: layout.placed.as_slice(),
+        }
     }
 
     /// All of them.
@@ -59,16 +57,28 @@ impl<'a> PlacedAtoms<'a> {
         ensures found { MatchOption result (All (λ p. p.atom ≢ atom.now) self.now) (StandsAt atom_of self.now atom.now) }
         ensures once { AreOnce self.now }
     {
-        self.hints.find(self.placed, atom)
+        find(self.placed, atom)
     }
 
-    /// The same, of an atom that mostly stands at a place.
+    /// The same, of an atom that mostly stands at a place or before it.
     pub fn find_near(&self, near: usize, atom: &AtomKey) -> Option<usize>
         ensures found { MatchOption result (All (λ p. p.atom ≢ atom.now) self.now) (StandsAt atom_of self.now atom.now) }
         ensures once { AreOnce self.now }
     {
         if is_at(self.placed, near, atom) {
             return Some(near);
+        }
+        self.find_before(near, atom)
+    }
+
+    // The same, of an atom that mostly stands before a place.
+    fn find_before(&self, near: usize, atom: &AtomKey) -> Option<usize>
+        ensures found { MatchOption result (All (λ p. p.atom ≢ atom.now) self.now) (StandsAt atom_of self.now atom.now) }
+        ensures once { AreOnce self.now }
+    {
+        let before = near.saturating_sub(1);
+        if is_at(self.placed, before, atom) {
+            return Some(before);
         }
         self.find(atom)
     }

@@ -14,6 +14,7 @@ ghost use Rattle.sym_out.specs.Symbols as spec;
 ghost use Rattle.sym_out.specs.Entries.{Entry as Spelled};
 
 use crate::entry::{Entry, place_named};
+use crate::hints::near_at;
 use crate::locals::{Local, locals_of};
 use crate::sites::Sites;
 use mo_format::loader::INDIRECT_SYMBOL_LOCAL;
@@ -65,8 +66,9 @@ impl<'a> ImageSymbols<'a> {
         ensures { IfOk result (spec.AreRanges layout.now bound.now symbols.now loaded.now.files) }
     {
         let sites = Sites::of(alloc, layout)?;
-        let locals = locals_of(alloc, &sites, symbols, loaded)?;
-        let exported = exported_of(alloc, &sites, symbols, symbols.winners())?;
+        let mut nears = Vec::new(alloc);
+        let locals = locals_of(alloc, &sites, symbols, loaded, &mut nears)?;
+        let exported = exported_of(alloc, &sites, symbols, symbols.winners(), nears.as_slice())?;
         let undefined = undefined_of(alloc, bound.as_slice())?;
         Ok(ImageSymbols {
             locals,
@@ -129,13 +131,18 @@ fn put_number(out: &mut Vec<u8>, number: u32) -> Result<(), OutOfMemory>
 
 // The entry of a winner, if other images see it and its atom is kept.
 #[tactic(auto, unfolding(crate::specs::Symbols::exported_entry))]
-fn exported_entry<'a>(sites: &Sites, symbols: &SymbolTable, winner: &'a Winner) -> Option<Entry<'a>>
+fn exported_entry<'a>(
+    sites: &Sites,
+    symbols: &SymbolTable,
+    winner: &'a Winner,
+    near: usize,
+) -> Option<Entry<'a>>
     ensures { result ≡ spec.exported_entry sites.now symbols.now winner.now }
 {
     if !winner.exported {
         return None;
     }
-    let mut near = 0;
+    let mut near = near;
     let site = sites.find(&mut near, &symbols.representative(winner.atom))?;
     Some(Entry {
         name: winner.name.as_slice(),
@@ -152,12 +159,13 @@ fn exported_of<'a>(
     sites: &Sites,
     symbols: &SymbolTable,
     winners: &'a [Winner],
+    nears: &[u32],
 ) -> Result<Vec<Entry<'a>>, OutOfMemory>
     ensures { IfOk result (λ entries. entries.items ≡ filter_map (spec.exported_entry sites.now symbols.now) winners.now) }
 {
-    let mut entries = Vec::new(alloc);
-    for winner in winners {
-        if let Some(entry) = exported_entry(sites, symbols, winner) {
+    let mut entries = Vec::with_capacity(alloc, winners.len())?;
+    for (i, winner) in winners.iter().enumerate() {
+        if let Some(entry) = exported_entry(sites, symbols, winner, near_at(nears, i)) {
             entries.push(entry)?;
         }
     }

@@ -121,7 +121,7 @@ impl<'a> Sites<'a> {
         requires few { length layout.now.sections < 256 }
         ensures { IfOk result (λ sites. sites ≡ layout.now) }
     {
-        let placed = PlacedAtoms::of(alloc, layout)?;
+        let placed = PlacedAtoms::of(layout);
         let numbers = numbers_of(alloc, &placed, layout.sections.as_slice())?;
         Ok(Sites {
             layout,

@@ -3,7 +3,7 @@ use Rattle.sym_out.proofs.Gathering.{all_end, all_go_on, all_start}
 use Rattle.sym_out.proofs.locals.own_locals.Goals as goal
 
 pub loop-file-init : goal.loop-file-init
-loop-file-init c = all_start (own_local c.args.sites.now) c.new-locals.result.items c.args.files.now c.new-locals.ensures.items
+loop-file-init c = all_start (own_local c.args.sites.now) c.in_ok-locals.locals.items c.args.files.now c.in_ok-locals.ensures.items
 
 pub loop-file-preserved : goal.loop-file-preserved
 loop-file-preserved c =

@@ -3,5 +3,5 @@ use Rattle.sym_out.specs.Symbols.{exported_entry}
 use Rattle.sym_out.proofs.Loops.{IsChoosing}
 use Rattle.sym_out.proofs.ranges.exported_of.Given as goal
 
-abbrev pub invariant-loop-winner : goal.invariant-loop-winner
-invariant-loop-winner l = IsChoosing (exported_entry l.sites l.symbols) l.winners [] l.winner-index l.entries.items
+abbrev pub invariant-loop-i : goal.invariant-loop-i
+invariant-loop-i l = IsChoosing (exported_entry l.sites l.symbols) l.winners [] l.i l.entries.items
