@@ -1,8 +1,8 @@
 -- Entries that are written one after the other.
-use Rattle.std.proofs.Common.{◌≡◌, ℕ, ◌+◌, ◌<◌, ◌≤◌, List, [], ◌∷◌, ◌++◌, length, map, take, get_or, refl, sym, ap, subst, ◌∙◌, arith, append_assoc, append-nil}
+use Rattle.std.proofs.Common.{◌≡◌, ℕ, ◌+◌, ◌<◌, ◌≤◌, List, [], ◌∷◌, ◌++◌, length, map, take, drop, get_or, refl, sym, ap, subst, ◌∙◌, arith, append_assoc, append-nil}
 use Rattle.std.specs.List.{flat_map}
 use Rattle.std.proofs.lemmas.Grind.{flat_map-append}
-use Rattle.std.proofs.lemmas.List.{length-append, map-append, take_all, take_more}
+use Rattle.std.proofs.lemmas.List.{at_drop_all, at_drop_more, length-append, map-append, take_all, take_more}
 use Rattle.mo_format.specs.Symbol.{nlist_bytes}
 use Rattle.sym_out.specs.Entries.{Entry, nlist_of, nlists, padded, string_of, strings_bytes, symbols_bytes}
 use Rattle.sym_out.specs.inner.Written.{Puts}
@@ -62,12 +62,49 @@ puts_more {X} f xs i x e s t s1 t1 s2 t2 low is value before symbol string =
 pub puts_all : {X : Type 0} (f : X → Entry) (xs : List X) (i : ℕ) (s t s1 t1 : List ℕ) → length xs ≤ i → Puts (map f (take i xs)) s t s1 t1 → Puts (map f xs) s t s1 t1
 puts_all {X} f xs i s t s1 t1 past before = subst (λ (ys : List X). Puts (map f ys) s t s1 t1) (take_all i xs past) before
 
-same : (xs : List Entry) → map (λ e. e) xs ≡ xs
-same [] = refl
-same (x ∷ xs) = ap (λ (ys : List Entry). x ∷ ys) (same xs)
+-- ---- symbols whose strings stand elsewhere
 
-pub puts_entries : (xs : List Entry) (i : ℕ) (s t s1 t1 : List ℕ) → length xs ≤ i → Puts (map (λ e. e) (take i xs)) s t s1 t1 → Puts xs s t s1 t1
-puts_entries xs i s t s1 t1 past before = subst (λ (ys : List Entry). Puts ys s t s1 t1) (same xs) (puts_all (λ e. e) xs i s t s1 t1 past before)
+-- those from a place on, and where the string of the first of them stands
+pub record IsPlacing (entries : List Entry) (start : ℕ) (old : List ℕ) (i at : ℕ) (now : List ℕ) : Type 0 where
+  pub size : at + length (flat_map string_of (drop i entries)) ≡ start + length (flat_map string_of entries)
+  pub rest : now ++ nlists at (drop i entries) ≡ old ++ nlists start entries
+
+pub placing_starts : (entries : List Entry) (start : ℕ) (old : List ℕ) → IsPlacing entries start old 0 start old
+placing_starts entries start old = record { size = refl; rest = refl }
+
+next_size : (entries : List Entry) (i : ℕ) (x : Entry) → i < length entries → x ≡ get_or entries i x → length (flat_map string_of (drop i entries)) ≡ length x.name + 1 + length (flat_map string_of (drop (i + 1) entries))
+next_size entries i x low is =
+    ap length (at_drop_more (flat_map string_of) entries i x low)
+    ∙ ap (λ (e : Entry). length (string_of e ++ flat_map string_of (drop (i + 1) entries))) (sym is)
+    ∙ length-append (string_of x) (flat_map string_of (drop (i + 1) entries))
+    ∙ ap (λ (n : ℕ). n + length (flat_map string_of (drop (i + 1) entries))) (length-append x.name (0 ∷ []))
+
+pub placing_goes_on : (entries : List Entry) (start : ℕ) (old : List ℕ) (i at : ℕ) (now new : List ℕ) (x : Entry) → IsPlacing entries start old i at now → i < length entries → x ≡ get_or entries i x → new ≡ now ++ nlist_bytes (nlist_of at x) → IsPlacing entries start old (i + 1) (at + (length x.name + 1)) new
+unfolding nlists
+placing_goes_on entries start old i at now new x placing low is e =
+    let size : at + length (flat_map string_of (drop i entries)) ≡ start + length (flat_map string_of entries) = placing.size in
+    let next : length (flat_map string_of (drop i entries)) ≡ length x.name + 1 + length (flat_map string_of (drop (i + 1) entries)) = next_size entries i x low is in
+    let rest : List Entry = drop (i + 1) entries in
+    record {
+      size = omega (arith, size, next);
+      rest = ap (λ (z : List ℕ). z ++ nlists (at + (length x.name + 1)) rest) e
+          ∙ append_assoc now (nlist_bytes (nlist_of at x)) (nlists (at + (length x.name + 1)) rest)
+          ∙ ap (λ (n : ℕ). now ++ (nlist_bytes (nlist_of at x) ++ nlists (at + n) rest)) (sym (length-append x.name (0 ∷ [])))
+          ∙ ap (λ (y : Entry). now ++ nlists at (y ∷ rest)) is
+          ∙ ap (λ (z : List ℕ). now ++ z) (sym (at_drop_more (nlists at) entries i x low))
+          ∙ placing.rest;
+    }
+
+pub placing_ends : (entries : List Entry) (start : ℕ) (old : List ℕ) (i at : ℕ) (now : List ℕ) → IsPlacing entries start old i at now → length entries ≤ i → now ≡ old ++ nlists start entries
+unfolding nlists
+placing_ends entries start old i at now placing past =
+    sym (append-nil now) ∙ ap (λ (z : List ℕ). now ++ z) (sym (at_drop_all (nlists at) entries i past)) ∙ placing.rest
+
+pub puts_both : (entries : List Entry) (s t s1 t1 : List ℕ) (start : ℕ) → start ≡ length t → s1 ≡ s ++ nlists start entries → t1 ≡ t ++ flat_map string_of entries → Puts entries s t s1 t1
+puts_both entries s t s1 t1 start is symbols strings = record {
+  symbol_bytes = symbols ∙ ap (λ (n : ℕ). s ++ nlists n entries) is;
+  string_bytes = strings;
+}
 
 -- ---- the whole table
 

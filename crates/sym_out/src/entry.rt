@@ -1,6 +1,6 @@
 //! Entries of a symbol table, and their strings.
-ghost use Rattle.std.specs.Prelude.{◌≡◌, ◌≤◌, ◌*◌, ◌^◌, ◌∷◌, [], ◌++◌, OnOk, length};
-ghost use Rattle.std.specs.List.{AllPairs};
+ghost use Rattle.std.specs.Prelude.{◌≡◌, ◌+◌, ◌<◌, ◌≤◌, ◌*◌, ◌^◌, ◌∷◌, [], ◌++◌, OnOk, length};
+ghost use Rattle.std.specs.List.{AllPairs, flat_map};
 ghost use Rattle.std.specs.Cmp.Lexicographic.{slice_cmp};
 ghost use Rattle.std.specs.Ordering.{nat_cmp};
 ghost use Rattle.std.specs.declared.cmp.Ordering.TheVariants.{Less};
@@ -62,6 +62,30 @@ pub(crate) fn strings_size(entries: &[Entry]) -> u128
     total
 }
 
+// Appends an entry, whose string stands at a place.
+fn put_symbol(symbols: &mut Vec<u8>, at: usize, entry: &Entry) -> Result<(), OutOfMemory>
+    ensures { OnOk result (symbols.new.items ≡ symbols.old.items ++ nlist_bytes (spec.nlist_of at entry.now)) }
+{
+    let symbol = Nlist {
+        n_strx: in_32(at),
+        n_type: entry.n_type,
+        n_sect: entry.n_sect,
+        n_desc: entry.n_desc,
+        n_value: entry.n_value,
+    };
+    symbol.write(symbols)?;
+    Ok(())
+}
+
+// Appends the string of an entry.
+fn put_string(strings: &mut Vec<u8>, entry: &Entry) -> Result<(), OutOfMemory>
+    ensures { OnOk result (strings.new.items ≡ strings.old.items ++ spec.string_of entry.now) }
+{
+    strings.extend_from_slice(entry.name)?;
+    strings.push(0)?;
+    Ok(())
+}
+
 /// Appends an entry and its string.
 pub(crate) fn put_entry(
     symbols: &mut Vec<u8>,
@@ -71,20 +95,38 @@ pub(crate) fn put_entry(
     ensures symbol { OnOk result (symbols.new.items ≡ symbols.old.items ++ nlist_bytes (spec.nlist_of (length strings.old.items) entry.now)) }
     ensures string { OnOk result (strings.new.items ≡ strings.old.items ++ spec.string_of entry.now) }
 {
-    let symbol = Nlist {
-        n_strx: in_32(strings.len()),
-        n_type: entry.n_type,
-        n_sect: entry.n_sect,
-        n_desc: entry.n_desc,
-        n_value: entry.n_value,
-    };
-    symbol.write(symbols)?;
-    strings.extend_from_slice(entry.name)?;
-    strings.push(0)?;
+    put_symbol(symbols, strings.len(), entry)?;
+    put_string(strings, entry)?;
     Ok(())
 }
 
-/// Appends entries and their strings.
+// Appends entries, whose strings stand one behind the other from a place on.
+fn put_symbols(symbols: &mut Vec<u8>, start: usize, entries: &[Entry]) -> Result<(), OutOfMemory>
+    requires { start + length (flat_map spec.string_of entries.now) < 2 ^ 64 }
+    ensures { OnOk result (symbols.new.items ≡ symbols.old.items ++ spec.nlists start entries.now) }
+{
+    let mut at = start;
+    for entry in entries {
+        put_symbol(symbols, at, entry)?;
+        at += entry.name.len() + 1;
+    }
+    Ok(())
+}
+
+// Appends the strings of entries.
+#[tactic(auto, using(crate::proofs::Loops::putting))]
+fn put_strings(strings: &mut Vec<u8>, entries: &[Entry]) -> Result<(), OutOfMemory>
+    ensures { OnOk result (strings.new.items ≡ strings.old.items ++ flat_map spec.string_of entries.now) }
+{
+    for entry in entries {
+        put_string(strings, entry)?;
+    }
+    Ok(())
+}
+
+/// Appends entries and their strings. Names stand anywhere in memory, and a processor waits less for them where nothing
+/// else is done between one and the next.
+#[tactic(auto, using(crate::proofs::Writing::puts_both))]
 pub(crate) fn put_entries(
     symbols: &mut Vec<u8>,
     strings: &mut Vec<u8>,
@@ -92,9 +134,9 @@ pub(crate) fn put_entries(
 ) -> Result<(), OutOfMemory>
     ensures { OnOk result (Puts entries.now symbols.old.items strings.old.items symbols.new.items strings.new.items) }
 {
-    for entry in entries {
-        put_entry(symbols, strings, entry)?;
-    }
+    let start = strings.len();
+    put_strings(strings, entries)?;
+    put_symbols(symbols, start, entries)?;
     Ok(())
 }
 
