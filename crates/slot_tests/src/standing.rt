@@ -1,7 +1,8 @@
 //! Slots and stubs of two library functions.
 ghost use Rattle.std.specs.Prelude.{◌≡◌, ℕ, true};
-ghost use Rattle.slot_place.specs.Places.{HasRoom, HaveRoom};
+ghost use Rattle.slot_place.specs.Places.{HaveRoom};
 ghost use Rattle.slot_place.specs.Stubs.{AreReached};
+ghost use Rattle.slot_tests.specs.Near.{IsNear};
 
 use mo_types::{AtomKey, Bytes, Goal, KeyList, OutOfMemory, OutSection};
 use sect_place::{Layout, PlacedList, PlacedSection, PlacedSectionList, SegmentList};
@@ -13,22 +14,29 @@ use test_objects::key;
 
 const TEXT: u64 = 1 << 32;
 
-// Whether so many slots or stubs from an address on are in an executable of 2^32 bytes.
-fn is_near(unit: u64, start: Option<u64>, count: usize) -> bool {
+// Whether so many bytes from an address on are in the first part of an executable.
+fn is_near(start: Option<u64>, size: usize) -> bool
+    ensures { result ≡ true → IsNear size start }
+{
     match start {
-        Some(at) => at >= TEXT && at < TEXT + (1 << 31) && count < 1000 && unit <= 12,
+        Some(at) => TEXT <= at && at < TEXT + (1 << 31) && size < 1 << 20,
         None => true,
     }
 }
 
-// Whether all are, and slots at multiples of 8.
+// Whether all slots and stubs are, and slots stand at multiples of 8.
+#[tactic(auto, using(crate::proofs::NearLemmas::near))]
 fn are_near(starts: SlotStarts, slots: &Slots) -> bool
     ensures room { result ≡ true → HaveRoom starts slots.now }
     ensures reached { result ≡ true → (base : ℕ) × AreReached base starts slots.now }
 {
-    is_near(8, starts.got, slots.got.len())
-        && is_near(12, starts.stubs, slots.stubs.len())
-        && is_near(8, starts.tlv, slots.tlv.len())
+    let (got, stubs, tlv) = (slots.got.len(), slots.stubs.len(), slots.tlv.len());
+    got < 1000
+        && stubs < 1000
+        && tlv < 1000
+        && is_near(starts.got, 8 * got)
+        && is_near(starts.stubs, 12 * stubs)
+        && is_near(starts.tlv, 8 * tlv)
         && starts.got.unwrap_or(0) % 8 == 0
 }
 
