@@ -1,5 +1,5 @@
 -- Slots of the same needs.
-use Rattle.std.proofs.Common.{◌≡◌, Bool, List, Contains, map, subst, true}
+use Rattle.std.proofs.Common.{Bool, List, Contains, map, subst}
 use Rattle.std.specs.List.{filter}
 use Rattle.list_lemmas.proofs.Members.{Contains_from_in, from_filter, from_map, in_filter, in_from_Contains, in_map}
 use Rattle.mo_types.specs.declared.goal.Goal.{Goal}

@@ -1,7 +1,6 @@
 -- What one reference needs.
-use Rattle.std.proofs.Common.{◌≡◌, ℕ, ◌+◌, ◌<◌, ◌⊎◌, inl, inr, Bool, true, false, List, [], ◌∷◌, ◌++◌, length, map, get_or, Option, Some, None, Contains, refl, sym, ap, ◌∙◌, subst, arith, ℤ}
+use Rattle.std.proofs.Common.{◌≡◌, ℕ, ◌<◌, ◌⊎◌, inl, inr, Bool, true, false, List, [], ◌∷◌, ◌++◌, length, get_or, Option, Some, None, Contains, refl, sym, ap, ◌∙◌, subst, ℤ}
 use Rattle.std.specs.Prelude.{IfSome, slice_get, unwrap_or}
-use Rattle.std.specs.List.{filter, filter_map}
 use Rattle.std.specs.Option.{option_map}
 use Rattle.std.proofs.lemmas.Option.{slice_get-get_or, slice_get-map}
 use Rattle.list_lemmas.proofs.Members.{Contains_from_in, in_either, in_from_Contains, in_left, in_right, from_last}
@@ -11,15 +10,13 @@ use Rattle.mo_types.specs.declared.goal.Goal.{Goal}
 use Rattle.mo_types.specs.declared.goal.Goal.TheVariants.{Nobody}
 use Rattle.mo_types.specs.declared.key.AtomKey.{AtomKey}
 use Rattle.mo_types.specs.declared.reference.Ref.{Ref}
-use Rattle.mo_types.specs.declared.reference.RefKind.{RefKind}
-use Rattle.mo_types.specs.declared.reference.Target.{Target}
 use Rattle.mo_types.specs.declared.reference.Target.TheVariants.{Name}
 use Rattle.resolve.specs.Goals.{target_goal}
 use Rattle.resolve.specs.Table.{goal_in, goals_in}
 use Rattle.slot_plan.specs.declared.need.Need.{Need}
 use Rattle.slot_plan.specs.declared.need.Way.{Way}
 use Rattle.slot_needs.specs.Needs.{need_by, need_of, way_of}
-use Rattle.slot_needs.specs.inner.Gathered.{Adds, Gathered, kept_need, need, needs_among}
+use Rattle.slot_needs.specs.inner.Gathered.{Adds, kept_need, need, needs_among}
 
 -- ---- needs, and more of them
 

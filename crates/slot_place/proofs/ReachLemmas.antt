@@ -1,7 +1,7 @@
 -- Slots and stubs within an image.
-use Rattle.std.proofs.Common.{◌≡◌, ℕ, ◌+◌, ◌-◌, ◌*◌, ◌^◌, ◌%◌, ◌<◌, ◌≤◌, Bool, true, false, List, length, All, Contains, Option, Some, None, IfSome, refl, sym, ap, subst, ◌∙◌, arith, if◌then◌else◌}
+use Rattle.std.proofs.Common.{◌≡◌, ℕ, ◌+◌, ◌*◌, ◌^◌, ◌%◌, ◌<◌, ◌≤◌, Bool, true, false, List, length, All, Option, Some, None, IfSome, refl, arith, if◌then◌else◌}
 use Rattle.std.specs.Option.{option_map}
-use Rattle.list_lemmas.proofs.Members.{In, Contains_from_in, all_in, find_some}
+use Rattle.list_lemmas.proofs.Members.{all_in, find_some}
 use Rattle.std.proofs.lemmas.List.Elements.{recursion_from_All}
 use Rattle.mo_types.specs.declared.atom.Atom.{Atom}
 use Rattle.mo_types.specs.declared.key.AtomKey.{AtomKey}
@@ -13,7 +13,7 @@ use Rattle.slot_plan.specs.declared.need.Way.TheVariants.{Got, Stub, Tlv}
 use Rattle.sect_place.specs.Layout.{base_of}
 use Rattle.sect_place.specs.declared.layout.PlacedSection.{PlacedSection}
 use Rattle.sect_place.specs.declared.size.PlaceSizes.{PlaceSizes}
-use Rattle.slot_place.specs.Places.{HasRoom, HaveRoom, goals_for, is_own, own_section, start_in, starts_of, unit_at, unit_of}
+use Rattle.slot_place.specs.Places.{HaveRoom, goals_for, is_own, own_section, starts_of, unit_at, unit_of}
 use Rattle.slot_place.specs.Stubs.{AreNear, AreReached}
 use Rattle.slot_place.proofs.SectionLemmas.{IsOwnOf, IsPlanned, got_whole, last_of, own_found, planned}
 

@@ -1,14 +1,13 @@
 -- The linker's own sections of a layout, by what was planned.
-use Rattle.std.proofs.Common.{◌≡◌, ◌≢◌, ℕ, zero, suc, ◌+◌, ◌-◌, ◌*◌, ◌==◌, ◌&&◌, ◌^◌, ◌%◌, ◌<◌, ◌≤◌, if◌then◌else◌, ◌⊎◌, ◌++◌, Bool, true, false, List, [], ◌∷◌, length, map, codes, refl, sym, ap, ap₂, subst, ◌∙◌, inl, inr, arith, append_assoc, append-nil, Option, Some, None, IfSome, All}
+use Rattle.std.proofs.Common.{◌≡◌, ◌≢◌, ℕ, ◌+◌, ◌*◌, ◌==◌, ◌&&◌, ◌^◌, ◌%◌, ◌≤◌, if◌then◌else◌, ◌⊎◌, ◌++◌, Bool, true, false, List, [], ◌∷◌, length, codes, refl, sym, ap, ap₂, subst, ◌∙◌, inl, inr, arith, append_assoc, append-nil, Option, Some, None, All}
 use Rattle.std.specs.Prelude.{MatchOption}
-use Rattle.std.specs.List.{filter, find, flat_map, AllByRecursion}
+use Rattle.std.specs.List.{flat_map}
 use Rattle.std.specs.Str.{bytes_eq}
 use Rattle.std.proofs.lemmas.Bool.{cases_Bool, false≢true}
 use Rattle.std.proofs.lemmas.Grind.{flat_map-append}
 use Rattle.list_lemmas.proofs.Members.{In, all_in, find_none, find_some, from_filter, from_map, in_either, in_left, in_right}
 use Rattle.std.proofs.lemmas.List.Elements.{recursion_from_All}
 use Rattle.mo_types.specs.declared.atom.Atom.{Atom}
-use Rattle.mo_types.specs.declared.goal.Goal.{Goal}
 use Rattle.mo_types.specs.declared.key.AtomKey.{AtomKey}
 use Rattle.mo_types.specs.declared.out_section.OutSection.{OutSection}
 use Rattle.slot_plan.specs.declared.list.Slots.{Slots}
@@ -16,7 +15,7 @@ use Rattle.slot_plan.specs.declared.need.Way.{Way}
 use Rattle.slot_plan.specs.declared.need.Way.TheVariants.{Got, Stub, Tlv}
 use Rattle.sect_place.specs.Arrangement.{MadeBytes, chosen, constant_parts, group_named, groups_of, own, runs, runs_from, section_of, text_parts, with_atoms, writable_parts}
 use Rattle.sect_place.specs.Layout.{made_bytes}
-use Rattle.sect_place.specs.Places.{file_bytes, group_end, groups_end, groups_sections, page_up, part_end, part_from, parts_end, parts_sections, placed_section}
+use Rattle.sect_place.specs.Places.{file_bytes, group_end, groups_end, groups_sections, page_up, part_end, parts_end, parts_sections, placed_section}
 use Rattle.sect_place.specs.declared.layout.PlacedSection.{PlacedSection}
 use Rattle.sect_place.specs.declared.part.Choice.{Choice}
 use Rattle.sect_place.specs.declared.part.Choice.TheVariants as choice

@@ -1,6 +1,6 @@
 -- Where the slots and stubs of an image stand (`loader.h`: S_NON_LAZY_SYMBOL_POINTERS, S_SYMBOL_STUBS,
 -- S_THREAD_LOCAL_VARIABLE_POINTERS).
-use Rattle.std.specs.Prelude.{ℕ, ◌≡◌, ◌≢◌, ◌+◌, ◌*◌, ◌==◌, ◌&&◌, ◌<◌, ◌≤◌, ◌^◌, Bool, List, [], length, position, IfSome, MatchOption, Option, All}
+use Rattle.std.specs.Prelude.{ℕ, ◌≡◌, ◌≢◌, ◌+◌, ◌*◌, ◌==◌, ◌&&◌, ◌<◌, ◌^◌, Bool, List, [], length, position, IfSome, MatchOption, Option, All}
 use Rattle.std.specs.List.{find}
 use Rattle.std.specs.Option.{option_and_then, option_map}
 use Rattle.std.specs.Ordering.{is_eq}

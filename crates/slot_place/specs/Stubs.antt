@@ -9,7 +9,7 @@ use Rattle.mo_bytes.specs.Number.{number, number_bytes}
 use Rattle.mo_types.specs.declared.goal.Goal.{Goal}
 use Rattle.slot_plan.specs.declared.list.Slots.{Slots}
 use Rattle.slot_plan.specs.declared.need.Way.TheVariants.{Got}
-use Rattle.slot_place.specs.Places.{HasRoom, slot_address, unit_at}
+use Rattle.slot_place.specs.Places.{slot_address, unit_at}
 use Rattle.slot_place.specs.declared.places.SlotStarts.{SlotStarts}
 
 -- the distance in pages of 4,096 bytes from the page of one address to that of another

@@ -1,5 +1,5 @@
 -- Slots and stubs that are near enough.
-use Rattle.std.proofs.Common.{◌≡◌, ℕ, ◌+◌, ◌*◌, ◌^◌, ◌%◌, ◌≤◌, ◌<◌, List, length, Option, Some, None, IfSome, refl, arith}
+use Rattle.std.proofs.Common.{◌≡◌, ℕ, ◌*◌, ◌^◌, ◌%◌, List, length, Option, Some, None, IfSome, refl, arith}
 use Rattle.std.specs.Prelude.{unwrap_or}
 use Rattle.mo_types.specs.declared.goal.Goal.{Goal}
 use Rattle.slot_plan.specs.declared.list.Slots.{Slots}

@@ -1,4 +1,4 @@
-use Rattle.std.proofs.Common.{rules, ◌≡◌, false, sym, ap, subst, ◌∙◌}
+use Rattle.std.proofs.Common.{rules, ◌≡◌, false, sym, subst}
 use Rattle.std.specs.List.{list_any}
 use Rattle.slot_needs.specs.Needs.{is_outer}
 use Rattle.slot_needs.specs.Unmet.{IsFirst, unmet_of}

@@ -1,6 +1,5 @@
-use Rattle.std.proofs.Common.{◌≡◌, sym, ◌∙◌, ap, subst}
+use Rattle.std.proofs.Common.{sym, ◌∙◌, ap}
 use Rattle.std.proofs.lemmas.Result.{IfOk-weaker}
-use Rattle.mo_types.specs.declared.goal.Goal.{Goal}
 use Rattle.resolve.specs.Table.{goal_in}
 use Rattle.slot_needs.specs.Needs.{way_of}
 use Rattle.slot_needs.specs.inner.Gathered.{Adds, Gathered, kept_need, need}

@@ -1,8 +1,7 @@
-use Rattle.std.proofs.Common.{◌≡◌, sym, ◌∙◌, Result}
-use Rattle.std.specs.Result.{IfOk}
+use Rattle.std.proofs.Common.{sym, ◌∙◌}
 use Rattle.std.proofs.lemmas.Result.{IfOk-weaker}
 use Rattle.resolve.specs.Table.{file_goals}
-use Rattle.slot_needs.specs.inner.Gathered.{Adds, Gathered, kept_need, need, needs_among}
+use Rattle.slot_needs.specs.inner.Gathered.{Adds, Gathered, kept_need, need}
 use Rattle.slot_needs.proofs.WalkLemmas.{adds_nothing, adds_some}
 use Rattle.slot_needs.proofs.walk.note_other.Goals as goal
 

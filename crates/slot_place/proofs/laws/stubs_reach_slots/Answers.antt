@@ -1,4 +1,4 @@
-use Rattle.std.proofs.Common.{◌+◌, ◌<◌, ◌^◌, refl, sym, subst, arith}
+use Rattle.std.proofs.Common.{refl, sym, subst, arith}
 use Rattle.sect_place.specs.Layout.{base_of, image_sections, plan_of}
 use Rattle.sect_place.specs.Places.{spaced}
 use Rattle.sect_place.proofs.Meaning.{sections_aligned}

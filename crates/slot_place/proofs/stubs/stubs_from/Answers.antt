@@ -1,4 +1,4 @@
-use Rattle.std.proofs.Common.{rules, ◌≡◌, ◌<◌, length, get_or}
+use Rattle.std.proofs.Common.{rules, ◌≡◌, get_or}
 use Rattle.slot_place.specs.Stubs.{stubs_from}
 use Rattle.slot_place.proofs.StubLemmas.{stubs_end, stubs_go_on}
 use Rattle.slot_place.proofs.stubs.stubs_from.Goals as goal
