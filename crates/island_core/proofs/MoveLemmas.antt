@@ -7,7 +7,7 @@ use Rattle.std.proofs.lemmas.List.Elements.{All-contains}
 use Rattle.list_lemmas.proofs.Members.{Contains_from_in}
 use Rattle.sect_place.specs.Places.{islands_bytes}
 use Rattle.sect_place.proofs.Fitting.{islands_whole}
-use Rattle.sect_place.proofs.Spread.{aligned_order}
+use Rattle.sect_place.proofs.Larger.{islands_order}
 use Rattle.island_core.specs.Far.{IsInTurn, bytes_before, compare_pairs, count_in, has, in_reach, in_reach_by, needs, takes}
 use Rattle.island_core.specs.declared.row.Case.{Case}
 use Rattle.island_core.specs.declared.row.Case.TheVariants.{Outside, Away, Plain, Added}
@@ -17,14 +17,6 @@ use Rattle.island_core.specs.declared.row.Scale.{Scale}
 use Rattle.island_core.proofs.PairLemmas.{count_within, in_from_has}
 
 -- ---- larger sets move more
-
-islands_order : (unit a b : ℕ) → a ≤ b → islands_bytes unit a ≤ islands_bytes unit b
-islands_order unit a b low = by (cases_Bool (a == 0)) (cases_Bool (b == 0))
-  where
-    by : (a == 0 ≡ true) ⊎ (a == 0 ≡ false) → (b == 0 ≡ true) ⊎ (b == 0 ≡ false) → islands_bytes unit a ≤ islands_bytes unit b
-    by (inl none) other = rw none (omega arith)
-    by (inr some) (inl none) = absurd (grind (arith, some, none, low))
-    by (inr some) (inr more) = rw (some, more) (aligned_order unit (3 + 12 * a) (3 + 12 * b) (omega arith))
 
 -- a set whose pairs another one has
 pub record IsWithin (set other : List Pair) : Type 0 where

@@ -1,5 +1,5 @@
 -- What a layout without islands is.
-use Rattle.std.proofs.Common.{◌≡◌, ℕ, ◌+◌, ◌&&◌, Bool, true, false, List, [], ◌∷◌, get_or, map, All, Some, refl, sym, ap, subst, ◌∙◌}
+use Rattle.std.proofs.Common.{◌≡◌, ℕ, ◌+◌, ◌&&◌, Bool, true, false, List, [], ◌∷◌, get_or, All, Some, refl, sym, ap, subst, ◌∙◌}
 use Rattle.std.specs.List.{AllByRecursion, filter, find, list_any}
 use Rattle.std.specs.List.Sorted.{IsStrictlySortedBy}
 use Rattle.std.specs.Option.{is_some}
@@ -14,7 +14,7 @@ use Rattle.mo_types.specs.Keys.{compare_keys}
 use Rattle.mo_types.specs.declared.atom.Atom.{Atom}
 use Rattle.mo_types.specs.declared.key.AtomKey.{AtomKey}
 use Rattle.mo_types.specs.declared.out_section.OutSection.{OutSection}
-use Rattle.tlv_plan.specs.Template.{aligned, atoms_of, keys_of, stand}
+use Rattle.tlv_plan.specs.Template.{atoms_of, keys_of}
 use Rattle.sect_place.specs.Addresses.{AreOnce, address_in}
 use Rattle.sect_place.specs.Arrangement.{groups_of, is_code}
 use Rattle.sect_place.specs.Layout.{base_of, image_sections, lead_of, made_bytes, plan_of}
@@ -39,11 +39,6 @@ unfolding atoms_of
 atoms_kept kept keys atom h =
     let found : (key : AtomKey) × In key keys × (find (λ (a : Atom). is_eq (compare_keys a.key key)) kept ≡ Some atom) = from_filter_map (λ (key : AtomKey). find (λ (a : Atom). is_eq (compare_keys a.key key)) kept) keys atom h in
     (found_atom kept found.0 atom found.2).1
-
-pub stand_atoms : (at : ℕ) (atoms : List Atom) → map (λ (p : Atom × ℕ). p.0) (stand at atoms) ≡ atoms
-unfolding stand
-stand_atoms at [] = refl
-stand_atoms at (atom ∷ atoms) = ap (λ (xs : List Atom). atom ∷ xs) (stand_atoms (aligned atom.align at + atom.size) atoms)
 
 pub both_true : (a b : Bool) → (a && b) ≡ true → (a ≡ true) × (b ≡ true)
 both_true true true e = (refl, refl)

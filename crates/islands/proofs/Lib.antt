@@ -3,11 +3,14 @@ pub mod Standing
 pub mod Planned
 pub mod Walks
 pub mod Keyed
+pub mod Known
 pub mod Once
+pub mod Few
 pub mod Pieces
 pub mod Ways
 pub mod Layouts
 pub mod Stood
+pub mod Placing
 pub mod Turns
 pub mod Whole
 pub mod Single
@@ -15,3 +18,4 @@ pub mod Bytes
 pub mod Moved
 pub mod Reached
 pub mod Told
+pub mod Exists

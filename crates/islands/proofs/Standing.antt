@@ -3,34 +3,13 @@ use Rattle.std.proofs.Common.{◌≡◌, ℕ, ◌+◌, ◌≤◌, ◌⊎◌, ◌
 use Rattle.list_lemmas.proofs.Members.{In, in_either}
 use Rattle.mo_types.specs.declared.atom.Atom.{Atom}
 use Rattle.mo_types.specs.declared.key.AtomKey.{AtomKey}
-use Rattle.tlv_plan.specs.Template.{aligned, end_of, stand}
-use Rattle.tlv_plan.proofs.Walk.{aligned_least}
+use Rattle.tlv_plan.specs.Template.{stand}
 use Rattle.sect_place.specs.Places.{file_bytes, group_end, groups_sections, groups_stand, page_up, part_end, part_from, parts_end, parts_sections, parts_stand, placed_section}
 use Rattle.sect_place.specs.declared.layout.PlacedSection.{PlacedSection}
 use Rattle.sect_place.specs.declared.part.Group.{Group}
 use Rattle.sect_place.specs.declared.part.Part.{Part}
+use Rattle.sect_place.proofs.Around.{Within, stand_within}
 use Rattle.sect_place.proofs.Spread.{group_bounds, part_bounds, parts_after}
-
--- a place from one number to another
-abbrev pub Within : ℕ → ℕ → Atom × ℕ → Type 0
-Within at end p = (at ≤ p.1) × (p.1 + p.0.size ≤ end)
-
-after_all : (at : ℕ) (atoms : List Atom) → at ≤ end_of at atoms
-unfolding end_of
-after_all at [] = omega arith
-after_all at (atom ∷ atoms) =
-    let rest = after_all (aligned atom.align at + atom.size) atoms in
-    omega (arith, rest, (aligned_least atom.align at).enough)
-
-pub stand_within : (at : ℕ) (atoms : List Atom) (p : Atom × ℕ) → In p (stand at atoms) → Within at (end_of at atoms) p
-unfolding stand end_of
-stand_within at [] p h = absurd h
-stand_within at (atom ∷ atoms) p (inl e) =
-    let rest = after_all (aligned atom.align at + atom.size) atoms in
-    subst (λ (q : Atom × ℕ). Within at (end_of (aligned atom.align at + atom.size) atoms) q) e ((aligned_least atom.align at).enough, rest)
-stand_within at (atom ∷ atoms) p (inr h) =
-    let rest = stand_within (aligned atom.align at + atom.size) atoms p h in
-    (omega (arith, rest.0, (aligned_least atom.align at).enough), rest.1)
 
 pub parts_within : (atoms : List AtomKey → List Atom) (at : ℕ) (parts : List Part) (p : Atom × ℕ) → In p (parts_stand atoms at parts) → Within at (parts_end atoms at parts) p
 unfolding parts_stand parts_end part_end

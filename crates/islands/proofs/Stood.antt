@@ -34,6 +34,7 @@ use Rattle.sect_place.specs.declared.layout.PlacedSection.{PlacedSection}
 use Rattle.sect_place.specs.declared.part.Choice.TheVariants.{Code}
 use Rattle.sect_place.specs.declared.part.Group.{Group}
 use Rattle.sect_place.specs.declared.part.Part.{Part}
+use Rattle.sect_place.proofs.Around.{stand_atoms}
 use Rattle.sect_place.proofs.Fitting.{text_all}
 use Rattle.sect_place.proofs.Meaning.{image_apart, image_same}
 use Rattle.sect_place.proofs.Planned.{listed_there}
@@ -44,7 +45,7 @@ use Rattle.sect_place.proofs.Spread.{parts_after}
 use Rattle.islands.specs.Plan.{IsWithoutIslands}
 use Rattle.islands.specs.Text.{has_key, in_code, in_text, is_text, place_in}
 use Rattle.islands.proofs.Keyed.{key_found, key_there}
-use Rattle.islands.proofs.Layouts.{are, atoms_kept, both_are, both_true, code_same, stand_atoms, stands_from, stands_parts}
+use Rattle.islands.proofs.Layouts.{are, atoms_kept, both_are, both_true, code_same, stands_from, stands_parts}
 use Rattle.islands.proofs.Planned.{beside_parts, text_split}
 use Rattle.islands.proofs.Standing.{ends_join, groups_low, parts_join, parts_within}
 

@@ -1,29 +1,33 @@
 -- A plan without islands, where addresses alone tell that no branch needs one.
-use Rattle.std.proofs.Common.{◌≡◌, ℕ, zero, suc, ◌+◌, ◌-◌, ◌*◌, ◌/◌, ◌<◌, ◌≤◌, ◌⊎◌, ◌++◌, true, false, List, [], ◌∷◌, length, map, replicate, All, IfOk, IfSome, Option, Some, None, Result, Ok, Err, codes, refl, sym, ap, subst, ◌∙◌, inl, inr, arith, append_assoc}
-use Rattle.std.specs.List.{filter}
+use Rattle.std.proofs.Common.{◌≡◌, ℕ, zero, suc, ◌+◌, ◌-◌, ◌*◌, ◌/◌, ◌<◌, ◌≤◌, ◌⊎◌, ◌++◌, ◌&&◌, if◌then◌else◌, Bool, Contains, true, false, List, [], ◌∷◌, length, map, replicate, All, IfOk, IfSome, Option, Some, None, Result, Ok, Err, codes, refl, sym, ap, subst, ◌∙◌, inl, inr, arith, append_assoc}
+use Rattle.std.specs.List.{filter, list_any}
 use Rattle.std.specs.List.Sorted.{IsStrictlySortedBy}
 use Rattle.std.specs.Option.{is_some, option_map, unwrap_or}
 use Rattle.std.specs.Str.{bytes_eq}
 use Rattle.std.proofs.lemmas.Bool.{cases_Bool, cases_lt, false≢true}
 use Rattle.std.proofs.lemmas.List.{get_or-replicate, length-map, length-replicate}
 use Rattle.std.proofs.lemmas.List.Elements.{All-from_recursion, recursion_from_All}
-use Rattle.list_lemmas.proofs.Members.{all_map, all_weaker}
+use Rattle.std.proofs.lemmas.List.Sorted.{Contains-permutation}
+use Rattle.list_lemmas.proofs.Members.{Contains_from_in, all_map, all_weaker, any_from_in}
 use Rattle.sort_lemmas.proofs.Sorting.{rising_exists}
 use Rattle.command_line.specs.declared.command.Command.{Command}
 use Rattle.mo_types.specs.declared.atom.Atom.{Atom}
 use Rattle.mo_types.specs.declared.key.AtomKey.{AtomKey}
 use Rattle.sect_place.specs.Addresses.{IsAddressOf, address_in}
-use Rattle.sect_place.specs.Arrangement.{groups_of, text_parts}
+use Rattle.sect_place.specs.Arrangement.{groups_of, is_code, text_parts}
 use Rattle.sect_place.specs.Layout.{base_of, end_of_image, first_segments, image_segments, lead_of, linkedit, made_bytes, plan_of}
 use Rattle.sect_place.specs.Moved.{no_islands}
 use Rattle.sect_place.specs.Places.{area_unit, file_bytes, group_end, groups_file, groups_segments, page_up, segment_of, spaced}
 use Rattle.sect_place.specs.declared.island.BranchTarget.{BranchTarget}
 use Rattle.sect_place.specs.declared.island.IslandPlan.{IslandPlan}
 use Rattle.sect_place.specs.declared.layout.Layout.{Layout}
+use Rattle.sect_place.specs.declared.layout.Placed.{Placed}
 use Rattle.sect_place.specs.declared.layout.PlacedSection.{PlacedSection}
 use Rattle.sect_place.specs.declared.layout.Segment.{Segment}
 use Rattle.sect_place.specs.declared.part.Group.{Group}
+use Rattle.sect_place.specs.inner.Around.{IsAround}
 use Rattle.sect_place.proofs.AddressLemmas.{address_is}
+use Rattle.sect_place.proofs.Around.{stands_amid}
 use Rattle.sect_place.proofs.Sound.{groups_split, later_groups}
 use Rattle.sect_place.proofs.Spread.{group_bounds}
 use Rattle.island_core.specs.Far.{ArePairs, IsFar, is_grouped, needs}
@@ -38,15 +42,16 @@ use Rattle.islands.specs.declared.branch.Branch.{Branch}
 use Rattle.islands.specs.declared.spot.Spot.{Spot}
 use Rattle.islands.specs.Plan.{AreWays, IsPlan, IsWay, IsWithoutIslands, row_at, scale_of}
 use Rattle.islands.specs.Reach.{NeedsNone}
-use Rattle.islands.specs.Rows.{goal_spot, row_of, rows_of, spot_by, spot_of, stub_spot, stubs_in}
+use Rattle.islands.specs.declared.ground.Span.{Span}
+use Rattle.islands.specs.Rows.{atom_spot, goal_spot, row_of, rows_of, spot_by, spot_of, stub_spot, stubs_in}
 use Rattle.islands.specs.Targets.{AreTargets}
-use Rattle.islands.specs.Text.{extents_of, lasts_of, place_in, text_atoms}
-use Rattle.islands.specs.inner.Ground.{IsGoalIn, IsPlaceIn, IsQuick, IsTold, text_end}
-use Rattle.islands.proofs.Keyed.{compare_targets_total}
-use Rattle.islands.proofs.Layouts.{ordered}
+use Rattle.islands.specs.Text.{extents_of, groups_before, has_key, in_code, in_text, is_text, lasts_of, place_in, text_atoms}
+use Rattle.islands.specs.inner.Ground.{IsCodeSpan, IsGoalIn, IsPlaceIn, IsQuick, IsTold, text_end}
+use Rattle.islands.proofs.Keyed.{compare_targets_total, key_found}
+use Rattle.islands.proofs.Layouts.{both_are, ordered, stands_from}
 use Rattle.islands.proofs.Once.{same_target}
 use Rattle.islands.proofs.Single.{no_areas, row_needs_none}
-use Rattle.islands.proofs.Stood.{before_page, first}
+use Rattle.islands.proofs.Stood.{all_places, before_page, entry, first}
 
 -- ---- what addresses tell
 
@@ -54,6 +59,47 @@ pub address_told : (layout : Layout) (key : AtomKey) (at : ℕ) → IsTold layou
 address_told layout key at told is =
     let same : Some at ≡ address_in layout.placed key = address_is layout.placed key (Some at) told.ordered.once is in
     (ap (λ (o : Option ℕ). is_some o) (sym same), ap (λ (o : Option ℕ). unwrap_or o 0) (sym same))
+
+-- the same of what a look-up answers
+pub some_told : (layout : Layout) (key : AtomKey) (at : ℕ) → address_in layout.placed key ≡ Some at → (is_some (address_in layout.placed key) ≡ true) × (place_in layout key ≡ at)
+some_told layout key at e = (ap (λ (o : Option ℕ). is_some o) e, ap (λ (o : Option ℕ). unwrap_or o 0) e)
+
+none_and : (a b : Bool) → b ≡ false → (a && b) ≡ false
+none_and true b e = e
+none_and false b e = refl
+
+none_told : (layout : Layout) (key : AtomKey) → address_in layout.placed key ≡ None → (in_code layout key ≡ false) × (in_text layout key ≡ false) × (place_in layout key ≡ 0)
+none_told layout key e =
+    let none : is_some (address_in layout.placed key) ≡ false = ap (λ (o : Option ℕ). is_some o) e in (
+      none_and (list_any (λ (s : PlacedSection). is_code s.section && has_key s.section.atoms key) layout.sections) _ none,
+      none_and (list_any (λ (s : PlacedSection). is_text s.section && has_key s.section.atoms key) layout.sections) _ none,
+      ap (λ (o : Option ℕ). unwrap_or o 0) e,
+    )
+
+pub code_told : (layout : Layout) (span : Span) (key : AtomKey) (at : ℕ) → IsTold layout → IsCodeSpan layout.sections span → address_in layout.placed key ≡ Some at → span.from < at → at < span.to → in_code layout key ≡ true
+code_told layout span key at told is e low high =
+    let some = some_told layout key at e in
+    told.amid key some.0 is.0 (is.1, omega (arith, low, some.1, is.3), omega (arith, high, some.1, is.4)) is.2
+
+pub text_told : (layout : Layout) (key : AtomKey) (at : ℕ) → IsTold layout → address_in layout.placed key ≡ Some at → at < text_end layout.segments → in_text layout key ≡ true
+text_told layout key at told e low = let some = some_told layout key at e in told.below key some.0 (omega (arith, low, some.1))
+
+-- a spot of an atom
+same_spot : (i i' : Bool) (p p' z z' : ℕ) → i ≡ i' → p ≡ p' → z ≡ z' → (let s : Spot = record { inside = i; place = p; zone = z } in s) ≡ record { inside = i'; place = p'; zone = z' }
+same_spot i i' p p' z z' e f g = rw (e, f, g) refl
+
+pub spot_told : (layout : Layout) (lasts : List AtomKey) (key : AtomKey) (offset at place zone : ℕ) (inside : Bool) → address_in layout.placed key ≡ Some at → inside ≡ in_text layout key → place ≡ at + offset → zone ≡ (if in_code layout key then groups_before lasts key else length lasts) → (let s : Spot = record { inside = inside; place = place; zone = zone } in s) ≡ atom_spot layout lasts key offset
+spot_told layout lasts key offset at place zone inside e is stands groups =
+    let some = some_told layout key at e in
+    same_spot inside (in_text layout key) place (place_in layout key + offset) zone (if in_code layout key then groups_before lasts key else length lasts) is (omega (arith, stands, some.1)) groups
+
+pub no_spot_told : (layout : Layout) (lasts : List AtomKey) (key : AtomKey) (offset : ℕ) → address_in layout.placed key ≡ None → (let s : Spot = record { inside = false; place = offset; zone = length lasts } in s) ≡ atom_spot layout lasts key offset
+no_spot_told layout lasts key offset e =
+    let none = none_told layout key e in
+    same_spot false (in_text layout key) offset (place_in layout key + offset) (length lasts) (if in_code layout key then groups_before lasts key else length lasts) (sym none.1) (omega (arith, none.2)) (rw none.0 refl)
+
+pub stand_told : (layout : Layout) (key : AtomKey) → address_in layout.placed key ≡ None → (0 ≡ place_in layout key) × (false ≡ in_code layout key)
+stand_told layout key e = let none = none_told layout key e in (sym none.2, sym none.0)
 
 pub stub_told : (layout : Layout) (target : BranchTarget) (number : ℕ) (stubs r : Option ℕ) → target.stub ≡ Some number → stubs ≡ option_map (λ (p : PlacedSection). p.address) (stubs_in layout.sections) → r ≡ option_map (λ (at : ℕ). at + 12 * number) stubs → IfSome r (IsPlaceIn layout target)
 unfolding spot_of
@@ -80,6 +126,16 @@ goal_told layout target (Some place) is told =
 end_from : (command : Command) (s : Segment) (rest : List Segment) → bytes_eq s.name (codes "__TEXT") ≡ true → text_end (first_segments command ++ s ∷ rest) ≡ s.address + s.vmsize
 end_from command s rest named = elim (cases_Bool command.dylib) [ inl e ↦ rw (e, named) refl | inr e ↦ rw (e, named) refl ]
 
+-- what stands in the midst of a section of `__text`
+amid_code : (kept : List Atom) (layout : Layout) (is : IsWithoutIslands kept layout) (key : AtomKey) → is_some (address_in layout.placed key) ≡ true → (p : PlacedSection) → IsAround layout.sections (place_in layout key) p → is_code p.section ≡ true → in_code layout key ≡ true
+amid_code kept layout is key some p around code =
+    let q : Placed = record { atom = key; address = place_in layout key } in
+    let all = all_places kept layout is in
+    let placed : Contains layout.placed q = Contains-permutation all layout.placed q is.placed.places (Contains_from_in all q (entry kept layout is key some)) in
+    let there = stands_amid kept is.sections is.slots is.sizes is.command layout is.placed key (place_in layout key) p placed around in
+    stands_from is_code layout key
+    (any_from_in (λ (s : PlacedSection). is_code s.section && has_key s.section.atoms key) layout.sections p there.0 (both_are (is_code p.section) (has_key p.section.atoms key) code (key_found p.section.atoms key there.1))) some
+
 pub told : (kept : List Atom) (layout : Layout) → IsWithoutIslands kept layout → IsTold layout
 unfolding image_segments plan_of groups_segments segment_of
 told kept layout is =
@@ -96,7 +152,11 @@ told kept layout is =
     ∙ (ap (λ (groups : List Group). text_end ((first_segments is.command ++ groups_segments f base 0 lead groups) ++ last)) (groups_split is.sections bytes)
     ∙ (ap text_end (append_assoc (first_segments is.command) (groups_segments f base 0 lead (text_group ∷ later_groups is.sections bytes)) last)
     ∙ end_from is.command (segment_of f base 0 lead text_group) rest refl)) in
-    record { ordered = ordered kept layout is; below = λ key some low. before_page kept layout is key some (omega (arith, low, ends, bounds.0, bounds.3)) }
+    record {
+      ordered = ordered kept layout is;
+      below = λ key some low. before_page kept layout is key some (omega (arith, low, ends, bounds.0, bounds.3));
+      amid = λ key some p around code. amid_code kept layout is key some p around code;
+    }
 
 -- ---- there are groups, targets and pairs
 

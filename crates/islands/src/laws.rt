@@ -1,5 +1,5 @@
 //! What a plan of islands is, each on a call that does nothing.
-ghost use Rattle.std.specs.Prelude.{◌≡◌, ℕ, ◌<◌, [], None, Some, not, true, List, All, length, slice_get, slice_index_or};
+ghost use Rattle.std.specs.Prelude.{◌≡◌, ℕ, ◌<◌, ◌≤◌, ◌^◌, [], None, Some, not, true, List, All, length, slice_get, slice_index_or};
 ghost use Rattle.std.specs.List.{filter};
 ghost use Rattle.mo_types.specs.declared.atom.Atom.{Atom};
 ghost use Rattle.sect_place.specs.Layout.{IsLayoutOf, plan_of};
@@ -7,13 +7,20 @@ ghost use Rattle.sect_place.specs.declared.island.IslandPlan.{IslandPlan};
 ghost use Rattle.sect_place.specs.declared.layout.Layout.{Layout};
 ghost use Rattle.island_core.specs.Far.{IsClosed, has, same_pair};
 ghost use Rattle.island_core.specs.declared.row.Pair.{Pair};
-ghost use Rattle.islands.specs.Plan.{IsPlan, IsWithoutIslands, scale_of};
+ghost use Rattle.islands.specs.Plan.{IsInAtoms, IsPlan, IsWithoutIslands, scale_of};
 ghost use Rattle.islands.specs.Reach.{IsWord, NeedsNone, Reaches};
 ghost use Rattle.islands.specs.Rows.{rows_of};
 ghost use Rattle.islands.specs.Text.{in_code, lasts_of, text_atoms};
 ghost use Rattle.islands.specs.declared.branch.Branch.{Branch};
 
-/// An image with some branches has one plan.
+/// An image with some branches has a plan, however far branches reach in 64 bits.
+pub fn a_plan_exists()
+    ensures { (kept : List Atom) (layout : Layout) (branches : List Branch) (reach : ℕ)
+        → IsWithoutIslands kept layout → All (IsInAtoms kept) branches → 4 ≤ reach → reach < 2 ^ 64
+        → (plan : IslandPlan) × IsPlan kept layout branches reach plan }
+{}
+
+/// It has one alone.
 pub fn a_plan_is_one()
     ensures { (kept : List Atom) (layout : Layout) (branches : List Branch) (reach : ℕ) (a b : IslandPlan)
         → IsWithoutIslands kept layout → IsPlan kept layout branches reach a → IsPlan kept layout branches reach b → a ≡ b }

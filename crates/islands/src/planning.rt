@@ -16,9 +16,11 @@ ghost use Rattle.islands.specs.inner.Scaled.{IsScaleOf};
 
 use crate::area::{areas, ways};
 use crate::branch::{Branch, BranchList};
+use crate::ground::ground_of;
 use crate::quick::all_reach;
-use crate::row::rows;
-use crate::target::{Aim, targets};
+use crate::row::{Known, rows};
+use crate::spot::spots;
+use crate::target::{Aim, Aims, targets};
 use crate::text::{extents, is_text, lasts, text_atoms};
 use island_core::{Pair, Row, Scale, cut_atoms, far_pairs, moved_by, pairs_of};
 use mo_types::{Atom, AtomKey, AtomList, OutOfMemory};
@@ -73,9 +75,16 @@ fn islands(
     let branches = branches.as_slice();
     let lasts = cut(alloc, kept.as_slice(), layout, reach)?;
     let lasts = lasts.as_slice();
-    let aims = targets(alloc, branches)?;
+    let Aims { aims, hints } = targets(alloc, branches)?;
     let aims = aims.as_slice();
-    let rows = rows(alloc, layout, lasts, aims, branches)?;
+    let ground = ground_of(layout);
+    let spots = spots(alloc, layout, &ground, lasts, aims)?;
+    let known = Known {
+        aims,
+        spots: spots.as_slice(),
+        hints: hints.as_slice(),
+    };
+    let rows = rows(alloc, layout, &ground, lasts, &known, branches)?;
     let rows = rows.as_slice();
     let scale = scale(alloc, layout.sections.as_slice(), lasts.len(), reach, rows)?;
     let far = far_pairs(alloc, rows, &scale)?;

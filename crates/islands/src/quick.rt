@@ -1,30 +1,17 @@
 //! Whether all branches reach without islands, as those of nearly all images do.
 ghost use Rattle.std.specs.Prelude.{◌≡◌, ◌+◌, ◌*◌, ◌<◌, ◌^◌, All, IfSome, true};
 ghost use Rattle.std.specs.Option.{option_map};
-ghost use Rattle.sect_place.specs.declared.layout.PlacedSection.{PlacedSection};
 ghost use Rattle.island_core.specs.Far as far;
-ghost use Rattle.islands.specs.Rows as rows;
 ghost use Rattle.islands.specs.Text as text;
 ghost use Rattle.islands.specs.inner.Ground as spec;
 
 use crate::branch::Branch;
+use crate::ground::{Ground, ground_of};
 use crate::row::raised;
-use crate::spot::{header_place, is_stubs};
 use crate::text::place_of;
 use atom_index::is_same;
 use mo_types::{AtomKey, Goal};
-use sect_place::{BranchTarget, Layout, PlacedSection, Segment, address};
-
-/// What is read once of a layout.
-#[derive(Clone, Copy, Debug)]
-pub(crate) struct Ground {
-    /// Where `__TEXT` ends in memory. What stands before is in it.
-    pub end: u128,
-    /// Where the header stands.
-    pub header: u64,
-    /// Where the stubs stand, if there are any.
-    pub stubs: Option<u64>,
-}
+use sect_place::{BranchTarget, Layout, address};
 
 // Whether all branches go into `__TEXT` without an addend, and are in reach. It looks at addresses alone, and says no
 // where these don't tell.
@@ -42,41 +29,6 @@ pub(crate) fn all_reach(layout: &Layout, branches: &[Branch], reach: u32) -> boo
         }
     }
     true
-}
-
-fn ground_of(layout: &Layout) -> Ground
-    ensures { spec.IsGround layout.now result }
-{
-    let segments = layout.segments.as_slice();
-    Ground {
-        end: end_of(segments),
-        header: header_place(segments),
-        stubs: stubs_place(layout.sections.as_slice()),
-    }
-}
-
-// Where `__TEXT` ends in memory.
-fn end_of(segments: &[Segment]) -> u128
-    ensures { result ≡ spec.text_end segments.now }
-{
-    for segment in segments {
-        if segment.name.as_slice() == b"__TEXT".as_slice() {
-            return u128::from(segment.address) + u128::from(segment.vmsize);
-        }
-    }
-    0
-}
-
-// Where the stubs stand.
-fn stubs_place(sections: &[PlacedSection]) -> Option<u64>
-    ensures { result ≡ option_map (λ (p : PlacedSection). p.address) (rows.stubs_in sections.now) }
-{
-    for placed in sections {
-        if is_stubs(&placed.section) {
-            return Some(placed.address);
-        }
-    }
-    None
 }
 
 // Where a branch's atom stands, which mostly is that of the branch before.

@@ -1,12 +1,13 @@
 //! The targets of branches in order.
-ghost use Rattle.std.specs.Prelude.{◌≡◌, ◌≤◌, IfOk, length, map};
+ghost use Rattle.std.specs.Prelude.{◌≡◌, ◌<◌, ◌≤◌, IfOk, IsTrue, length, map, slice_index_or};
 ghost use Rattle.std.specs.List.Sorted.{IsStrictlySortedBy};
 ghost use Rattle.std.specs.Ordering.{is_lt};
 ghost use Rattle.islands.specs.Targets as spec;
 ghost use Rattle.islands.specs.declared.branch.Branch.{Branch};
-ghost use Rattle.islands.specs.inner.Held.{aim_of, target_of};
+ghost use Rattle.islands.specs.inner.Held.{aim_of, target_of, targets_behind};
 
 use crate::branch::Branch;
+use crate::numbering::{Gathered, Keyed, gather, hints, in_order, is_same_goal};
 use mo_types::{Goal, OutOfMemory};
 use sect_place::BranchTarget;
 use std::alloc::Global;
@@ -17,6 +18,13 @@ pub(crate) struct Aim {
     pub goal: Goal,
     pub addend: i64,
     pub stub: Option<u32>,
+}
+
+/// Targets in order, each once, and where that of each branch mostly stands among them.
+#[derive(Debug, Drop)]
+pub(crate) struct Aims {
+    pub aims: Vec<Aim>,
+    pub hints: Vec<usize>,
 }
 
 impl Aim {
@@ -31,6 +39,15 @@ impl Aim {
         })
     }
 
+    // Whether it is a target.
+    fn is(&self, target: &BranchTarget) -> bool
+        ensures { IsTrue result → self.now ≡ aim_of target.now }
+    {
+        self.addend == target.addend
+            && self.stub == target.stub
+            && is_same_goal(&self.goal, &target.goal)
+    }
+
     /// The target.
     pub(crate) fn target(&self) -> Result<BranchTarget, OutOfMemory>
         ensures { IfOk result (λ target. target ≡ target_of self.now) }
@@ -43,25 +60,38 @@ impl Aim {
     }
 }
 
-// The targets of branches, as often as branches go there.
-fn copies(alloc: Global, branches: &[Branch]) -> Result<Vec<Aim>, OutOfMemory>
-    ensures { IfOk result (λ aims. map target_of aims.items ≡ map (λ (branch : Branch). branch.target) branches.now) }
+// The targets behind references.
+fn copies(alloc: Global, keyed: &[Keyed]) -> Result<Vec<Aim>, OutOfMemory>
+    ensures { IfOk result (λ aims. map target_of aims.items ≡ targets_behind keyed.now) }
 {
-    let mut aims = Vec::with_capacity(alloc, branches.len())?;
-    for branch in branches {
-        aims.push(Aim::of(&branch.target)?)?;
+    let mut aims = Vec::with_capacity(alloc, keyed.len())?;
+    for each in keyed {
+        aims.push(Aim::of(each.target)?)?;
     }
     Ok(aims)
 }
 
 // The targets of branches in order, each once.
-pub(crate) fn targets(alloc: Global, branches: &[Branch]) -> Result<Vec<Aim>, OutOfMemory>
-    ensures { IfOk result (λ aims. spec.AreTargets (map (λ (branch : Branch). branch.target) branches.now) (map target_of aims.items)) }
+pub(crate) fn targets(alloc: Global, branches: &[Branch]) -> Result<Aims, OutOfMemory>
+    ensures { IfOk result (λ those. spec.AreTargets (map (λ (branch : Branch). branch.target) branches.now) (map target_of those.aims.items)) }
 {
-    let mut aims = copies(alloc, branches)?;
+    let Gathered { keyed, met } = gather(alloc, branches)?;
+    let keyed = in_order(keyed);
+    let mut aims = copies(alloc, keyed.as_slice())?;
     aims.sort()?;
     aims.dedup();
-    Ok(aims)
+    let hints = hints(alloc, keyed.as_slice(), met.as_slice())?;
+    Ok(Aims { aims, hints })
+}
+
+// Whether a target stands at a place.
+pub(crate) fn is_at(aims: &[Aim], at: usize, target: &BranchTarget) -> bool
+    ensures { IsTrue result → (at < length aims.now) × (slice_index_or aims.now at (aim_of target.now) ≡ aim_of target.now) }
+{
+    match aims.get(at) {
+        Some(aim) => aim.is(target),
+        None => false,
+    }
 }
 
 // The number of a target: how many are before it.

@@ -8,6 +8,7 @@ ghost use Rattle.mo_types.specs.declared.atom.Atom.{Atom};
 ghost use Rattle.mo_types.specs.declared.out_section.OutSection.{OutSection};
 ghost use Rattle.tlv_plan.specs.Template.{atoms_of};
 ghost use Rattle.sect_list.specs.OutSections.{is_in};
+ghost use Rattle.sect_place.specs.Addresses.{address_in};
 ghost use Rattle.sect_place.specs.Arrangement as arrangement;
 ghost use Rattle.sect_place.specs.declared.layout.PlacedSection.{PlacedSection};
 ghost use Rattle.sect_place.specs.Moved.{code_keys};
@@ -31,7 +32,7 @@ pub(crate) fn is_text(section: &OutSection) -> bool
 }
 
 // Whether it is `__text` of instructions.
-fn is_code(section: &OutSection) -> bool
+pub(crate) fn is_code(section: &OutSection) -> bool
     ensures { result ≡ arrangement.is_code section.now }
 {
     is_text(section)
@@ -111,12 +112,20 @@ fn find_near(kept: &[Atom], near: usize, key: &AtomKey) -> (Option<Atom>, usize)
     }
 }
 
+// Where an atom stands, if the layout has it.
+pub(crate) fn address_of(layout: &Layout, key: &AtomKey) -> Option<u64>
+    requires { IsOrdered layout.now }
+    ensures { result ≡ address_in layout.now.placed key.now }
+{
+    address(layout, *key)
+}
+
 // Where an atom stands, or 0.
 pub(crate) fn place_of(layout: &Layout, key: &AtomKey) -> u64
     requires { IsOrdered layout.now }
     ensures { result ≡ spec.place_in layout.now key.now }
 {
-    address(layout, *key).unwrap_or(0)
+    address_of(layout, key).unwrap_or(0)
 }
 
 // Atoms from their first bytes to their ends.

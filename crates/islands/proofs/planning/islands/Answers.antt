@@ -13,12 +13,15 @@ use Rattle.islands.specs.declared.target.Aim.{Aim}
 use Rattle.islands.specs.inner.Cut.{IsCut}
 use Rattle.islands.specs.inner.Held.{target_of}
 use Rattle.islands.specs.inner.Scaled.{IsScaleOf}
-use Rattle.islands.proofs.Layouts.{ordered}
+use Rattle.islands.proofs.Told.{told}
 use Rattle.islands.proofs.Whole.{far_within, is_plan, rows_turn}
 use Rattle.islands.proofs.planning.islands.Goals as goal
 
+pub spots-requires-clause-layout : goal.spots-requires-clause-layout
+spots-requires-clause-layout c = told c.args.kept.now c.args.layout.now c.requires.layout
+
 pub rows-requires-clause-layout : goal.rows-requires-clause-layout
-rows-requires-clause-layout c = ordered c.args.kept.now c.args.layout.now c.requires.layout
+rows-requires-clause-layout c = told c.args.kept.now c.args.layout.now c.requires.layout
 
 pub far_pairs-requires-clause-in_turn : goal.far_pairs-requires-clause-in_turn
 far_pairs-requires-clause-in_turn c =
@@ -39,5 +42,5 @@ returns c =
     (subst (λ (kept : List Atom). IsCut kept c.args.layout.now c.args.reach c.as_slice-lasts.result.now) c.as_slice.ensures (subst (λ (lasts : List AtomKey). IsCut c.as_slice.result.now c.args.layout.now c.args.reach lasts) (sym c.as_slice-lasts.ensures.value) c.in_ok-lasts.ensures))
     (subst (λ (branches : List Branch). AreTargets (map (λ (branch : Branch). branch.target) branches) (map target_of c.as_slice-aims.result.now)) c.as_slice-branches.ensures (subst (λ (aims : List Aim). AreTargets (map (λ (branch : Branch). branch.target) c.as_slice-branches.result.now) (map target_of aims)) (sym c.as_slice-aims.ensures.value) c.in_ok-aims.ensures))
     (c.as_slice-rows.ensures.value ∙ (c.in_ok-rows.ensures.exact ∙ ap (λ (branches : List Branch). rows_of c.args.layout.now c.as_slice-lasts.result.now (map target_of c.as_slice-aims.result.now) branches) c.as_slice-branches.ensures)) refl
-    (subst (λ (placed : List PlacedSection). IsScaleOf placed (length c.as_slice-lasts.result.now) c.args.reach c.as_slice-rows.result.now c.in_ok-scale.scale) c.as_slice-2.ensures c.in_ok-scale.ensures.exact)
+    (subst (λ (placed : List PlacedSection). IsScaleOf placed (length c.as_slice-lasts.result.now) c.args.reach c.as_slice-rows.result.now c.in_ok-scale.scale) c.as_slice-4.ensures c.in_ok-scale.ensures.exact)
     (subst (λ (far : List Pair). IsFar c.in_ok-scale.scale c.as_slice-rows.result.now far) (sym c.as_slice-far.ensures.value) c.in_ok-far.ensures) c.in_ok-areas.ensures c.in_ok-ways.ensures

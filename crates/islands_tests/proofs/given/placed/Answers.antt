@@ -1,5 +1,5 @@
 use Rattle.std.proofs.Common.{refl}
-use Rattle.islands_tests.proofs.Placing.{without}
+use Rattle.islands.proofs.Placing.{without}
 use Rattle.islands_tests.proofs.given.placed.Goals as goal
 
 pub returns : goal.returns
