@@ -11,6 +11,8 @@
 //! - `slots NEEDS GOALS`: needs whose slots `slot_plan::slots` lists
 //! - `names FILES NAMES`: names of a thousand external symbols a file, numbered by `name_ids::gather`
 //! - `places FILES ATOMS`: files of 250 sections with so many atoms each, laid out by `sect_place`, and a million addresses
+//! - `islands COUNT EACH REACH`: so many functions with two branches each, one of which goes far in each so many'th, whose
+//!   islands `islands::plan` plans
 //! - `closure LIBRARIES NAMES`: libraries with so many names each, which `lib_bind::closure` binds
 //! - `unwind FUNCTIONS ENCODINGS EACH`: functions with so many encodings, each of which so many in a row have, whose section
 //!   `unwind_out` sizes and writes
@@ -33,7 +35,7 @@
 //!
 //! A word `then` ends a call's words, and those of another call follow. What each call counted is printed, a line each.
 //! The milliseconds that a call took go to standard error, of `fill`, `seal`, `hash`, `patch`, `unwind`, `section`, `chains`,
-//! `imports`, `kept`, `raced`, `entries`, `symbols` and `generate` the microseconds; `fan`, `image`, `yaml` and `stub` are timed by the program as a whole.
+//! `imports`, `islands`, `kept`, `raced`, `entries`, `symbols` and `generate` the microseconds; `fan`, `image`, `yaml` and `stub` are timed by the program as a whole.
 #![tactic(auto)]
 
 mod branches;
@@ -52,6 +54,7 @@ mod objects;
 mod once;
 mod order;
 mod places;
+mod plans;
 mod seals;
 mod symbols;
 mod tables;
@@ -68,6 +71,7 @@ use crate::keeping::{keep, keep_by};
 use crate::libraries::{closure_of, providers};
 use crate::made::{make_objects, write_object};
 use crate::places::places;
+use crate::plans::plan_islands;
 use crate::seals::{hash_image, seal_image};
 use crate::symbols::image_symbols;
 use crate::tables::{archive, number_names, slot_lists};
@@ -121,6 +125,7 @@ fn call_on_triple(rt: &HostRuntime, name: &str, first: u32, second: u32, third: 
         }
         "pointers" => make_pointers(rt, first, second, third),
         "chains" => encode_chains(rt, first, second, third),
+        "islands" => plan_islands(rt, first, second, third),
         _ => bail!("want the name of a call of three numbers"),
     }
 }
