@@ -33,7 +33,7 @@ no_limit layout fixup limit e = by (is_far layout fixup) (is_misplaced layout.se
     by false true f = cc
     by false false f = cc
 
-refused_made : (layout : Layout) (fixups given : List Fixup) (wide : Bool) (imports : List Import) (why : ChainFault) → fixups ≡ given → AreFormed fixups wide imports → length imports < IMPORTS → IsFirstFault layout fixups why → IsCause layout given why
+pub refused_made : (layout : Layout) (fixups given : List Fixup) (wide : Bool) (imports : List Import) (why : ChainFault) → fixups ≡ given → AreFormed fixups wide imports → length imports < IMPORTS → IsFirstFault layout fixups why → IsCause layout given why
 refused_made layout fixups given wide imports (fault.Range atom place kind value) e formed few first = subst (λ (fs : List Fixup). IsRefused layout fs (fault.Range atom place kind value)) e (record { wide = wide; imports = imports; formed = formed; few = few; first = first })
 refused_made layout fixups given wide imports (fault.Limit limit) e formed few first = absurd (no_limit layout first.fixup limit first.is)
 refused_made layout fixups given wide imports fault.OutOfMemory e formed few first = tt
@@ -55,16 +55,16 @@ chains_made layout fixups given wide base rows words blob e form rows_are few so
   blob = blob_is ∙ ap (λ (b : ℕ). blob_of (addresses_of fixups) b layout.segments wide (imports_in wide fixups)) base_is;
 })
 
+pub are_many : (fixups given : List Fixup) (wide : Bool) (rows : List ImportRow) → fixups ≡ given → wide ≡ is_wide fixups (pool_of (imports_in false fixups)) → rows ≡ rows_at 1 (imports_in wide fixups) → IMPORTS ≤ length rows → AreMany given
+are_many fixups given wide rows e form rows_are many = subst AreMany e (record {
+  wide = wide;
+  imports = imports_in wide fixups;
+  formed = forms fixups wide form;
+  many = (let size : length rows ≡ length (imports_in wide fixups) = few_imports wide fixups rows rows_are in omega (arith, many, size));
+})
+
 pub many_made : (layout : Layout) (fixups given : List Fixup) (wide : Bool) (rows : List ImportRow) → fixups ≡ given → wide ≡ is_wide fixups (pool_of (imports_in false fixups)) → rows ≡ rows_at 1 (imports_in wide fixups) → IMPORTS ≤ length rows → IsCause layout given (fault.Limit which.Imports)
-many_made layout fixups given wide rows e form rows_are many = (
-  refl,
-  subst AreMany e (record {
-    wide = wide;
-    imports = imports_in wide fixups;
-    formed = forms fixups wide form;
-    many = (let size : length rows ≡ length (imports_in wide fixups) = few_imports wide fixups rows rows_are in omega (arith, many, size));
-  }),
-)
+many_made layout fixups given wide rows e form rows_are many = (refl, are_many fixups given wide rows e form rows_are many)
 
 pub ruleset encoding = (chains_made)
 

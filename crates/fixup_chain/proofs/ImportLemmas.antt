@@ -1,5 +1,5 @@
 -- Imports, put together each once and in order.
-use Rattle.std.proofs.Common.{◌≡◌, ℕ, ◌<◌, Bool, true, false, ℤ, List, [], Contains, refl, sym, ap, subst, inl, inr}
+use Rattle.std.proofs.Common.{◌≡◌, ℕ, Bool, true, false, ℤ, List, [], Contains, refl, sym, ap, subst, inl, inr}
 use Rattle.std.specs.Prelude.{IsPermutation}
 use Rattle.std.specs.List.{IsDistinct}
 use Rattle.std.specs.List.Sorted.{IsSorted}

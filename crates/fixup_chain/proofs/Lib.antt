@@ -1,7 +1,9 @@
 pub mod Appends
 pub mod BlobLemmas
 pub mod EncodeLemmas
+pub mod ExistLemmas
 pub mod ImportLemmas
+pub mod ManyLemmas
 pub mod NameLemmas
 pub mod NearLemmas
 pub mod OffsetLemmas

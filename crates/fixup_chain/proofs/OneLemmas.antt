@@ -39,7 +39,7 @@ same_form fixups wide also a b p q =
     let narrow : p.narrow ≡ q.narrow = same_imports (imports_by false fixups) p.narrow q.narrow p.are_narrow q.are_narrow in
     p.form ∙ ap (λ (n : List Import). is_wide fixups (pool_of n)) narrow ∙ sym q.form
 
-same_formed : (fixups : List Fixup) (wide also : Bool) (a b : List Import) → AreFormed fixups wide a → AreFormed fixups also b → a ≡ b
+pub same_formed : (fixups : List Fixup) (wide also : Bool) (a b : List Import) → AreFormed fixups wide a → AreFormed fixups also b → a ≡ b
 same_formed fixups wide also a b p q =
     let form : also ≡ wide = sym (same_form fixups wide also a b p q) in
     same_imports (imports_by wide fixups) a b p.are (subst (λ (w : Bool). AreImports (imports_by w fixups) b) form q.are)

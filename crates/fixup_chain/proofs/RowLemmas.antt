@@ -5,7 +5,7 @@ use Rattle.std.specs.Cmp.{IsTotalOrder, bool_cmp_total, int_ranks}
 use Rattle.std.specs.Int.Signed.{◌<ℤ◌}
 use Rattle.std.specs.List.{dedup_from, IsDistinct}
 use Rattle.std.specs.List.Sorted.{IsSorted, IsStrictlySortedBy}
-use Rattle.std.specs.Ordering.{nat_cmp, int_cmp, int_eq, bool_cmp, eq_by_cmp, is_eq, on, ordering_then, MatchOrdering}
+use Rattle.std.specs.Ordering.{nat_cmp, int_cmp, int_eq, bool_cmp, eq_by_cmp, is_eq, ordering_then, MatchOrdering}
 use Rattle.std.specs.declared.cmp.Ordering.{Ordering}
 use Rattle.std.specs.declared.cmp.Ordering.TheVariants.{Less, Equal, Greater}
 use Rattle.std.proofs.lemmas.Bool.{eqb-true, eq-eqb}

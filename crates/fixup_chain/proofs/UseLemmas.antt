@@ -1,6 +1,6 @@
 -- What pointers are bound to, each once in the order of the pointers, and the numbers that it has once it is in order.
 use Rattle.std.proofs.Common.{◌≡◌, ◌≢◌, ℕ, zero, suc, ◌+◌, ◌<◌, ◌≤◌, ◌||◌, ◌⊎◌, if◌then◌else◌, Bool, true, false, List, [], ◌∷◌, ◌++◌, length, get_or, slice_get, nat_lt, map, take, drop, Option, Some, None, refl, sym, ap, subst, ◌∙◌, inl, inr, arith, length-append}
-use Rattle.std.specs.Prelude.{IfSome, position, unwrap_or}
+use Rattle.std.specs.Prelude.{IfSome, unwrap_or}
 use Rattle.std.specs.List.{list_any, position_or_len}
 use Rattle.std.proofs.lemmas.Bool.{cases_lt, ltb-true}
 use Rattle.std.proofs.Math.ListN.{set, length-set}
@@ -157,48 +157,62 @@ module _ {K : Type 0} (same : K → K → Bool) (of : Fixup → K) where
   }
 
 -- those of the narrow form, and whether a word has no room for some addend
-pub record IsCollecting (layout : Layout) (fixups : List Fixup) (at : ℕ) (now : List Import) (places : List ℕ) (large : Bool) : Type 0 where
+pub record IsHolding (fixups : List Fixup) (at : ℕ) (now : List Import) (places : List ℕ) (large : Bool) : Type 0 where
   pub gathers : IsGathering is_same (import_of false) fixups at now places
-  pub offsets : (k : ℕ) (f : Fixup) (h : ℕ) → k < at → HasOffset layout (get_or fixups k f) (get_or places k h)
   pub some : large ≡ list_any is_large (take at fixups)
+
+pub holding_starts : (fixups : List Fixup) (none : List Import) (places : List ℕ) → none ≡ [] → places ≡ [] → IsHolding fixups 0 none places false
+holding_starts fixups none places e f = record { gathers = gathering_begins is_same (import_of false) fixups none places e f; some = refl }
+
+pub holding_goes_on : (fixups : List Fixup) (at : ℕ) (now new : List Import) (places more : List ℕ) (large larger : Bool) (x : Fixup) (place : ℕ) → IsHolding fixups at now places large → at < length fixups → x ≡ get_or fixups at x → new ≡ noted is_same (import_of false) now x → HasPlace (import_of false) new x place → more ≡ places ++ place ∷ [] → larger ≡ (large || is_large x) → IsHolding fixups (at + 1) new more larger
+holding_goes_on fixups at now new places more large larger x place all within is new_is has more_is larger_is = record {
+  gathers = gathering_goes_on is_same (import_of false) fixups at now new places more x place all.gathers within is new_is has more_is;
+  some = larger_is ∙ ap (λ (b : Bool). b || is_large x) all.some ∙ ap (λ (f : Fixup). list_any is_large (take at fixups) || is_large f) is ∙ sym (list_any_more is_large fixups at x within);
+}
+
+pub imports_end : (fixups : List Fixup) (at : ℕ) (now : List Import) (places : List ℕ) (large : Bool) → IsHolding fixups at now places large → length fixups ≤ at → now ≡ gathered is_same (import_of false) fixups
+imports_end fixups at now places large all past = gathering_ends is_same (import_of false) fixups at now places all.gathers past
+
+pub import_places_end : (fixups : List Fixup) (at : ℕ) (now : List Import) (places : List ℕ) (large : Bool) → IsHolding fixups at now places large → length fixups ≤ at → ArePlaces (import_of false) fixups now places
+import_places_end fixups at now places large all past = places_end is_same (import_of false) fixups at now places all.gathers past
+
+pub large_ends : (fixups : List Fixup) (at : ℕ) (now : List Import) (places : List ℕ) (large : Bool) → IsHolding fixups at now places large → length fixups ≤ at → large ≡ list_any is_large fixups
+large_ends fixups at now places large all past = all.some ∙ ap (list_any is_large) (take_all at fixups past)
+
+pub ruleset holding = (holding_starts, holding_goes_on, imports_end, import_places_end, large_ends)
+
+-- ---- the same, where what is held tells offsets too
+
+pub record IsCollecting (layout : Layout) (fixups : List Fixup) (at : ℕ) (now : List Import) (places : List ℕ) (large : Bool) : Type 0 where
+  pub holds : IsHolding fixups at now places large
+  pub offsets : (k : ℕ) (f : Fixup) (h : ℕ) → k < at → HasOffset layout (get_or fixups k f) (get_or places k h)
 
 pub collecting_starts : (layout : Layout) (fixups : List Fixup) (none : List Import) (places : List ℕ) → none ≡ [] → places ≡ [] → IsCollecting layout fixups 0 none places false
 collecting_starts layout fixups none places e f = record {
-  gathers = gathering_begins is_same (import_of false) fixups none places e f;
+  holds = holding_starts fixups none places e f;
   offsets = λ k g h low. absurd (omega (arith, low));
-  some = refl;
 }
 
 pub collecting_goes_on : (layout : Layout) (fixups : List Fixup) (at : ℕ) (now new : List Import) (places more : List ℕ) (large larger : Bool) (x : Fixup) (place : ℕ) → IsCollecting layout fixups at now places large → at < length fixups → x ≡ get_or fixups at x → new ≡ noted is_same (import_of false) now x → HasPlace (import_of false) new x place → HasOffset layout x place → more ≡ places ++ place ∷ [] → larger ≡ (large || is_large x) → IsCollecting layout fixups (at + 1) new more larger
 collecting_goes_on layout fixups at now new places more large larger x place all within is new_is has offset more_is larger_is = record {
-  gathers = gathering_goes_on is_same (import_of false) fixups at now new places more x place all.gathers within is new_is has more_is;
+  holds = holding_goes_on fixups at now new places more large larger x place all.holds within is new_is has more_is larger_is;
   offsets = λ k f h low. elim (cases_lt k at) [
     | inl before ↦
         (let same_one : get_or more k h ≡ get_or places k h =
-        ap (λ (ps : List ℕ). get_or ps k h) more_is ∙ get_or_append_left places (place ∷ []) h k (let m = all.gathers.size in omega (arith, before, m)) in
+        ap (λ (ps : List ℕ). get_or ps k h) more_is ∙ get_or_append_left places (place ∷ []) h k (let m = all.holds.gathers.size in omega (arith, before, m)) in
         subst (λ (n : ℕ). HasOffset layout (get_or fixups k f) n) (sym same_one) (all.offsets k f h before))
     | inr past ↦
         (let here : k ≡ at = omega (arith, low, past) in
         let that : get_or fixups k f ≡ x = ap (λ (n : ℕ). get_or fixups n f) here ∙ sym (is ∙ get_or_default fixups at x f within) in
-        let same_one : get_or more k h ≡ place = ap (λ (n : ℕ). get_or more n h) here ∙ ap (λ (ps : List ℕ). get_or ps at h) more_is ∙ get_or_push places place h at all.gathers.size in
+        let same_one : get_or more k h ≡ place = ap (λ (n : ℕ). get_or more n h) here ∙ ap (λ (ps : List ℕ). get_or ps at h) more_is ∙ get_or_push places place h at all.holds.gathers.size in
         subst (λ (n : ℕ). HasOffset layout (get_or fixups k f) n) (sym same_one) (subst (λ (g : Fixup). HasOffset layout g place) (sym that) offset))
   ];
-  some = larger_is ∙ ap (λ (b : Bool). b || is_large x) all.some ∙ ap (λ (f : Fixup). list_any is_large (take at fixups) || is_large f) is ∙ sym (list_any_more is_large fixups at x within);
 }
-
-pub imports_end : (layout : Layout) (fixups : List Fixup) (at : ℕ) (now : List Import) (places : List ℕ) (large : Bool) → IsCollecting layout fixups at now places large → length fixups ≤ at → now ≡ gathered is_same (import_of false) fixups
-imports_end layout fixups at now places large all past = gathering_ends is_same (import_of false) fixups at now places all.gathers past
-
-pub import_places_end : (layout : Layout) (fixups : List Fixup) (at : ℕ) (now : List Import) (places : List ℕ) (large : Bool) → IsCollecting layout fixups at now places large → length fixups ≤ at → ArePlaces (import_of false) fixups now places
-import_places_end layout fixups at now places large all past = places_end is_same (import_of false) fixups at now places all.gathers past
-
-pub large_ends : (layout : Layout) (fixups : List Fixup) (at : ℕ) (now : List Import) (places : List ℕ) (large : Bool) → IsCollecting layout fixups at now places large → length fixups ≤ at → large ≡ list_any is_large fixups
-large_ends layout fixups at now places large all past = all.some ∙ ap (list_any is_large) (take_all at fixups past)
 
 pub offsets_end : (layout : Layout) (fixups : List Fixup) (at : ℕ) (now : List Import) (places : List ℕ) (large : Bool) → IsCollecting layout fixups at now places large → length fixups ≤ at → HaveOffsets layout fixups places
 offsets_end layout fixups at now places large all past = record { each = λ k f h low. all.offsets k f h (omega (arith, low, past)) }
 
--- ---- the same, where what is held for the next pointers tells their offsets
+-- ---- the same, where what is held for the next pointers tells their offsets already
 
 pub record IsCollectingAhead (layout : Layout) (fixups : List Fixup) (at : ℕ) (now : List Import) (held : List ℕ) (large : Bool) (ready : ℕ) : Type 0 where
   pub long : length held ≡ length fixups
@@ -238,13 +252,13 @@ whole layout fixups at now held large ready all past =
     subst (λ (hs : List ℕ). IsCollecting layout fixups at now hs large) (take_all at held (omega (arith, long, past))) all.done
 
 pub ahead_imports : (layout : Layout) (fixups : List Fixup) (at : ℕ) (now : List Import) (held : List ℕ) (large : Bool) (ready : ℕ) → IsCollectingAhead layout fixups at now held large ready → length fixups ≤ at → now ≡ gathered is_same (import_of false) fixups
-ahead_imports layout fixups at now held large ready all past = imports_end layout fixups at now held large (whole layout fixups at now held large ready all past) past
+ahead_imports layout fixups at now held large ready all past = imports_end fixups at now held large (whole layout fixups at now held large ready all past).holds past
 
 pub ahead_places : (layout : Layout) (fixups : List Fixup) (at : ℕ) (now : List Import) (held : List ℕ) (large : Bool) (ready : ℕ) → IsCollectingAhead layout fixups at now held large ready → length fixups ≤ at → ArePlaces (import_of false) fixups now held
-ahead_places layout fixups at now held large ready all past = import_places_end layout fixups at now held large (whole layout fixups at now held large ready all past) past
+ahead_places layout fixups at now held large ready all past = import_places_end fixups at now held large (whole layout fixups at now held large ready all past).holds past
 
 pub ahead_large : (layout : Layout) (fixups : List Fixup) (at : ℕ) (now : List Import) (held : List ℕ) (large : Bool) (ready : ℕ) → IsCollectingAhead layout fixups at now held large ready → length fixups ≤ at → large ≡ list_any is_large fixups
-ahead_large layout fixups at now held large ready all past = large_ends layout fixups at now held large (whole layout fixups at now held large ready all past) past
+ahead_large layout fixups at now held large ready all past = large_ends fixups at now held large (whole layout fixups at now held large ready all past).holds past
 
 pub ahead_offsets : (layout : Layout) (fixups : List Fixup) (at : ℕ) (now : List Import) (held : List ℕ) (large : Bool) (ready : ℕ) → IsCollectingAhead layout fixups at now held large ready → length fixups ≤ at → HaveOffsets layout fixups held
 ahead_offsets layout fixups at now held large ready all past = offsets_end layout fixups at now held large (whole layout fixups at now held large ready all past) past

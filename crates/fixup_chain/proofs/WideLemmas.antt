@@ -1,6 +1,6 @@
 -- The imports of the wide form are made of those of the narrow one by the places of their names.
 use Rattle.std.proofs.Common.{◌≡◌, ℕ, zero, suc, ◌+◌, ◌<◌, ◌≤◌, ◌^◌, nat_lt, ◌⊎◌, Bool, true, false, not, List, [], ◌∷◌, ◌++◌, length, get_or, slice_get, map, Contains, Option, Some, None, if◌then◌else◌, refl, sym, ap, subst, ◌∙◌, inl, inr, arith}
-use Rattle.std.specs.Prelude.{IfNone, IfSome, IsPermutation, position, unwrap_or}
+use Rattle.std.specs.Prelude.{IfNone, IfSome, IsPermutation, unwrap_or}
 use Rattle.std.specs.List.{flat_map, list_any, position_or_len, IsDistinct}
 use Rattle.std.specs.List.Sorted.{IsSorted, IsStrictlySortedBy}
 use Rattle.std.specs.Option.{option_map}
@@ -18,7 +18,7 @@ use Rattle.list_lemmas.proofs.Members.{In, all_from_in, all_in, all_map, Contain
 use Rattle.list_lemmas.proofs.Rising.{rising_same}
 use Rattle.indexmap.specs.IndexSet.{insert_all}
 use Rattle.fixup_chain.specs.ImportOrder.{Import, compare_imports, compare_imports_total}
-use Rattle.fixup_chain.specs.Imports.{bound, import_of, imports_by, is_bound, is_wide, names_with_nul, pool_of}
+use Rattle.fixup_chain.specs.Imports.{bound, import_of, imports_by, is_bound, is_wide, pool_of}
 use Rattle.fixup_chain.specs.Words.{number_of}
 use Rattle.fixup_chain.specs.declared.chains.Fixup.{Fixup}
 use Rattle.fixup_chain.specs.declared.import_row.ImportRow.{ImportRow}
@@ -32,22 +32,22 @@ use Rattle.fixup_chain.proofs.UseLemmas.{AreRanks, IsGathering, gathering_begins
 
 -- ---- the imports of a pointer
 
-by_pointer : (wide : Bool) (fixups : List Fixup) (i : Import) → In i (imports_in wide fixups) → (f : Fixup) × In f (bound fixups) × (import_of wide f ≡ i)
+pub by_pointer : (wide : Bool) (fixups : List Fixup) (i : Import) → In i (imports_in wide fixups) → (f : Fixup) × In f (bound fixups) × (import_of wide f ≡ i)
 unfolding imports_by
 by_pointer wide fixups i h =
     from_map (import_of wide) (bound fixups) i (in_from_Contains (imports_by wide fixups) i ((are_in wide fixups).only i (Contains_from_in (imports_in wide fixups) i h)))
 
-import_in : (wide : Bool) (fixups : List Fixup) (f : Fixup) → In f (bound fixups) → In (import_of wide f) (imports_in wide fixups)
+pub import_in : (wide : Bool) (fixups : List Fixup) (f : Fixup) → In f (bound fixups) → In (import_of wide f) (imports_in wide fixups)
 unfolding imports_by
 import_in wide fixups f h =
     in_from_Contains (imports_in wide fixups) (import_of wide f)
     ((are_in wide fixups).all (import_of wide f) (Contains_from_in (imports_by wide fixups) (import_of wide f) (in_map (import_of wide) (bound fixups) f h)))
 
-name_in : (one two : Bool) (f : Fixup) → (import_of one f).name ≡ (import_of two f).name
+pub name_in : (one two : Bool) (f : Fixup) → (import_of one f).name ≡ (import_of two f).name
 unfolding import_of
 name_in one two f = refl
 
-is_among : (fixups : List Fixup) (f : Fixup) → In f fixups → is_bound f.goal ≡ true → In f (bound fixups)
+pub is_among : (fixups : List Fixup) (f : Fixup) → In f fixups → is_bound f.goal ≡ true → In f (bound fixups)
 unfolding bound
 is_among fixups f h e = in_filter (λ (g : Fixup). is_bound g.goal) fixups f h e
 
@@ -292,7 +292,13 @@ wide_form fixups pool wide large is told large_is pool_is = sym is ∙ told fixu
 pub narrow_form : (fixups : List Fixup) (pool : List ℕ) (wide large : Bool) → wide ≡ false → ((some : List Fixup) → large ≡ list_any is_large some → wide ≡ is_wide some pool) → large ≡ list_any is_large fixups → pool ≡ pool_of (imports_in false fixups) → false ≡ is_wide fixups (pool_of (imports_in false fixups))
 narrow_form fixups pool wide large is told large_is pool_is = sym is ∙ told fixups large_is ∙ ap (is_wide fixups) pool_is
 
-pub ruleset pools = (wide_pool, wide_form, narrow_form, others_have)
+pub others_stay : (fixups : List Fixup) (before now : List ℕ) → now ≡ before → AreOthers fixups before now
+others_stay fixups before now e = record { each = λ k f h low other. ap (λ (hs : List ℕ). get_or hs k h) e }
+
+pub others_follow : (fixups : List Fixup) (before between now : List ℕ) → between ≡ before → AreOthers fixups between now → AreOthers fixups before now
+others_follow fixups before between now e others = subst (λ (hs : List ℕ). AreOthers fixups hs now) e others
+
+pub ruleset pools = (wide_pool, wide_form, narrow_form, others_have, others_stay, others_follow)
 
 -- ---- the loop that gathers them
 

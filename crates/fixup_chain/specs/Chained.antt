@@ -1,11 +1,11 @@
 -- What is answered for the pointers of a layout: their chains, or why there are none.
-use Rattle.std.specs.Prelude.{◌≡◌, ◌<◌, ◌≤◌, Bool, List, length, Contains, None}
+use Rattle.std.specs.Prelude.{◌≡◌, ◌<◌, ◌≤◌, Bool, true, List, length, Contains, None}
 use Rattle.mo_types.specs.declared.cause.Which.TheVariants as which
 use Rattle.sect_place.specs.declared.layout.Layout.{Layout}
 use Rattle.fixup_chain.specs.Encoded.{IMPORTS, blob_of}
 use Rattle.fixup_chain.specs.Faults.{IsFirstFault, base_of, fault_of, target_of}
 use Rattle.fixup_chain.specs.ImportOrder.{Import}
-use Rattle.fixup_chain.specs.Imports.{AreFormed}
+use Rattle.fixup_chain.specs.Imports.{AreFormed, is_bound}
 use Rattle.fixup_chain.specs.Places.{addresses_of}
 use Rattle.fixup_chain.specs.Words.{words_of}
 use Rattle.fixup_chain.specs.declared.chains.ChainFault.{ChainFault}
@@ -29,6 +29,10 @@ pub record AreMany (fixups : List Fixup) : Type 0 where
   pub imports : List Import
   pub formed : AreFormed fixups wide imports
   pub many : IMPORTS ≤ length imports
+
+-- What pointers are bound to others are bound to too, with the same addends, wherever either stand.
+pub record AreAmong (few more : List Fixup) : Type 0 where
+  pub each : (fixup : Fixup) → Contains few fixup → is_bound fixup.goal ≡ true → (other : Fixup) × Contains more other × (other.goal ≡ fixup.goal) × (other.addend ≡ fixup.addend)
 
 -- words have room for all imports, and some pointer has a fault, of which this is the first
 pub record IsRefused (layout : Layout) (fixups : List Fixup) (why : ChainFault) : Type 0 where

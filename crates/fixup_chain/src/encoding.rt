@@ -16,6 +16,7 @@ use crate::blob::joined;
 use crate::chains::{ChainFault, ChainWord, Chains, Fixup, FixupList, WordList};
 use crate::faults::{are_open, first_fault, first_with};
 use crate::imports::{Formed, imports_of};
+use crate::many::IMPORTS;
 use crate::numbers::number_at;
 use crate::places::steps_to_next;
 use crate::rows::row_bytes;
@@ -25,9 +26,6 @@ use crate::words::word_by;
 use mo_types::{Bytes, Items, OutOfMemory, Which};
 use sect_place::Layout;
 use std::alloc::Global;
-
-// Words have room for fewer imports than these.
-const IMPORTS: usize = 1 << 24;
 
 // The words of pointers, and the index of the first pointer with a fault.
 #[derive(Drop)]

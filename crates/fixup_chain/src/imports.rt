@@ -31,7 +31,7 @@ pub(crate) struct Formed {
     pub(crate) rows: Vec<ImportRow>,
     /// The number of each import, by its place among them in the order of the pointers.
     pub(crate) ranks: Vec<usize>,
-    /// Of each pointer that is bound the place of its import there, and of each other one its offset, or `FAR`.
+    /// Of each pointer that is bound the place of its import there, and of each other one what was gathered for it.
     pub(crate) held: Vec<usize>,
     pub(crate) pool: Vec<u8>,
 }
@@ -100,6 +100,7 @@ fn collect<'a>(
     Ok(large)
 }
 
+// The same with an offset, or `FAR`, for each pointer that isn't bound.
 fn gathered<'a>(
     alloc: Global,
     layout: &Layout,
@@ -116,6 +117,28 @@ fn gathered<'a>(
     let mut imports = IndexSet::new(alloc);
     let mut held = vec![in alloc; 0usize; fixups.len()]?;
     let large = collect(&mut imports, held.as_mut_slice(), layout, base, fixups)?;
+    Ok(Collected {
+        imports,
+        held,
+        large,
+    })
+}
+
+// The same of pointers whose addresses nobody knows yet: 0 is held for each that isn't bound, and nothing is looked up.
+#[tactic(auto, using(crate::proofs::UseLemmas::holding))]
+fn gathered_bound<'a>(alloc: Global, fixups: &'a [Fixup]) -> Result<Collected<'a>, OutOfMemory>
+    ensures imports { IfOk result (λ all. all.imports.keys ≡ inner.gathered inner.is_same (spec.import_of false) fixups.now) }
+    ensures places { IfOk result (λ all. inner.ArePlaces (spec.import_of false) fixups.now all.imports.keys all.held.items) }
+    ensures large { IfOk result (λ all. all.large ≡ list_any inner.is_large fixups.now) }
+{
+    let mut imports = IndexSet::new(alloc);
+    let mut held = Vec::with_capacity(alloc, fixups.len())?;
+    let mut large = false;
+    for fixup in fixups {
+        let one = hold(&mut imports, 0, fixup)?;
+        held.push(one)?;
+        large |= is_large(fixup);
+    }
     Ok(Collected {
         imports,
         held,
@@ -170,20 +193,15 @@ struct Ordered<'a> {
     large: bool,
 }
 
-fn in_order<'a>(
-    alloc: Global,
-    layout: &Layout,
-    base: u64,
-    fixups: &'a [Fixup],
-) -> Result<Ordered<'a>, OutOfMemory>
-    requires once { AreOnce layout.now.placed }
-    requires base { base ≡ faults.base_of layout.now.segments }
-    ensures imports { IfOk result (λ all. all.imports.keys ≡ inner.imports_in false fixups.now) }
-    ensures numbers { IfOk result (λ all. inner.AreNumbers false fixups.now (inner.imports_in false fixups.now) (inner.numbers_by all.ranks.items all.held.items)) }
-    ensures offsets { IfOk result (λ all. inner.HaveOffsets layout.now fixups.now all.held.items) }
-    ensures large { IfOk result (λ all. all.large ≡ list_any inner.is_large fixups.now) }
+fn in_order<'a>(alloc: Global, all: Collected<'a>) -> Result<Ordered<'a>, OutOfMemory>
+    ensures imports { IfOk result (λ ordered. (fixups : List FixupValue) → all.entry.imports.keys ≡ inner.gathered inner.is_same (spec.import_of false) fixups
+        → ordered.imports.keys ≡ inner.imports_in false fixups) }
+    ensures numbers { IfOk result (λ ordered. (fixups : List FixupValue) → all.entry.imports.keys ≡ inner.gathered inner.is_same (spec.import_of false) fixups
+        → inner.ArePlaces (spec.import_of false) fixups all.entry.imports.keys all.entry.held.items
+        → inner.AreNumbers false fixups (inner.imports_in false fixups) (inner.numbers_by ordered.ranks.items ordered.held.items)) }
+    ensures held { IfOk result (λ ordered. ordered.held.items ≡ all.entry.held.items) }
+    ensures large { IfOk result (λ ordered. ordered.large ≡ all.entry.large) }
 {
-    let all = gathered(alloc, layout, base, fixups)?;
     let mut imports = all.imports;
     let used = copies(alloc, imports.as_slice())?;
     imports.sort()?;
@@ -204,24 +222,24 @@ fn is_wide(large: bool, pool: &[u8]) -> bool
     large || pool.len() >= NARROW_POOL
 }
 
-/// The imports of some pointers, in the form that has room for them, and where the pointers lead, of an image that begins
-/// at `base`. Each pointer's name or atom is looked up once: the wide form is made of the narrow one by numbers.
+// The imports of some pointers in the form that has room for them, by what was gathered. Each pointer's name is looked up
+// once: the wide form is made of the narrow one by numbers.
 #[tactic(auto, using(crate::proofs::WideLemmas::pools))]
-pub(crate) fn imports_of(
+fn in_form<'a>(
     alloc: Global,
-    layout: &Layout,
-    base: u64,
-    fixups: &[Fixup],
+    all: Collected<'a>,
+    fixups: &'a [Fixup],
 ) -> Result<Formed, OutOfMemory>
-    requires once { AreOnce layout.now.placed }
-    requires base { base ≡ faults.base_of layout.now.segments }
+    requires imports { all.imports.keys ≡ inner.gathered inner.is_same (spec.import_of false) fixups.now }
+    requires places { inner.ArePlaces (spec.import_of false) fixups.now all.imports.keys all.held.items }
+    requires large { all.large ≡ list_any inner.is_large fixups.now }
     ensures form { IfOk result (λ formed. formed.wide ≡ spec.is_wide fixups.now (spec.pool_of (inner.imports_in false fixups.now))) }
     ensures rows { IfOk result (λ formed. formed.rows.items ≡ rows_at 1 (inner.imports_in formed.wide fixups.now)) }
     ensures numbers { IfOk result (λ formed. inner.AreNumbers formed.wide fixups.now (inner.imports_in formed.wide fixups.now) (inner.numbers_by formed.ranks.items formed.held.items)) }
-    ensures offsets { IfOk result (λ formed. inner.HaveOffsets layout.now fixups.now formed.held.items) }
+    ensures others { IfOk result (λ formed. inner.AreOthers fixups.now all.entry.held.items formed.held.items) }
     ensures pool { IfOk result (λ formed. formed.pool.items ≡ spec.pool_of (inner.imports_in formed.wide fixups.now)) }
 {
-    let narrow = in_order(alloc, layout, base, fixups)?;
+    let narrow = in_order(alloc, all)?;
     let pooled = pool_of(alloc, narrow.imports.as_slice())?;
     if is_wide(narrow.large, pooled.pool.as_slice()) {
         let ranks = narrow.ranks.as_slice();
@@ -243,4 +261,34 @@ pub(crate) fn imports_of(
             pool: pooled.pool,
         })
     }
+}
+
+/// The imports of some pointers, in the form that has room for them, and where the pointers lead, of an image that begins
+/// at `base`: of each pointer that isn't bound its offset is held, or `FAR`.
+#[tactic(auto, using(crate::proofs::WideLemmas::pools))]
+pub(crate) fn imports_of(
+    alloc: Global,
+    layout: &Layout,
+    base: u64,
+    fixups: &[Fixup],
+) -> Result<Formed, OutOfMemory>
+    requires once { AreOnce layout.now.placed }
+    requires base { base ≡ faults.base_of layout.now.segments }
+    ensures form { IfOk result (λ formed. formed.wide ≡ spec.is_wide fixups.now (spec.pool_of (inner.imports_in false fixups.now))) }
+    ensures rows { IfOk result (λ formed. formed.rows.items ≡ rows_at 1 (inner.imports_in formed.wide fixups.now)) }
+    ensures numbers { IfOk result (λ formed. inner.AreNumbers formed.wide fixups.now (inner.imports_in formed.wide fixups.now) (inner.numbers_by formed.ranks.items formed.held.items)) }
+    ensures offsets { IfOk result (λ formed. inner.HaveOffsets layout.now fixups.now formed.held.items) }
+    ensures pool { IfOk result (λ formed. formed.pool.items ≡ spec.pool_of (inner.imports_in formed.wide fixups.now)) }
+{
+    let all = gathered(alloc, layout, base, fixups)?;
+    in_form(alloc, all, fixups)
+}
+
+/// The imports of some pointers, in the form that has room for them, wherever the pointers lead that aren't bound.
+pub(crate) fn bound_imports(alloc: Global, fixups: &[Fixup]) -> Result<Formed, OutOfMemory>
+    ensures form { IfOk result (λ formed. formed.wide ≡ spec.is_wide fixups.now (spec.pool_of (inner.imports_in false fixups.now))) }
+    ensures rows { IfOk result (λ formed. formed.rows.items ≡ rows_at 1 (inner.imports_in formed.wide fixups.now)) }
+{
+    let all = gathered_bound(alloc, fixups)?;
+    in_form(alloc, all, fixups)
 }

@@ -12,7 +12,11 @@
 //!
 //! There are none where there are 2^24 imports or more (`AreMany`), and else where a pointer stands where none may, or
 //! leads too far (`fault_of`): the first one is told of, slots before atoms (`IsFirstFault`). An answer is one thing,
-//! but for want of memory (`an_answer_is_one`). What the loader finds is said in `chain_laws`.
+//! but for want of memory (`an_answer_is_one`), and there is one (`chains_or_a_fault_exist`). What the loader finds is
+//! said in `chain_laws`.
+//!
+//! `has_many_imports` tells whether there are 2^24 imports before anything has an address. Fewer bound pointers never have
+//! that many (`few_pointers_have_few_imports`), and more pointers no fewer (`more_pointers_have_no_fewer_imports`).
 //!
 //! Refused are a body in which a pointer's distance skips the next one, one that lets a chain run on into the next
 //! page, one that tells of a fault in an atom before one in a slot, and one that leaves imports in the order in which
@@ -28,6 +32,7 @@ mod import;
 mod import_row;
 mod imports;
 mod laws;
+mod many;
 mod numbers;
 mod places;
 mod pool;
@@ -39,4 +44,8 @@ mod words;
 
 pub use chains::{ChainFault, ChainWord, Chains, Fixup, FixupList, WordList};
 pub use encoding::encode;
-pub use laws::an_answer_is_one;
+pub use laws::{
+    an_answer_is_one, chains_or_a_fault_exist, few_pointers_have_few_imports,
+    more_pointers_have_no_fewer_imports,
+};
+pub use many::has_many_imports;

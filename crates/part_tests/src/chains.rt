@@ -4,7 +4,7 @@ ghost use Rattle.std.specs.Prelude.{IsTrue};
 ghost use Rattle.fixup_chain.specs.Encoded.{AreApart};
 ghost use Rattle.sect_place.specs.Addresses.{AreOnce};
 
-use fixup_chain::{ChainFault, Chains, Fixup, encode};
+use fixup_chain::{ChainFault, Chains, Fixup, encode, has_many_imports};
 use mo_types::{AtomKey, Bytes, FileId, Goal, Items, OutOfMemory, RangeKind};
 use sect_place::{Layout, Placed, PlacedList, PlacedSectionList, Segment, SegmentList};
 use sha2::{Digest, Sha256};
@@ -409,6 +409,8 @@ fn chains_are_those_of_another_writer(rt: HostRuntime) -> Result<(), Fail> {
     for case in &CASES {
         let fixups = fixups_of(rt.alloc(), case.rows)?;
         assert!(rt; is_encoded(rt.alloc(), fixups, case.digest)?);
+        let few = Items::from_vec(fixups_of(rt.alloc(), case.rows)?);
+        assert!(rt; !has_many_imports(rt.alloc(), &few)?);
     }
     for shape in &SHAPES {
         let fixups = shaped(rt.alloc(), shape)?;

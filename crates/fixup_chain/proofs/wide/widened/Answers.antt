@@ -1,4 +1,4 @@
-use Rattle.std.proofs.Common.{ℕ, List, map, get_or, ap, ◌∙◌}
+use Rattle.std.proofs.Common.{map, ap, ◌∙◌}
 use Rattle.fixup_chain.specs.inner.Held.{numbers_by, rank_in, row_of}
 use Rattle.fixup_chain.specs.inner.Rows.{same_row}
 use Rattle.fixup_chain.proofs.UseLemmas.{numbers_ranked}
