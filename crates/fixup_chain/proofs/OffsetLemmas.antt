@@ -1,14 +1,14 @@
 -- What is held for a pointer tells its offset, if that has room in a word.
-use Rattle.std.proofs.Common.{◌≡◌, ℕ, ◌<◌, ◌≤◌, ◌^◌, ◌-◌, ◌==◌, ◌&&◌, Bool, true, false, not, nat_lt, ℤ, pos, negsuc, List, Option, Some, None, is_none, refl, sym, ap, subst, ◌∙◌, if◌then◌else◌, arith}
+use Rattle.std.proofs.Common.{◌≡◌, ℕ, ◌<◌, ◌^◌, ◌==◌, ◌&&◌, Bool, true, false, not, nat_lt, ℤ, pos, negsuc, List, Option, Some, None, is_none, refl, sym, ap, ◌∙◌, if◌then◌else◌, arith}
 use Rattle.std.specs.Prelude.{unwrap_or}
 use Rattle.std.proofs.lemmas.Bool.{eq-eqb, lt-ltb, ltb-true, ne_eqb}
-use Rattle.image_format.specs.ChainedPointer.{bind_word, rebase_word}
+use Rattle.image_format.specs.ChainedPointer.{rebase_word}
 use Rattle.sect_place.specs.declared.layout.Layout.{Layout}
 use Rattle.fixup_chain.specs.Faults.{is_far, target_of}
 use Rattle.fixup_chain.specs.ImportOrder.{Import}
-use Rattle.fixup_chain.specs.Imports.{import_of, is_bound}
-use Rattle.fixup_chain.specs.Words.{in_rebase, number_of, word_addend, word_by}
-use Rattle.fixup_chain.specs.inner.Held.{FAR, HasNumber, HasOffset, offset_by}
+use Rattle.fixup_chain.specs.Imports.{is_bound}
+use Rattle.fixup_chain.specs.Words.{in_rebase, word_by}
+use Rattle.fixup_chain.specs.inner.Held.{FAR, HasOffset, offset_by}
 use Rattle.fixup_chain.specs.declared.chains.Fixup.{Fixup}
 
 offset_is : (target : ℤ) (o : Option ℕ) → in_rebase target ≡ o → offset_by target ≡ unwrap_or o FAR

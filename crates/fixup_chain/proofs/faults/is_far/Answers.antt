@@ -1,4 +1,4 @@
-use Rattle.std.proofs.Common.{◌≡◌, false, rules, sym, ◌∙◌}
+use Rattle.std.proofs.Common.{◌≡◌, false, rules}
 use Rattle.fixup_chain.specs.Imports.{is_bound}
 use Rattle.fixup_chain.proofs.OffsetLemmas.{far_where}
 use Rattle.fixup_chain.proofs.faults.is_far.Goals as goal

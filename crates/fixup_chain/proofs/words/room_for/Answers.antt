@@ -1,4 +1,4 @@
-use Rattle.std.proofs.Common.{◌≡◌, ℕ, ◌^◌, Bool, nat_lt, true, false, ap, sym, ◌∙◌, if◌then◌else◌, arith}
+use Rattle.std.proofs.Common.{◌^◌, Bool, ap, sym, ◌∙◌, if◌then◌else◌, arith}
 use Rattle.std.proofs.lemmas.Bool.{le-ltb, lt-ltb}
 use Rattle.fixup_chain.proofs.OffsetLemmas.{room_is}
 use Rattle.fixup_chain.proofs.words.room_for.Goals as goal
