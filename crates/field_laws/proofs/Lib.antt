@@ -1,0 +1,9 @@
+pub mod Found
+pub mod Numbers
+pub mod Own
+pub mod Pointers
+pub mod Rebases
+pub mod Slots
+pub mod Stubs
+pub mod Told
+pub mod Written
