@@ -1,25 +1,27 @@
 -- Pointers that the loader fills in, or leaves as they are.
-use Rattle.std.proofs.Common.{◌≡◌, ℕ, ◌+◌, ◌<◌, ◌^◌, ℤ, pos, ◌+ℤ◌, ◌-ℤ◌, Bool, List, Option, Some, None, refl, sym, ap, ◌∙◌, subst, arith}
+use Rattle.std.proofs.Common.{◌≡◌, ℕ, ◌+◌, ◌<◌, ◌^◌, ℤ, pos, ◌+ℤ◌, ◌-ℤ◌, Bool, List, Option, Some, None, refl, sym, ap, ◌∙◌, subst, arith, true, false, nat_le, if◌then◌else◌}
 use Rattle.std.specs.Int.{cast_signed, w64}
 use Rattle.std.specs.Option.{option_map}
 use Rattle.std.proofs.lemmas.Bool.{lt-ltb}
 use Rattle.std.proofs.lemmas.Int.{ints}
+use Rattle.arm64_insn.specs.Field.{twos_complement}
 use Rattle.mo_types.specs.declared.goal.Goal.{Goal}
 use Rattle.mo_types.specs.declared.goal.Goal.TheVariants.{Def, WeakSelf, Header, Import, Flat, Nobody}
 use Rattle.mo_types.specs.declared.reference.Ref.{Ref}
 use Rattle.mo_types.specs.declared.reference.RefKind.{RefKind}
-use Rattle.mo_types.specs.declared.reference.RefKind.TheVariants.{GotPointer, Pointer}
+use Rattle.mo_types.specs.declared.reference.RefKind.TheVariants.{Pointer, Diff32, Diff64, Branch, Page, PageOff, GotPage, GotPageOff, GotDelta, GotPointer, TlvPage, TlvPageOff}
 use Rattle.patch.specs.Field as fields
 use Rattle.patch.specs.declared.met.Met.{Met}
 use Rattle.image_read.specs.Denotes.{Denotes, DenotesBy, Places, PointerDenotes, PointerOrOffset, TellsImport, TellsOffset, TellsRebase, TellsSlot, offset_for}
-use Rattle.image_read.specs.Fixups.{fixup_at}
+use Rattle.image_read.specs.Fixups.{fixup_at, long_at}
 use Rattle.image_read.specs.Held.{AtomMap, Held, IsBindOf, IsRebaseTo}
 use Rattle.image_read.specs.Meaning.{base_of, denote, long_in}
 use Rattle.image_read.specs.declared.fixups.FixupRead.TheVariants.{Bind, Plain, Rebase}
 use Rattle.image_read.specs.declared.meaning.Meaning.TheVariants.{Address, Difference, Imported}
 use Rattle.field_laws.specs.Fields.{MetOffset}
 use Rattle.field_laws.specs.Memory.{Holds, HoldsBy}
-use Rattle.field_laws.specs.Pointers.{IsInRange, IsPointerTo, IsPointerToSlot}
+use Rattle.field_laws.specs.Pointers.{IsInRange, IsPointerKind, IsPointerTo, IsPointerToSlot, MetWord}
+use Rattle.field_laws.proofs.Slots.{nothing_added}
 
 -- ---- what the loader makes of a pointer
 
@@ -110,3 +112,30 @@ offset_told image places p section reference goal minus met h is =
     let tells = subst (λ (addend : ℤ). TellsOffset image p met.value addend) is.addend (offset_tells image p met held is.plain) in
     subst (λ (k : RefKind). DenotesBy k image places p section goal reference.addend minus) (sym is.pointer)
     (subst (λ (o : Option ℕ). PointerOrOffset o image places.addresses p goal reference.addend) (sym is.offset) tells)
+
+-- ---- words of chains
+
+long_of : (image : List ℕ) (p number : ℕ) (b : Bool) → (if b then long_at image p else None) ≡ Some number → long_at image p ≡ Some number
+long_of image p number true e = e
+long_of image p number false e = absurd cc
+
+word_of : (met : Met) → met.addend ≡ pos 0 → met.value < 2 ^ 64 → twos_complement 64 (fields.target_of met) ≡ met.value
+unfolding twos_complement
+word_of met e low = ap (twos_complement 64) (nothing_added met e) ∙ omega arith
+
+word_by : (kind : RefKind) (image : List ℕ) (p : ℕ) (met : Met) → HoldsBy kind image p met → IsPointerKind kind → met.addend ≡ pos 0 → met.value < 2 ^ 64 → long_at image p ≡ Some met.value
+word_by Pointer image p met h is e low = long_of image p h.number (nat_le (p + 8) (2 ^ 64)) h.there ∙ ap Some (h.tells ∙ word_of met e low)
+word_by GotPointer image p met h is e low = long_of image p h.number (nat_le (p + 8) (2 ^ 64)) h.there ∙ ap Some (h.tells ∙ word_of met e low)
+word_by Diff32 image p met h is e low = absurd is
+word_by Diff64 image p met h is e low = absurd is
+word_by Branch image p met h is e low = absurd is
+word_by Page image p met h is e low = absurd is
+word_by PageOff image p met h is e low = absurd is
+word_by GotPage image p met h is e low = absurd is
+word_by GotPageOff image p met h is e low = absurd is
+word_by GotDelta image p met h is e low = absurd is
+word_by TlvPage image p met h is e low = absurd is
+word_by TlvPageOff image p met h is e low = absurd is
+
+pub word_there : (image : List ℕ) (p : ℕ) (met : Met) → Holds image p met → MetWord met → long_at image p ≡ Some met.value
+word_there image p met h is = word_by met.kind image p met h is.kind is.addend is.low

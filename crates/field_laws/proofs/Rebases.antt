@@ -1,14 +1,16 @@
 -- The offset of a rebase has 36 bits.
-use Rattle.std.proofs.Common.{◌≡◌, ℕ, zero, suc, ◌+◌, ◌*◌, ◌%◌, ◌<◌, ◌^◌, ◌==◌, Bool, true, false, nat_le, nat_lt, List, [], ◌∷◌, Option, Some, None, Result, Ok, Err, if◌then◌else◌, subst, arith}
+use Rattle.std.proofs.Common.{◌≡◌, ℕ, zero, suc, ◌+◌, ◌*◌, ◌%◌, ◌<◌, ◌^◌, ◌==◌, Bool, true, false, nat_le, nat_lt, List, [], ◌∷◌, Option, Some, None, Result, Ok, Err, if◌then◌else◌, subst, arith, ◌≤◌, sym, ◌∙◌}
 use Rattle.mo_bytes.specs.Number.{number_at}
 use Rattle.mo_types.specs.Gives.{◌>>=◌}
 use Rattle.image_format.specs.declared.fixup_chains.TheConstants.{DYLD_CHAINED_IMPORT}
 use Rattle.image_read.specs.Commands.{fits}
 use Rattle.image_read.specs.Fixups.{answer, below, chain_from, fixup_at, fixup_of, fixup_read, formed, header_for, header_read, held_on, holding_of, import_at, is_offset, known, next_of, or_plain, page_start, pointer_at, starts_of, unless}
 use Rattle.image_read.specs.Imports.{fixups_command, header_by}
+use Rattle.image_read.specs.Meaning.{base_of}
 use Rattle.image_read.specs.declared.fixups.FixupRead.{FixupRead}
 use Rattle.image_read.specs.declared.fixups.FixupRead.TheVariants.{Broken, Plain, Rebase}
 use Rattle.image_read.specs.declared.imports.FixupsHeader.{FixupsHeader}
+use Rattle.field_laws.specs.Pointers.{IsInRange}
 
 abbrev IsShort : FixupRead → Type 0
 IsShort (Rebase offset) = offset < 2 ^ 36
@@ -124,3 +126,12 @@ is_answer (Err fixup) short = short
 pub rebase_short : (image : List ℕ) (p offset : ℕ) → fixup_at image p ≡ Rebase offset → offset < 2 ^ 36
 unfolding fixup_at
 rebase_short image p offset e = subst IsShort e (is_answer (fixup_read image p) (read_answers image p))
+
+one_base : (base other : ℕ) → Some base ≡ Some other → base ≡ other
+one_base base other e = cc
+
+pub in_range : (image : List ℕ) (p base : ℕ) → base_of image ≡ Some base → base + 2 ^ 36 ≤ 2 ^ 64 → IsInRange image (fixup_at image p)
+in_range image p base begins room = λ other offset is rebase.
+    let short = rebase_short image p offset rebase in
+    let same = one_base base other (sym begins ∙ is) in
+    omega (arith, short, same)

@@ -3,6 +3,9 @@ use Rattle.std.specs.Prelude.{ℕ, ◌+◌, ◌≡◌, ◌<◌, ◌^◌, ℤ, po
 use Rattle.std.specs.FinMap.{from_entries}
 use Rattle.mo_types.specs.declared.goal.Goal.{Goal}
 use Rattle.mo_types.specs.declared.goal.Goal.TheVariants.{Def, Header, Nobody}
+use Rattle.mo_types.specs.declared.reference.RefKind.{RefKind}
+use Rattle.mo_types.specs.declared.reference.RefKind.TheVariants.{GotPointer, Pointer}
+use Rattle.patch.specs.declared.met.Met.{Met}
 use Rattle.sect_place.specs.Addresses.{address_in}
 use Rattle.sect_place.specs.declared.layout.Placed.{Placed}
 use Rattle.image_read.specs.Fixups.{fixup_at}
@@ -10,6 +13,18 @@ use Rattle.image_read.specs.Held.{AtomMap, Held}
 use Rattle.image_read.specs.Meaning.{base_of, long_in}
 use Rattle.image_read.specs.declared.fixups.FixupRead.{FixupRead}
 use Rattle.image_read.specs.declared.fixups.FixupRead.TheVariants.{Rebase}
+
+-- a field of the kind is a pointer
+abbrev pub IsPointerKind : RefKind → Type 0
+IsPointerKind Pointer = Unit {0}
+IsPointerKind GotPointer = Unit {0}
+IsPointerKind _ = ⊥
+
+-- a pointer met the word of its chain, to which nothing is added
+pub record MetWord (met : Met) : Type 0 where
+  pub kind : IsPointerKind met.kind
+  pub addend : met.addend ≡ pos 0
+  pub low : met.value < 2 ^ 64
 
 -- a rebase leads to an address of 64 bits
 abbrev pub IsInRange : List ℕ → FixupRead → Type 0

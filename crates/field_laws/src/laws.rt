@@ -10,7 +10,7 @@ ghost use Rattle.fixup_chain.specs.Faults as offsets;
 ghost use Rattle.fixup_chain.specs.declared.chains.Fixup.{Fixup};
 ghost use Rattle.slot_place.specs.Stubs.{LoadsSlot};
 ghost use Rattle.image_read.specs.Denotes.{Denotes, Places, offset_for};
-ghost use Rattle.image_read.specs.Fixups.{fixup_at};
+ghost use Rattle.image_read.specs.Fixups.{fixup_at, long_at};
 ghost use Rattle.image_read.specs.Held.{AtomMap, Held};
 ghost use Rattle.image_read.specs.Meaning.{base_of};
 ghost use Rattle.image_read.specs.Reaches.{ADD_X16, IsIsland, IsStub, Stops};
@@ -18,7 +18,7 @@ ghost use Rattle.image_read.specs.declared.fixups.FixupRead.TheVariants.{Rebase}
 ghost use Rattle.chain_laws.specs.Carried.{IsFound};
 ghost use Rattle.field_laws.specs.Fields.{GoesBy, MetOffset, MetOwn, MetSlot, MetStub, MetWay};
 ghost use Rattle.field_laws.specs.Memory.{AreInMemory, Holds};
-ghost use Rattle.field_laws.specs.Pointers.{IsPointerTo, IsPointerToSlot, IsSomewhere, addresses_of};
+ghost use Rattle.field_laws.specs.Pointers.{IsInRange, IsPointerTo, IsPointerToSlot, IsSomewhere, MetWord, addresses_of};
 
 /// The fields of patched bytes that stand in memory hold what was met.
 pub fn fields_in_memory_hold_what_was_met()
@@ -70,9 +70,16 @@ pub fn pointers_are_told()
         → reference.kind ≡ GotPointer → IsPointerToSlot image places.addresses p goal → Denotes image places p section reference goal minus }
 {}
 
-/// The offset of a rebase has 36 bits.
+/// The offset of a rebase has 36 bits, so that rebases lead to addresses of 64 bits where the image begins 2^36 bytes or more
+/// below their end.
 pub fn rebases_have_36_bits()
-    ensures { (image : List ℕ) (p offset : ℕ) → fixup_at image p ≡ Rebase offset → offset < 2 ^ 36 }
+    ensures offsets { (image : List ℕ) (p offset : ℕ) → fixup_at image p ≡ Rebase offset → offset < 2 ^ 36 }
+    ensures range { (image : List ℕ) (p base : ℕ) → base_of image ≡ Some base → base + 2 ^ 36 ≤ 2 ^ 64 → IsInRange image (fixup_at image p) }
+{}
+
+/// A pointer whose field holds the word of its chain has this word in memory.
+pub fn pointers_have_their_words()
+    ensures { (image : List ℕ) (p : ℕ) (met : Met) → Holds image p met → MetWord met → long_at image p ≡ Some met.value }
 {}
 
 /// A pointer in a descriptor of a thread-local variable tells the offset in the template, which the loader leaves as it is.

@@ -9,7 +9,8 @@
 //! - a slot whose fixup leads to the goal (`MetSlot`), for an instruction or a distance;
 //! - an address from which a branch reaches the goal (`MetWay`): a stub of the goal (`MetStub`), or an island. Bytes that
 //!   `slot_place` has for a stub are a stub where they stand in memory, and so is an island (`GoesBy`);
-//! - a pointer whose fixup leads to the goal (`IsPointerTo`), or to a slot of the goal (`IsPointerToSlot`);
+//! - a pointer whose fixup leads to the goal (`IsPointerTo`), or to a slot of the goal (`IsPointerToSlot`); the field then
+//!   holds the word of a chain (`MetWord`);
 //! - the goal's offset in the template of thread-local variables (`MetOffset`), which no fixup touches.
 //!
 //! The fixup that the loader finds at a pointer, as `chain_laws` has it, leads to the pointer's goal, by the addresses at which
@@ -24,6 +25,7 @@ mod laws;
 
 pub use laws::{
     branches_are_told, fields_in_memory_hold_what_was_met, found_pointers_are_held,
-    islands_reach_their_goals, own_addresses_are_told, pointers_are_told, rebases_have_36_bits,
-    slots_are_told, stubs_reach_their_goals, template_offsets_are_told,
+    islands_reach_their_goals, own_addresses_are_told, pointers_are_told,
+    pointers_have_their_words, rebases_have_36_bits, slots_are_told, stubs_reach_their_goals,
+    template_offsets_are_told,
 };
