@@ -1,0 +1,12 @@
+pub mod PairLemmas
+pub mod NumberLemmas
+pub mod MoveLemmas
+pub mod GatherLemmas
+pub mod ListedLemmas
+pub mod OrderLemmas
+pub mod ToldLemmas
+pub mod WordLemmas
+pub mod RowLemmas
+pub mod MetLemmas
+pub mod FixupLemmas
+pub mod BindLemmas

@@ -1,0 +1,9 @@
+pub mod Scene
+pub mod Addresses
+pub mod Near
+pub mod Template
+pub mod Pointers
+pub mod Mets
+pub mod Binds
+pub mod Ready
+pub mod inner
