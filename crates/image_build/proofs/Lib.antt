@@ -1,0 +1,26 @@
+mod LaidLemmas
+pub mod AloneLemmas
+pub mod BindLemmas
+pub mod CommonLemmas
+pub mod ExistLemmas
+pub mod FaultPlaces
+pub mod FieldLemmas
+pub mod GrowLemmas
+pub mod KeptLemmas
+pub mod KeptListLemmas
+pub mod ListLemmas
+pub mod LowLemmas
+pub mod OwnLemmas
+pub mod PartLemmas
+pub mod RankLemmas
+pub mod RefLemmas
+pub mod RoomLemmas
+pub mod Rowed
+pub mod SetLemmas
+pub mod SlotLemmas
+pub mod Spots
+pub mod SpreadLemmas
+pub mod StoredLemmas
+pub mod TurnLemmas
+pub mod UnfitLemmas
+pub mod WorkLemmas

@@ -1,0 +1,19 @@
+-- What the code makes an image of, as definitions have it.
+use Rattle.resolve.specs.Table.{goals_of}
+use Rattle.image_build.specs.Made.{ImageInputs}
+use Rattle.image_build.specs.declared.making.ImageInputs as code
+
+abbrev pub inputs_of : code.ImageInputs → ImageInputs
+inputs_of inputs = record {
+  command = inputs.command.now;
+  libs = inputs.libs.now;
+  files = inputs.loaded.now.files;
+  goals = goals_of inputs.goals.now;
+  literals = inputs.symbols.now.literals;
+  winners = inputs.symbols.now.winners;
+  keys = inputs.keys.now;
+  flags = inputs.flags;
+  entry = inputs.entry.now;
+  slots = inputs.slots.now;
+  islands = inputs.islands.now;
+}

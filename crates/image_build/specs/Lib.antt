@@ -1,0 +1,10 @@
+pub mod Made
+pub mod inner
+pub mod Atoms
+pub mod Faults
+pub mod Flags
+pub mod Inputs
+pub mod Near
+pub mod Parts
+pub mod Rows
+pub mod Whole
