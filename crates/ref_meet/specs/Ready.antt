@@ -1,5 +1,5 @@
 -- What is known of the things in which references are met, and what was looked up beforehand.
-use Rattle.std.specs.Prelude.{All, List}
+use Rattle.std.specs.Prelude.{◌≡◌, All, List}
 use Rattle.std.specs.List.Sorted.{IsStrictlySortedBy}
 use Rattle.std.specs.Ordering.{nat_cmp, on}
 use Rattle.fixup_chain.specs.declared.chains.ChainWord.{ChainWord}
@@ -14,6 +14,7 @@ use Rattle.ref_meet.specs.Addresses.{AreLowPlaces}
 use Rattle.ref_meet.specs.Mets.{mets_of}
 use Rattle.ref_meet.specs.Near.{HaveNearEnds, IsNear}
 use Rattle.ref_meet.specs.Scene.{Scene}
+use Rattle.ref_meet.specs.Template.{template_start}
 use Rattle.ref_meet.specs.declared.meeting.AtomReferences.{AtomReferences}
 use Rattle.ref_meet.specs.declared.scene.Scene as code
 use Rattle.ref_meet.specs.inner.Orders.{AreOrders}
@@ -44,9 +45,11 @@ pub record IsSound (scene : Scene) : Type 0 where
 abbrev pub AreInOrder : List ChainWord → Type 0
 AreInOrder words = IsStrictlySortedBy (on (λ (chained : ChainWord). chained.address) nat_cmp) words
 
--- references can be met: the scene is sound, words are in order, and what was looked up is of its goals and files
+-- references can be met: the scene is sound, words are in order, and what was looked up is of its sections, goals and files
 pub record IsReady (meets : AtomReferences) : Type 0 where
   pub sound : IsSound (scene_of meets.scene)
+  pub starts : meets.starts ≡ starts_of meets.scene.layout.now.sections
+  pub template : meets.template ≡ template_start meets.scene.layout.now.sections
   pub words : AreInOrder meets.words.now
   pub orders : AreOrders meets.scene.loaded.now.files meets.orders.now
   pub told : AreTold (scene_of meets.scene) meets.scene.goals.now.pool meets.places.items

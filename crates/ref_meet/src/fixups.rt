@@ -120,11 +120,11 @@ pub fn fixups_of(
     let starts = slot_starts(scene.layout);
     let mut all = Vec::new(alloc);
     let (front, behind) = work.split_at(count_before(work, starts.got));
-    add_items(&mut all, scene, orders, front)?;
+    add_items(&mut all, scene, starts, orders, front)?;
     add_slots(&mut all, starts.got, &scene.slots.got)?;
     let (middle, rest) = behind.split_at(count_before(behind, starts.tlv));
-    add_items(&mut all, scene, orders, middle)?;
+    add_items(&mut all, scene, starts, orders, middle)?;
     add_slots(&mut all, starts.tlv, &scene.slots.tlv)?;
-    add_items(&mut all, scene, orders, rest)?;
+    add_items(&mut all, scene, starts, orders, rest)?;
     Ok(Items::from_vec(in_order(all)))
 }

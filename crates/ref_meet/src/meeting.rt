@@ -10,15 +10,19 @@ use crate::orders::FileOrders;
 use crate::places::{GoalPlaces, pool_places};
 use crate::row::row_of;
 use crate::scene::Scene;
+use crate::template::template_start;
 use fixup_chain::ChainWord;
 use mo_types::OutOfMemory;
 use patch::{Meeting, Met, PlacedWork};
+use slot_place::{SlotStarts, slot_starts};
 use std::alloc::Global;
 
 /// What the references of an image's atoms mean: the addresses that they tell, and the words of pointers.
 #[derive(Drop)]
 pub struct AtomReferences<'a> {
     scene: Scene<'a>,
+    starts: SlotStarts,
+    template: Option<u64>,
     words: &'a [ChainWord],
     orders: &'a FileOrders,
     places: Vec<GoalPlaces>,
@@ -57,9 +61,13 @@ impl<'a> AtomReferences<'a> {
         ensures ready { IfOk result IsReady }
         ensures mets { IfOk result (λ meets. met_by meets ≡ mets_of (scene_of scene.entry.now) words.entry.now) }
     {
-        let places = pool_places(alloc, scene)?;
+        let starts = slot_starts(scene.layout);
+        let template = template_start(scene.layout.sections.as_slice());
+        let places = pool_places(alloc, scene, starts)?;
         Ok(AtomReferences {
             scene: *scene,
+            starts,
+            template,
             words,
             orders,
             places,
@@ -80,6 +88,8 @@ impl<'a> Meeting for AtomReferences<'a> {
     ) -> Result<(), OutOfMemory> {
         let setting = Setting {
             scene: &self.scene,
+            starts: self.starts,
+            template: self.template,
             places: self.places.as_slice(),
             words: self.words,
         };

@@ -24,13 +24,17 @@ use crate::words::{last_address, word_near};
 use fixup_chain::ChainWord;
 use mo_types::{Goal, OutOfMemory, Ref, RefKind, Target};
 use patch::Met;
-use slot_place::slot_starts;
+use slot_place::SlotStarts;
 use slot_plan::Way;
 
 /// A scene with the places of its goals and the words of its pointers.
 #[derive(Clone, Copy)]
 pub(crate) struct Setting<'a> {
     pub scene: &'a Scene<'a>,
+    /// Where its slots and stubs begin.
+    pub starts: SlotStarts,
+    /// Where its template of thread-local variables begins.
+    pub template: Option<u64>,
     pub places: &'a [GoalPlaces],
     pub words: &'a [ChainWord],
 }
@@ -84,8 +88,7 @@ fn told_at(setting: &Setting, way: Option<Way>, goal: &Goal) -> Option<u64>
     requires ready { IsReadyFor setting.now }
     ensures { result ≡ told_by (scene_of setting.now.scene.now) way goal.now }
 {
-    let starts = slot_starts(setting.scene.layout);
-    addresses::told_by(setting.scene, starts, way, goal)
+    addresses::told_by(setting.scene, setting.starts, way, goal)
 }
 
 // The same of a target's goal.
@@ -201,7 +204,7 @@ fn descriptor_met(
     ensures { result ≡ spec.pointer_met (scene_of setting.now.scene.now) setting.now.words.now row.now.item.now reference.now goal.now }
 {
     if holds_offset(setting.scene, row, goal) {
-        let offset = template_offset(setting.scene, goal)?;
+        let offset = template_offset(setting.scene, setting.template, goal)?;
         return Some(met_with(reference, offset, 0, reference.addend));
     }
     chained_met(setting, row, reference, last)

@@ -7,7 +7,7 @@ ghost use Rattle.slot_place.specs.Places.{starts_of};
 use crate::addresses::told_by;
 use crate::scene::Scene;
 use mo_types::{Goal, OutOfMemory};
-use slot_place::{SlotStarts, slot_starts};
+use slot_place::SlotStarts;
 use slot_plan::Way;
 use std::alloc::Global;
 
@@ -72,9 +72,14 @@ fn places_among(
 }
 
 /// The places of all goals of the pool.
-pub(crate) fn pool_places(alloc: Global, scene: &Scene) -> Result<Vec<GoalPlaces>, OutOfMemory>
+pub(crate) fn pool_places(
+    alloc: Global,
+    scene: &Scene,
+    starts: SlotStarts,
+) -> Result<Vec<GoalPlaces>, OutOfMemory>
     requires sound { IsSound (scene_of scene.now) }
+    requires starts { starts ≡ starts_of scene.now.layout.now.sections }
     ensures { IfOk result (λ places. AreTold (scene_of scene.now) scene.now.goals.now.pool places.items) }
 {
-    places_among(alloc, scene, slot_starts(scene.layout), scene.goals.pool())
+    places_among(alloc, scene, starts, scene.goals.pool())
 }

@@ -8,6 +8,7 @@ ghost use Rattle.ref_meet.specs.Scene.{refs_of};
 ghost use Rattle.ref_meet.specs.inner.Listed.{IsLowAt, found_at};
 ghost use Rattle.ref_meet.specs.inner.Orders.{AreOrders};
 ghost use Rattle.ref_meet.specs.inner.Rows.{IsRow};
+ghost use Rattle.slot_place.specs.Places.{starts_of};
 
 use crate::orders::FileOrders;
 use crate::row::{Row, row_of};
@@ -16,7 +17,7 @@ use crate::targets::{holds_offset, target_goal};
 use fixup_chain::Fixup;
 use mo_types::{Goal, OutOfMemory, Ref, RefKind};
 use patch::PlacedWork;
-use slot_place::{slot_address, slot_starts};
+use slot_place::{SlotStarts, slot_address};
 use slot_plan::Way;
 
 /// What a pointer leads to, with what is added.
@@ -50,12 +51,13 @@ fn offset_in_image(base: u64, slot: u64) -> i64
 
 // A pointer to the slot of a goal.
 #[tactic(auto, unfolding(crate::specs::Addresses::address_by))]
-fn slot_pointee(scene: &Scene, goal: &Goal) -> Option<Pointee>
+fn slot_pointee(scene: &Scene, starts: SlotStarts, goal: &Goal) -> Option<Pointee>
     requires sound { IsSound (scene_of scene.now) }
     requires base { scene.now.base < 2 ^ 63 }
+    requires starts { starts ≡ starts_of scene.now.layout.now.sections }
     ensures { result ≡ spec.slot_pointee (scene_of scene.now) goal.now }
 {
-    let slot = slot_address(slot_starts(scene.layout), scene.slots, Way::Got, goal)?;
+    let slot = slot_address(starts, scene.slots, Way::Got, goal)?;
     Some(Pointee {
         goal: Goal::Header,
         addend: offset_in_image(scene.base, slot),
@@ -64,9 +66,15 @@ fn slot_pointee(scene: &Scene, goal: &Goal) -> Option<Pointee>
 
 // What a reference leads to that is such a pointer.
 #[tactic(auto, unfolding(crate::specs::Pointers::pointee))]
-fn led_to(scene: &Scene, row: &Row, reference: &Ref) -> Result<Option<Pointee>, OutOfMemory>
+fn led_to(
+    scene: &Scene,
+    starts: SlotStarts,
+    row: &Row,
+    reference: &Ref,
+) -> Result<Option<Pointee>, OutOfMemory>
     requires sound { IsSound (scene_of scene.now) }
     requires base { scene.now.base < 2 ^ 63 }
+    requires starts { starts ≡ starts_of scene.now.layout.now.sections }
     requires row { IsRow (scene_of scene.now) scene.now.goals.now.pool row.now }
     ensures { IfOk result (λ found. found ≡ spec.pointee (scene_of scene.now) row.now.item.now reference.now) }
 {
@@ -77,7 +85,7 @@ fn led_to(scene: &Scene, row: &Row, reference: &Ref) -> Result<Option<Pointee>, 
         }
         RefKind::GotPointer => {
             let goal = target_goal(scene, row, &reference.target)?;
-            Ok(slot_pointee(scene, &goal))
+            Ok(slot_pointee(scene, starts, &goal))
         }
         _ => Ok(None),
     }
@@ -102,11 +110,13 @@ fn fixup_to(row: &Row, reference: &Ref, pointee: Pointee) -> Fixup
 fn add_pointer(
     out: &mut Vec<Fixup>,
     scene: &Scene,
+    starts: SlotStarts,
     row: &Row,
     index: u32,
 ) -> Result<(), OutOfMemory>
     requires sound { IsSound (scene_of scene.now) }
     requires base { scene.now.base < 2 ^ 63 }
+    requires starts { starts ≡ starts_of scene.now.layout.now.sections }
     requires row { IsRow (scene_of scene.now) scene.now.goals.now.pool row.now }
     requires low { IsLowAt row.now.item.now.address row.now.refs.now index }
     ensures { OnOk result (out.new.items ≡ out.old.items ++ found_at (spec.fixup_of (scene_of scene.now) row.now.item.now) row.now.refs.now index) }
@@ -114,7 +124,7 @@ fn add_pointer(
     let Some(reference) = row.refs.get(index as usize) else {
         return Ok(());
     };
-    if let Some(pointee) = led_to(scene, row, &reference)? {
+    if let Some(pointee) = led_to(scene, starts, row, &reference)? {
         out.push(fixup_to(row, &reference, pointee))?;
     }
     Ok(())
@@ -125,17 +135,19 @@ fn add_pointer(
 fn add_forward(
     out: &mut Vec<Fixup>,
     scene: &Scene,
+    starts: SlotStarts,
     row: &Row,
     indices: &[u32],
 ) -> Result<(), OutOfMemory>
     requires sound { IsSound (scene_of scene.now) }
     requires base { scene.now.base < 2 ^ 63 }
+    requires starts { starts ≡ starts_of scene.now.layout.now.sections }
     requires row { IsRow (scene_of scene.now) scene.now.goals.now.pool row.now }
     requires low { All (IsLowAt row.now.item.now.address row.now.refs.now) indices.now }
     ensures { OnOk result (out.new.items ≡ out.old.items ++ flat_map (found_at (spec.fixup_of (scene_of scene.now) row.now.item.now) row.now.refs.now) indices.now) }
 {
     for index in indices {
-        add_pointer(out, scene, row, *index)?;
+        add_pointer(out, scene, starts, row, *index)?;
     }
     Ok(())
 }
@@ -145,11 +157,13 @@ fn add_forward(
 fn add_backward(
     out: &mut Vec<Fixup>,
     scene: &Scene,
+    starts: SlotStarts,
     row: &Row,
     indices: &[u32],
 ) -> Result<(), OutOfMemory>
     requires sound { IsSound (scene_of scene.now) }
     requires base { scene.now.base < 2 ^ 63 }
+    requires starts { starts ≡ starts_of scene.now.layout.now.sections }
     requires row { IsRow (scene_of scene.now) scene.now.goals.now.pool row.now }
     requires low { All (IsLowAt row.now.item.now.address row.now.refs.now) indices.now }
     ensures { OnOk result (IsPermutation (out.old.items ++ flat_map (found_at (spec.fixup_of (scene_of scene.now) row.now.item.now) row.now.refs.now) indices.now) out.new.items) }
@@ -157,7 +171,7 @@ fn add_backward(
     let mut left = indices.len();
     while left > 0 {
         left -= 1;
-        add_pointer(out, scene, row, indices[left])?;
+        add_pointer(out, scene, starts, row, indices[left])?;
     }
     Ok(())
 }
@@ -179,17 +193,23 @@ fn is_listed_backward(row: &Row) -> bool {
 }
 
 // Puts the pointers of a placed atom behind others, mostly in the order of their addresses.
-fn add_row(out: &mut Vec<Fixup>, scene: &Scene, row: &Row) -> Result<(), OutOfMemory>
+fn add_row(
+    out: &mut Vec<Fixup>,
+    scene: &Scene,
+    starts: SlotStarts,
+    row: &Row,
+) -> Result<(), OutOfMemory>
     requires sound { IsSound (scene_of scene.now) }
     requires base { scene.now.base < 2 ^ 63 }
+    requires starts { starts ≡ starts_of scene.now.layout.now.sections }
     requires row { IsRow (scene_of scene.now) scene.now.goals.now.pool row.now }
     requires low { All (IsLowAt row.now.item.now.address row.now.refs.now) row.now.indices.now }
     ensures { OnOk result (IsPermutation (out.old.items ++ spec.row_fixups (scene_of scene.now) row.now.item.now) out.new.items) }
 {
     if is_listed_backward(row) {
-        add_backward(out, scene, row, row.indices)
+        add_backward(out, scene, starts, row, row.indices)
     } else {
-        add_forward(out, scene, row, row.indices)
+        add_forward(out, scene, starts, row, row.indices)
     }
 }
 
@@ -197,18 +217,20 @@ fn add_row(out: &mut Vec<Fixup>, scene: &Scene, row: &Row) -> Result<(), OutOfMe
 fn add_item(
     out: &mut Vec<Fixup>,
     scene: &Scene,
+    starts: SlotStarts,
     orders: &FileOrders,
     next: &mut usize,
     item: &PlacedWork,
 ) -> Result<(), OutOfMemory>
     requires sound { IsSound (scene_of scene.now) }
     requires base { scene.now.base < 2 ^ 63 }
+    requires starts { starts ≡ starts_of scene.now.layout.now.sections }
     requires orders { AreOrders scene.now.loaded.now.files orders.now }
     requires low { All (λ r. item.now.address + r.place < 2 ^ 64) (refs_of scene.now.loaded.now.files item.now) }
     ensures { OnOk result (IsPermutation (out.old.items ++ spec.row_fixups (scene_of scene.now) item.now) out.new.items) }
 {
     match row_of(scene, orders, item, next) {
-        Some(row) => add_row(out, scene, &row),
+        Some(row) => add_row(out, scene, starts, &row),
         None => Ok(()),
     }
 }
@@ -218,18 +240,20 @@ fn add_item(
 pub(crate) fn add_items(
     out: &mut Vec<Fixup>,
     scene: &Scene,
+    starts: SlotStarts,
     orders: &FileOrders,
     work: &[PlacedWork],
 ) -> Result<(), OutOfMemory>
     requires sound { IsSound (scene_of scene.now) }
     requires base { scene.now.base < 2 ^ 63 }
+    requires starts { starts ≡ starts_of scene.now.layout.now.sections }
     requires orders { AreOrders scene.now.loaded.now.files orders.now }
     requires low { All (λ item. All (λ r. item.address + r.place < 2 ^ 64) (refs_of scene.now.loaded.now.files item)) work.now }
     ensures { OnOk result (IsPermutation (out.old.items ++ flat_map (spec.row_fixups (scene_of scene.now)) work.now) out.new.items) }
 {
     let mut next = 0;
     for item in work {
-        add_item(out, scene, orders, &mut next, item)?;
+        add_item(out, scene, starts, orders, &mut next, item)?;
     }
     Ok(())
 }

@@ -107,9 +107,9 @@ fn first_of(sections: &[PlacedSection]) -> Option<&PlacedSection>
         .find(|placed| is_thread_local(&placed.section))
 }
 
-// Where the template begins.
+/// Where the template begins.
 #[tactic(auto, unfolding(crate::specs::Template::template_start))]
-fn template_start(sections: &[PlacedSection]) -> Option<u64>
+pub(crate) fn template_start(sections: &[PlacedSection]) -> Option<u64>
     ensures { result ≡ spec.template_start sections.now }
 {
     let first = first_of(sections)?;
@@ -117,26 +117,28 @@ fn template_start(sections: &[PlacedSection]) -> Option<u64>
 }
 
 // The offset of a place in an atom from the start of the template.
-fn offset_from(scene: &Scene, atom: AtomKey, offset: u64) -> Option<u64>
+fn offset_from(scene: &Scene, template: Option<u64>, atom: AtomKey, offset: u64) -> Option<u64>
     requires sound { IsSound (scene_of scene.now) }
+    requires template { template ≡ spec.template_start scene.now.layout.now.sections }
     requires near { offset < 2 ^ 63 }
     ensures { result ≡ spec.offset_from (scene_of scene.now) atom offset }
 {
-    let start = template_start(scene.layout.sections.as_slice())?;
+    let start = template?;
     let at = address_of(scene.layout, atom)?;
     Some(at.saturating_sub(start) + offset)
 }
 
-/// The offset of a goal in the template.
+/// The offset of a goal in the template, which begins at `template`.
 #[tactic(auto, unfolding(crate::specs::Template::template_offset))]
-pub(crate) fn template_offset(scene: &Scene, goal: &Goal) -> Option<u64>
+pub(crate) fn template_offset(scene: &Scene, template: Option<u64>, goal: &Goal) -> Option<u64>
     requires sound { IsSound (scene_of scene.now) }
+    requires template { template ≡ spec.template_start scene.now.layout.now.sections }
     requires near { IsNear goal.now }
     ensures { result ≡ spec.template_offset (scene_of scene.now) goal.now }
 {
     match goal {
-        Goal::Def(atom, offset) => offset_from(scene, *atom, *offset),
-        Goal::WeakSelf(_, atom, offset) => offset_from(scene, *atom, *offset),
+        Goal::Def(atom, offset) => offset_from(scene, template, *atom, *offset),
+        Goal::WeakSelf(_, atom, offset) => offset_from(scene, template, *atom, *offset),
         Goal::Header | Goal::Import { .. } | Goal::Flat(_) | Goal::Nobody => None,
     }
 }

@@ -9,4 +9,4 @@ pub offset_in_image-requires-clause-slot : goal.offset_in_image-requires-clause-
 offset_in_image-requires-clause-slot c =
     let P : SlotStarts → Type 0 = λ starts. Some c.in_ok-slot.slot ≡ slot_address starts c.args.scene.now.slots.now Got c.args.goal.now in
     slot_low 8 (starts_of c.args.scene.now.layout.now.sections).got c.args.scene.now.slots.now.got c.args.goal.now c.in_ok-slot.slot c.requires.sound.room.got
-    (subst P c.slot_starts.ensures c.in_ok-slot.ensures)
+    (subst P c.requires.starts c.in_ok-slot.ensures)
