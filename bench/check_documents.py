@@ -54,7 +54,7 @@ TYPE = re.compile(r"^(?:pub )?(?:struct|enum|trait|type) (\w+)|^impl(?:<[^{]*?>)
 # Options whose values stand attached.
 ATTACHED = ("-L", "-F", "-l", "-weak-l")
 # What crates tell, but no link yet.
-NO_LINK = {"wildcard", "gotdelta", "imports", "rebasetarget", "fixupplace"}
+NO_LINK = {"wildcard"}
 
 faults = []
 

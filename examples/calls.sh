@@ -25,13 +25,13 @@ cd "$folder"
 grep -Ev '^[[:space:]]*(;|\.loh|\.subsections_via_symbols|Lloh)' "$examples/calls.s" > elf.s
 "$clang" -target aarch64-linux-gnu -c elf.s -o elf.o
 "$objcopy" -O binary --only-section=.text elf.o text
-cmp <(tail -c +441 calls | head -c "$(stat -c %s text)") text || { echo "other code than the assembler's"; exit 1; }
+cmp <(tail -c +457 calls | head -c "$(stat -c %s text)") text || { echo "other code than the assembler's"; exit 1; }
 
 expect() {
     grep -Eq "$1" dump || { echo "missing: $2"; exit 1; }
 }
-expect '^ *entryoff 448$' 'LC_MAIN at _main, 8 bytes after the start of __text'
-expect '^ *1000001c8:.*\bbl\b.*0x1000001e0$' 'the call of _add_one'
-expect '^ *1000001cc:.*\bbl\b.*0x1000001b8$' 'the call of _double'
-expect '^ *1000001d4:.*\bb\b.*0x1000001d8$' 'the branch to _finish'
+expect '^ *entryoff 464$' 'LC_MAIN at _main, 8 bytes after the start of __text'
+expect '^ *1000001d8:.*\bbl\b.*0x1000001f0$' 'the call of _add_one'
+expect '^ *1000001dc:.*\bbl\b.*0x1000001c8$' 'the call of _double'
+expect '^ *1000001e4:.*\bb\b.*0x1000001e8$' 'the branch to _finish'
 echo "as it should be: every branch at its function, and the code is the assembler's"

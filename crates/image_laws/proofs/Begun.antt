@@ -15,10 +15,10 @@ use Rattle.load_cmds.specs.Segments.{segments_bytes, slot_count, stub_count}
 use Rattle.load_cmds.specs.Sizes.{other_count, other_size}
 use Rattle.load_cmds.specs.declared.parts.PartSizes.{PartSizes}
 use Rattle.load_cmds.proofs.Lengths.{length-spelled}
-use Rattle.image_build.specs.Flags.{bound_flags}
-use Rattle.image_build.specs.Made.{ImageInputs, blank, entry_offset, front_of, rows_of}
-use Rattle.image_build.specs.Parts.{linkedit_offset, parts_of, parts_there}
-use Rattle.image_build.proofs.RoomLemmas.{blank_long, counts, front_room, whole_layout}
+use Rattle.image_make.specs.Flags.{bound_flags}
+use Rattle.image_make.specs.Made.{ImageInputs, blank, entry_offset, front_of, rows_of}
+use Rattle.image_make.specs.Parts.{linkedit_offset, parts_of, parts_there}
+use Rattle.image_make.proofs.RoomLemmas.{blank_long, counts, front_room, whole_layout}
 use Rattle.image_read.specs.Commands.{ncmds, sizeofcmds}
 use Rattle.image_laws.specs.Means.{AreRising, Imaged}
 use Rattle.image_laws.proofs.Blank.{front_byte}

@@ -22,8 +22,8 @@ use Rattle.image_join.specs.Joined.{byte_at, covers}
 use Rattle.image_join.specs.declared.parts.Part.{Part}
 use Rattle.image_join.proofs.JoinedLemmas.{byte_here, byte_of_joined, byte_past, covered_inside, covers_not}
 use Rattle.ref_meet.specs.Mets.{word_at}
-use Rattle.image_build.specs.Made.{IsLaid, ImageInputs, plan_for}
-use Rattle.image_build.specs.Parts.{blank_of, image_parts, linkedit_offset, own_bytes, own_part, slot_word, slot_words}
+use Rattle.image_make.specs.Made.{IsLaid, ImageInputs, plan_for}
+use Rattle.image_make.specs.Parts.{blank_of, image_parts, linkedit_offset, own_bytes, own_part, slot_word, slot_words}
 use Rattle.image_laws.proofs.Layouts.{HasPlace, own_in, own_is, own_solid, place_before, same_section, stored_place}
 use Rattle.std.specs.Prelude.{unwrap_or}
 

@@ -17,9 +17,9 @@ use Rattle.sect_place.specs.Addresses.{address_in}
 use Rattle.sect_place.specs.Layout.{base_of, pagezero}
 use Rattle.sect_place.specs.declared.layout.Layout.{Layout}
 use Rattle.sect_place.specs.declared.layout.Segment.{Segment}
-use Rattle.image_build.specs.Made.{IsLaid, ImageInputs, plan_for, scene_of}
-use Rattle.image_build.specs.Parts.{linkedit_offset}
-use Rattle.image_build.proofs.RoomLemmas.{front_room, whole_layout}
+use Rattle.image_make.specs.Made.{IsLaid, ImageInputs, plan_for, scene_of}
+use Rattle.image_make.specs.Parts.{linkedit_offset}
+use Rattle.image_make.proofs.RoomLemmas.{front_room, whole_layout}
 use Rattle.image_read.specs.Fixups.{fixup_at, long_at}
 use Rattle.image_read.specs.Held.{Held}
 use Rattle.image_read.specs.Meaning as loaded

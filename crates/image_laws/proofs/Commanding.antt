@@ -19,9 +19,9 @@ use Rattle.load_cmds.specs.declared.parts.PartPlace.{PartPlace}
 use Rattle.load_cmds.specs.declared.parts.PartSizes.{PartSizes}
 use Rattle.chain_laws.specs.Carried.{StandAs, segments_of}
 use Rattle.chain_laws.proofs.Standing.{Stands, known_stands, stands_at, stands_left, stands_right, stands_taken}
-use Rattle.image_build.specs.Made.{ImageInputs, plan_for}
-use Rattle.image_build.specs.Parts.{linkedit_offset}
-use Rattle.image_build.proofs.RoomLemmas.{front_room}
+use Rattle.image_make.specs.Made.{ImageInputs, plan_for}
+use Rattle.image_make.specs.Parts.{linkedit_offset}
+use Rattle.image_make.proofs.RoomLemmas.{front_room}
 use Rattle.image_read.specs.Commands.{cmd, cmdsize, commands_of}
 use Rattle.image_read.specs.Imports.{fixups_at, fixups_command}
 use Rattle.image_read.specs.Mapped.{is_segment}

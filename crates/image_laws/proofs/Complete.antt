@@ -20,12 +20,12 @@ use Rattle.sect_place.specs.declared.part.Part.{Part}
 use Rattle.sect_list.proofs.Listed.{kept_are_listed}
 use Rattle.sect_place.proofs.Positions.{keys_listed, placed_there}
 use Rattle.sect_place.specs.Addresses.{address_in}
-use Rattle.image_build.specs.Atoms.{atom_of, kept_at}
-use Rattle.image_build.specs.Rows.{has_bytes, row_at, row_of, rows, section_rows}
+use Rattle.image_make.specs.Atoms.{atom_of, kept_at}
+use Rattle.image_make.specs.Rows.{has_bytes, row_at, row_of, rows, section_rows}
 use Rattle.patch.specs.declared.range.PlacedWork.{PlacedWork}
-use Rattle.image_build.specs.declared.kept.KeptAtom.{KeptAtom}
+use Rattle.image_make.specs.declared.kept.KeptAtom.{KeptAtom}
 use Rattle.sect_place.proofs.AddressLemmas.{address_is}
-use Rattle.image_build.specs.Made.{IsLaid, ImageInputs, kept_of, plan_for, plan_with, rows_of, scene_of, sizes_of}
+use Rattle.image_make.specs.Made.{IsLaid, ImageInputs, kept_of, plan_for, plan_with, rows_of, scene_of, sizes_of}
 use Rattle.image_laws.specs.Means.{AreRising, IsWritten, IsZerofill}
 use Rattle.image_laws.proofs.Rowed.{kept_found, placed_once}
 use Rattle.image_laws.proofs.Spots.{spot}

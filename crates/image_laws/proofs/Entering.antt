@@ -14,7 +14,7 @@ use Rattle.lib_bind.specs.declared.library.LibraryGraph.{LibraryGraph}
 use Rattle.load_cmds.specs.Others.{dylinker_bytes, entry_bytes, library_bytes, part_bytes, rpath_bytes, version_bytes}
 use Rattle.load_cmds.specs.Segments.{slot_count, stub_count}
 use Rattle.load_cmds.specs.declared.parts.PartSizes.{PartSizes}
-use Rattle.image_build.specs.Made.{ImageInputs, entry_offset}
+use Rattle.image_make.specs.Made.{ImageInputs, entry_offset}
 use Rattle.image_read.specs.Commands.{cmd, cmdsize, commands_of, fits}
 use Rattle.image_laws.specs.Entry.{entry_at, entry_of}
 use Rattle.image_laws.specs.Means.{AreRising, Imaged}

@@ -20,7 +20,7 @@ use Rattle.ref_meet.specs.Addresses as work
 use Rattle.field_laws.specs.Pointers.{addresses_of}
 use Rattle.field_laws.proofs.Found.{address_found}
 use Rattle.sect_place.specs.Addresses.{address_in}
-use Rattle.image_build.specs.Made.{IsLaid, ImageInputs, plan_for, scene_of}
+use Rattle.image_make.specs.Made.{IsLaid, ImageInputs, plan_for, scene_of}
 use Rattle.slot_plan.specs.declared.need.Way.{Way}
 use Rattle.image_read.specs.Commands.{commands_of, fits}
 use Rattle.image_read.specs.Held.{goal_address, in_atom}

@@ -23,11 +23,11 @@ use Rattle.slot_place.proofs.SectionLemmas.{IsOwnOf, own_found, own_missing}
 use Rattle.slot_plan.specs.declared.need.Way.{Way}
 use Rattle.slot_plan.specs.declared.need.Way.TheVariants.{Got, Stub, Tlv}
 use Rattle.tlv_plan.specs.Template.{atoms_of}
-use Rattle.image_build.specs.Atoms.{atom_of}
-use Rattle.image_build.specs.Made.{IsLaid, ImageInputs, kept_of, plan_for, plan_with, rows_of, sizes_of}
-use Rattle.image_build.specs.Parts.{linkedit_offset}
-use Rattle.image_build.proofs.RoomLemmas.{layout_end}
-use Rattle.image_build.proofs.WorkLemmas.{few_bytes}
+use Rattle.image_make.specs.Atoms.{atom_of}
+use Rattle.image_make.specs.Made.{IsLaid, ImageInputs, kept_of, plan_for, plan_with, rows_of, sizes_of}
+use Rattle.image_make.specs.Parts.{linkedit_offset}
+use Rattle.image_make.proofs.RoomLemmas.{layout_end}
+use Rattle.image_make.proofs.WorkLemmas.{few_bytes}
 use Rattle.image_laws.specs.Means.{AreRising}
 use Rattle.image_laws.proofs.Alone.{alone}
 use Rattle.image_laws.proofs.Listing.{have_atoms}

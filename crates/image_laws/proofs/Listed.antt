@@ -25,7 +25,7 @@ use Rattle.load_cmds.specs.Sizes.{library_size, other_count, other_size, rpath_s
 use Rattle.load_cmds.specs.declared.parts.PartPlace.{PartPlace}
 use Rattle.load_cmds.specs.declared.parts.PartSizes.{PartSizes}
 use Rattle.load_cmds.proofs.Lengths.{length-flat_map, length-name_field, length-spelled, length-string_field, string_has_room}
-use Rattle.image_build.specs.Parts.{parts_there}
+use Rattle.image_make.specs.Parts.{parts_there}
 use Rattle.image_laws.proofs.Turned.{appended}
 use Rattle.image_laws.proofs.Walk.{IsCommand, all_bytes, command_by}
 

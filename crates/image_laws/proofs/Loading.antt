@@ -9,9 +9,9 @@ use Rattle.patch.specs.Range.{IsPlaced, bytes_of, part_of}
 use Rattle.patch.specs.declared.met.Met.{Met}
 use Rattle.patch.specs.declared.range.PlacedWork.{PlacedWork}
 use Rattle.sect_place.specs.declared.layout.PlacedSection.{PlacedSection}
-use Rattle.image_build.specs.Made.{ImageInputs, mets_of, rows_of}
-use Rattle.image_build.proofs.FieldLemmas.{fields_of}
-use Rattle.image_build.proofs.WorkLemmas.{few_bytes}
+use Rattle.image_make.specs.Made.{ImageInputs, mets_of, rows_of}
+use Rattle.image_make.proofs.FieldLemmas.{fields_of}
+use Rattle.image_make.proofs.WorkLemmas.{few_bytes}
 use Rattle.field_laws.specs.Memory.{AreInMemory, Holds}
 use Rattle.field_laws.proofs.Written.{fields_hold}
 use Rattle.mo_types.specs.Loaded.{IsWholeFile}

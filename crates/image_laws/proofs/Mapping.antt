@@ -12,11 +12,11 @@ use Rattle.mo_types.specs.Whole.{is_zerofill}
 use Rattle.sect_place.specs.declared.layout.PlacedSection.{PlacedSection}
 use Rattle.sect_place.specs.declared.layout.Segment.{Segment}
 use Rattle.load_cmds.specs.Segments.{slot_count, stub_count}
-use Rattle.image_build.specs.Made.{IsLaid, ImageInputs, front_of, plan_for}
+use Rattle.image_make.specs.Made.{IsLaid, ImageInputs, front_of, plan_for}
 use Rattle.image_read.specs.Commands.{commands_of, fits}
 use Rattle.image_read.specs.Mapped.{byte_in, holder, holder_at, holds, mapped}
 use Rattle.image_laws.specs.Means.{AreRising, Imaged}
-use Rattle.image_build.proofs.RoomLemmas.{counts}
+use Rattle.image_make.proofs.RoomLemmas.{counts}
 use Rattle.image_laws.proofs.Begun.{beside_atoms, commands_list, image_long, is_fronted, parts_for}
 use Rattle.image_laws.proofs.Blank.{zero_byte}
 use Rattle.image_laws.proofs.First.{IsFirst, first_there, found_at, own}

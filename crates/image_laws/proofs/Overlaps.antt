@@ -34,12 +34,12 @@ use Rattle.slot_place.specs.Places.{goals_for}
 use Rattle.ref_meet.specs.Mets.{met_with}
 use Rattle.ref_meet.specs.Pointers.{fixup_of}
 use Rattle.ref_meet.specs.Scene.{refs_of}
-use Rattle.image_build.specs.Atoms.{atom_of, kept_at}
-use Rattle.image_build.specs.Made.{IsLaid, ImageInputs, kept_of, plan_for, plan_with, rows_of, scene_of}
-use Rattle.image_build.specs.Rows.{row_at}
-use Rattle.image_build.specs.declared.kept.KeptAtom.{KeptAtom}
-use Rattle.image_build.proofs.FieldLemmas.{Beside, refs_beside}
-use Rattle.image_build.proofs.WorkLemmas.{few_bytes}
+use Rattle.image_make.specs.Atoms.{atom_of, kept_at}
+use Rattle.image_make.specs.Made.{IsLaid, ImageInputs, kept_of, plan_for, plan_with, rows_of, scene_of}
+use Rattle.image_make.specs.Rows.{row_at}
+use Rattle.image_make.specs.declared.kept.KeptAtom.{KeptAtom}
+use Rattle.image_make.proofs.FieldLemmas.{Beside, refs_beside}
+use Rattle.image_make.proofs.WorkLemmas.{few_bytes}
 use Rattle.image_laws.specs.Means.{AreRising, Imaged}
 use Rattle.image_laws.proofs.Alone.{alone, either}
 use Rattle.image_laws.proofs.Complete.{stand_from}

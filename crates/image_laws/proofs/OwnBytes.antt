@@ -21,9 +21,9 @@ use Rattle.slot_plan.specs.declared.need.Way.{Way}
 use Rattle.chain_laws.proofs.Standing.{Stands, number_stands}
 use Rattle.field_laws.specs.Memory.{AreInMemory}
 use Rattle.field_laws.proofs.Numbers.{long_there}
-use Rattle.image_build.specs.Made.{ImageInputs, front_of}
-use Rattle.image_build.specs.Parts.{linkedit_offset, own_bytes, slot_word}
-use Rattle.image_build.proofs.RoomLemmas.{counts, front_room}
+use Rattle.image_make.specs.Made.{ImageInputs, front_of}
+use Rattle.image_make.specs.Parts.{linkedit_offset, own_bytes, slot_word}
+use Rattle.image_make.proofs.RoomLemmas.{counts, front_room}
 use Rattle.ref_meet.specs.Mets.{word_at}
 use Rattle.image_read.specs.Fixups.{long_at}
 use Rattle.image_read.specs.Mapped.{mapped}

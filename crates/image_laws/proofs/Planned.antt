@@ -12,7 +12,7 @@ use Rattle.sect_place.specs.declared.layout.PlacedSection.{PlacedSection}
 use Rattle.sect_place.specs.declared.layout.Segment.{Segment}
 use Rattle.sect_place.specs.declared.part.Group.{Group}
 use Rattle.sect_place.proofs.Spread.{group_bounds, groups_after}
-use Rattle.image_build.proofs.RoomLemmas.{base_small, first_end}
+use Rattle.image_make.proofs.RoomLemmas.{base_small, first_end}
 use Rattle.image_laws.proofs.First.{IsFirst, IsFitSegment, own}
 use Rattle.image_laws.proofs.Seek.{EndsEmpty, ends_empty, first_text, is_text}
 use Rattle.image_laws.proofs.Turned.{InTurn, IsHeldBy, IsNamed, appended, earlier, held_by_more, sections_held, turned}

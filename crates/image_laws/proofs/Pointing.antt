@@ -32,10 +32,10 @@ use Rattle.ref_meet.specs.declared.pointers.Pointee.{Pointee}
 use Rattle.field_laws.specs.Memory.{AreInMemory}
 use Rattle.field_laws.specs.Pointers.{IsPointerKind}
 use Rattle.field_laws.proofs.Pointers.{word_there}
-use Rattle.image_build.specs.Made.{IsLaid, ImageInputs, plan_for, rows_of, scene_of}
-use Rattle.image_build.specs.Parts.{own_bytes, slot_word, slot_words}
-use Rattle.image_build.proofs.RoomLemmas.{base_small}
-use Rattle.image_build.proofs.WorkLemmas.{few_bytes}
+use Rattle.image_make.specs.Made.{IsLaid, ImageInputs, plan_for, rows_of, scene_of}
+use Rattle.image_make.specs.Parts.{own_bytes, slot_word, slot_words}
+use Rattle.image_make.proofs.RoomLemmas.{base_small}
+use Rattle.image_make.proofs.WorkLemmas.{few_bytes}
 use Rattle.image_read.specs.Fixups.{long_at}
 use Rattle.image_laws.specs.Means.{AreRising, Imaged}
 use Rattle.image_laws.proofs.Blank.{slots_long}

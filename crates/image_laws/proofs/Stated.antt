@@ -11,8 +11,8 @@ use Rattle.sect_place.specs.declared.layout.Layout.{Layout}
 use Rattle.sect_place.specs.declared.layout.PlacedSection.{PlacedSection}
 use Rattle.sect_place.specs.Addresses.{address_in}
 use Rattle.patch.specs.declared.range.PlacedWork.{PlacedWork}
-use Rattle.image_build.specs.declared.kept.KeptAtom.{KeptAtom}
-use Rattle.image_build.specs.Made.{IsMade, ImageInputs, entry_offset, rows_of, scene_of}
+use Rattle.image_make.specs.declared.kept.KeptAtom.{KeptAtom}
+use Rattle.image_make.specs.Made.{IsMade, ImageInputs, entry_offset, rows_of, scene_of}
 use Rattle.image_read.specs.Mapped.{mapped}
 use Rattle.image_laws.specs.Entry.{BeginsAt}
 use Rattle.image_laws.specs.Means.{AreRising, AreZeros, HasGoals, Imaged, IsGoalAt, IsSectionInMemory, IsZerofill}

@@ -27,8 +27,8 @@ use Rattle.slot_place.proofs.StubLemmas.{IsReached, reached}
 use Rattle.slot_plan.specs.declared.need.Way.{Way}
 use Rattle.slot_plan.specs.declared.need.Way.TheVariants.{Got, Stub, Tlv}
 use Rattle.tlv_plan.specs.Template.{atoms_of}
-use Rattle.image_build.specs.Atoms.{atom_of}
-use Rattle.image_build.specs.Made.{IsLaid, ImageInputs, kept_of, plan_for, plan_with, rows_of, scene_of, sizes_of}
+use Rattle.image_make.specs.Atoms.{atom_of}
+use Rattle.image_make.specs.Made.{IsLaid, ImageInputs, kept_of, plan_for, plan_with, rows_of, scene_of, sizes_of}
 use Rattle.image_read.specs.Fixups.{fixup_at}
 use Rattle.image_read.specs.Held.{Held}
 use Rattle.image_read.specs.Reaches.{IsStub}

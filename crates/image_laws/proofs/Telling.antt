@@ -34,9 +34,9 @@ use Rattle.field_laws.proofs.Pointers.{offset_told, pointer_told, slot_pointer_t
 use Rattle.field_laws.proofs.Rebases.{in_range}
 use Rattle.field_laws.proofs.Slots.{slot_told}
 use Rattle.field_laws.proofs.Stubs.{stub_told}
-use Rattle.image_build.specs.Made.{IsLaid, ImageInputs, rows_of, scene_of}
-use Rattle.image_build.proofs.FieldLemmas.{row_low}
-use Rattle.image_build.proofs.WorkLemmas.{few_bytes}
+use Rattle.image_make.specs.Made.{IsLaid, ImageInputs, rows_of, scene_of}
+use Rattle.image_make.proofs.FieldLemmas.{row_low}
+use Rattle.image_make.proofs.WorkLemmas.{few_bytes}
 use Rattle.image_read.specs.Denotes.{offset_for}
 use Rattle.image_read.specs.Fixups.{long_at}
 use Rattle.image_read.specs.Held.{AtomMap, goal_address}

@@ -14,7 +14,7 @@ use Rattle.sect_place.specs.declared.layout.PlacedSection.{PlacedSection}
 use Rattle.slot_place.specs.Places.{address_from, goals_for, number_of, own_section, slot_address, start_in, start_of, starts_of, unit_at, unit_of}
 use Rattle.slot_plan.specs.declared.need.Way.{Way}
 use Rattle.slot_plan.specs.declared.need.Way.TheVariants.{Got, Stub, Tlv}
-use Rattle.image_build.specs.Made.{IsLaid, ImageInputs}
+use Rattle.image_make.specs.Made.{IsLaid, ImageInputs}
 use Rattle.image_laws.proofs.Layouts.{own_none}
 
 -- the slot or stub of a goal: the section that has it, and its number there

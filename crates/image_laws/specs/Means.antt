@@ -15,8 +15,8 @@ use Rattle.sect_place.specs.declared.layout.Layout.{Layout}
 use Rattle.sect_place.specs.declared.layout.PlacedSection.{PlacedSection}
 use Rattle.sect_place.specs.Addresses.{address_in}
 use Rattle.patch.specs.declared.range.PlacedWork.{PlacedWork}
-use Rattle.image_build.specs.declared.kept.KeptAtom.{KeptAtom}
-use Rattle.image_build.specs.Made.{IsImage, ImageInputs, kept_of, rows_of}
+use Rattle.image_make.specs.declared.kept.KeptAtom.{KeptAtom}
+use Rattle.image_make.specs.Made.{IsImage, ImageInputs, kept_of, rows_of}
 use Rattle.fixup_chain.specs.declared.chains.Chains.{Chains}
 use Rattle.fixup_chain.specs.declared.chains.Fixup.{Fixup}
 use Rattle.field_laws.specs.Memory.{AreInMemory}

@@ -6,7 +6,7 @@ use Rattle.chain_laws.specs.Carried.{HasOrdinal}
 use Rattle.field_laws.specs.Pointers.{addresses_of}
 use Rattle.fixup_chain.specs.Imports.{is_bound}
 use Rattle.fixup_chain.specs.declared.chains.Fixup.{Fixup}
-use Rattle.image_build.specs.Made.{ImageInputs, scene_of}
+use Rattle.image_make.specs.Made.{ImageInputs, scene_of}
 use Rattle.image_read.specs.Denotes.{Denotes, Places, goal_offset}
 use Rattle.image_read.specs.Held.{AtomMap}
 use Rattle.mo_types.specs.Goals.{name_of}

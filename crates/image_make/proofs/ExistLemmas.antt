@@ -1,22 +1,30 @@
 -- Each plan has an image, or a reason why there is none.
-use Rattle.std.proofs.Common.{◌≡◌, ℕ, ◌-◌, ◌<◌, ◌^◌, ◌⊎◌, inl, inr, pos, ℤ, Bool, true, false, List, [], take, drop, Option, Some, None, Ok, Err, refl, arith, if◌then◌else◌}
+use Rattle.std.proofs.Common.{◌≡◌, ◌≢◌, ℕ, ◌-◌, ◌<◌, ◌≤◌, ◌^◌, ◌⊎◌, inl, inr, pos, ℤ, Bool, true, false, List, [], length, replicate, take, drop, Option, Some, None, Ok, Err, refl, arith, if◌then◌else◌}
 use Rattle.std.specs.Prelude.{◌==◌, All, slice_get}
 use Rattle.std.specs.Option.{option_map_or}
 use Rattle.std.proofs.lemmas.Bool.{cases_lt}
 use Rattle.std.proofs.lemmas.Cmp.{on_total}
+use Rattle.std.proofs.lemmas.List.{length-replicate}
 use Rattle.std.proofs.lemmas.List.Elements.{All-contains, All-from_recursion}
 use Rattle.list_lemmas.proofs.Members.{Contains_from_in, In, all_from_in}
 use Rattle.sort_lemmas.proofs.Sorting.{sorted_exists}
+use Rattle.fixup_chain.specs.Chained.{AreChains, AreMany, IsCause}
+use Rattle.fixup_chain.specs.declared.chains.ChainFault.{ChainFault}
+use Rattle.fixup_chain.specs.declared.chains.ChainFault.TheVariants as chain
+use Rattle.fixup_chain.specs.declared.chains.ChainWord.{ChainWord}
+use Rattle.fixup_chain.specs.declared.chains.Chains.{Chains}
+use Rattle.fixup_chain.specs.declared.chains.Fixup.{Fixup}
+use Rattle.fixup_chain.proofs.ExistLemmas.{an_answer}
 use Rattle.mo_types.proofs.KeyOrder.{compare_keys_total}
 use Rattle.mo_types.specs.AtomBytes.{atom_bytes}
-use Rattle.mo_types.specs.Loaded.{IsWholeFile}
+use Rattle.mo_types.specs.Loaded.{IsWholeLoaded}
 use Rattle.mo_types.specs.RelocationRules.{section_numbered}
 use Rattle.mo_types.specs.declared.atom.Atom.{Atom}
 use Rattle.mo_types.specs.declared.key.AtomKey.{AtomKey}
 use Rattle.mo_types.specs.declared.loaded.LoadedFile.{LoadedFile}
 use Rattle.mo_types.specs.declared.object.Object.{Object}
 use Rattle.mo_types.specs.declared.object.Section.{Section}
-use Rattle.sect_place.specs.Layout.{image_places, image_sections, image_segments, image_size}
+use Rattle.sect_place.specs.Layout.{base_of, image_places, image_sections, image_segments, image_size}
 use Rattle.sect_place.specs.declared.layout.Layout.{Layout}
 use Rattle.sect_place.specs.declared.layout.Placed.{Placed}
 use Rattle.sect_place.specs.declared.size.PlaceFault.TheVariants.{ImageSize}
@@ -25,11 +33,23 @@ use Rattle.patch.specs.declared.met.RangeFault.{RangeFault}
 use Rattle.patch.specs.declared.range.PlacedWork.{PlacedWork}
 use Rattle.patch.proofs.ChosenLemmas.{in_slice}
 use Rattle.patch.proofs.ExistLemmas.{AreBytes, all_from_bytes, bytes_from_all, bytes_left, bytes_taken, placed_or_fault}
+use Rattle.ref_meet.specs.Mets.{mets_of}
+use Rattle.ref_meet.specs.Pointers.{AreFixups, all_fixups}
+use Rattle.ref_meet.proofs.PairLemmas.{up_exists}
 use Rattle.image_make.specs.Atoms.{AreLow, AreRising}
-use Rattle.image_make.specs.Made.{IsLaid, IsMade, ImageInputs, blank, kept_of, mets_of, plan_for, rows_of}
+use Rattle.image_make.specs.Made.{IsLaid, IsMade, ImageInputs, binds_of, blank, kept_of, plan_for, rows_of, scene_of}
+use Rattle.image_make.specs.Parts.{linkedit_offset, whole_size}
 use Rattle.image_make.specs.Whole.{AreBytesIn}
 use Rattle.image_make.specs.declared.fault.MakeFault.TheVariants.{Place, Range}
-use Rattle.image_make.proofs.WorkLemmas.{are_work}
+use Rattle.image_make.specs.declared.unfit.AtomFault.{AtomFault}
+use Rattle.image_make.specs.inner.Unfit.{first_of}
+use Rattle.image_make.proofs.AloneLemmas.{least_alike}
+use Rattle.image_make.proofs.BindLemmas.{few_imports}
+use Rattle.image_make.proofs.FieldLemmas.{are_work}
+use Rattle.image_make.proofs.RoomLemmas.{blank_long}
+use Rattle.image_make.proofs.SetLemmas.{overlong_is}
+use Rattle.image_make.proofs.SpreadLemmas.{are_spread}
+use Rattle.image_make.proofs.UnfitLemmas.{both_unfit, field_unfit, pointer_unfit, slot_unfit}
 
 -- ---- a layout
 
@@ -75,18 +95,85 @@ abbrev pub IsAnswered : ImageInputs → Type 0
 IsAnswered m =
     ((image : List ℕ) × IsMade m (Ok image))
     ⊎ (((value : ℤ) × IsMade m (Err (Place (ImageSize value))))
-    ⊎ ((key : AtomKey) × (fault : RangeFault) × IsMade m (Err (Range key fault))))
+    ⊎ ((atom : Option AtomKey) × (fault : RangeFault) × IsMade m (Err (Range atom fault))))
 
-pub answered : (m : ImageInputs) → All IsWholeFile m.files → AreBytesIn m.files → AreRising (kept_of m) → AreLow (kept_of m) → IsAnswered m
-answered m whole bytes rising low = elim (cases_lt (image_size (plan_for m)) (2 ^ 32)) [
-  | inl small ↦ laid (a_layout m small)
-  | inr many ↦ inr (inl (pos (image_size (plan_for m)), (many, refl)))
+-- what fields give over some bytes
+abbrev Filled : ImageInputs → Layout → List ChainWord → List ℕ → Type 0
+Filled m layout words old =
+    ((new : List ℕ) × IsSameBeside m.files 0 (rows_of m layout) old new × All (IsPlaced m.files (mets_of (scene_of m layout) words) 0 new) (rows_of m layout) × All (HasBytes m.files 0 new) (rows_of m layout))
+    ⊎ ((key : AtomKey) × (fault : RangeFault) × IsLeastFault m.files (mets_of (scene_of m layout) words) (rows_of m layout) key fault)
+
+filled : (m : ImageInputs) (layout : Layout) (words : List ChainWord) (old : List ℕ) → IsWholeLoaded (record { files = m.files }) → AreBytesIn m.files → AreRising (kept_of m) → AreLow (kept_of m) → IsLaid m layout → linkedit_offset layout.segments ≤ length old → Filled m layout words old
+filled m layout words old whole bytes rising low is behind =
+    placed_or_fault m.files (mets_of (scene_of m layout) words) 0 (rows_of m layout) old (are_work m layout words (length old) whole.files rising low is behind)
+    (All-from_recursion (λ (row : PlacedWork). All (λ byte. byte < 256) (bytes_of m.files row)) (rows_of m layout) (all_from_in (λ (row : PlacedWork). All (λ byte. byte < 256) (bytes_of m.files row)) (rows_of m layout) (λ row h. row_bytes m.files row bytes)))
+
+-- what fields tell themselves, over zeros
+told : (m : ImageInputs) (layout : Layout) → IsWholeLoaded (record { files = m.files }) → AreBytesIn m.files → AreRising (kept_of m) → AreLow (kept_of m) → IsLaid m layout → Filled m layout [] (replicate (linkedit_offset layout.segments) 0)
+told m layout whole bytes rising low is =
+    let long = length-replicate {A = ℕ} (linkedit_offset layout.segments) 0 in
+    filled m layout [] (replicate (linkedit_offset layout.segments) 0) whole bytes rising low is (omega (arith, long))
+
+with_chains : (m : ImageInputs) (layout : Layout) (fixups : List Fixup) (chains : Chains) → IsWholeLoaded (record { files = m.files }) → AreBytesIn m.files → AreRising (kept_of m) → AreLow (kept_of m) → IsLaid m layout → AreFixups (scene_of m layout) (rows_of m layout) fixups → AreChains layout fixups chains → IsAnswered m
+with_chains m layout fixups chains whole bytes rising low is pointers chained = elim (cases_lt (whole_size (base_of m.command) layout chains) (2 ^ 32)) [
+  | inl few ↦ small few (filled m layout chains.words (blank m layout fixups chains) whole bytes rising low is (let long = blank_long m layout fixups chains in omega (arith, long)))
+  | inr long ↦ large long (told m layout whole bytes rising low is)
 ]
   where
+    unfit : (words : List ChainWord) (key : AtomKey) (fault : RangeFault) → IsLeastFault m.files (mets_of (scene_of m layout) words) (rows_of m layout) key fault → IsAnswered m
+    unfit words key fault least = inr (inr (Some key, fault, (layout, field_unfit m layout fixups chains key fault rising is pointers chained (least_alike (scene_of m layout) words [] (rows_of m layout) key fault least))))
+
+    small : whole_size (base_of m.command) layout chains < 2 ^ 32 → Filled m layout chains.words (blank m layout fixups chains) → IsAnswered m
+    small few (inl (new, beside, placed, low_bytes)) = inl (
+      new,
+      (
+        layout,
+        fixups,
+        chains,
+        record {
+          laid = is;
+          chained = record { pointers = pointers; chains_are = chained };
+          few = few;
+          filled = record { beside = beside; placed = placed; bytes = low_bytes };
+        },
+      ),
+    )
+    small few (inr (key, fault, least)) = unfit chains.words key fault least
+
+    large : 2 ^ 32 ≤ whole_size (base_of m.command) layout chains → Filled m layout [] (replicate (linkedit_offset layout.segments) 0) → IsAnswered m
+    large long (inl (new, beside, placed, low_bytes)) =
+        inr (inl (pos (whole_size (base_of m.command) layout chains), inr (overlong_is m layout fixups chains new is pointers chained long placed)))
+    large long (inr (key, fault, least)) = unfit [] key fault least
+
+with_fault : (m : ImageInputs) (layout : Layout) (fixups : List Fixup) (why : ChainFault) → IsWholeLoaded (record { files = m.files }) → AreBytesIn m.files → AreRising (kept_of m) → AreLow (kept_of m) → ¬ AreMany (binds_of m) → IsLaid m layout → AreFixups (scene_of m layout) (rows_of m layout) fixups → why ≢ chain.OutOfMemory → IsCause layout fixups why → IsAnswered m
+with_fault m layout fixups (chain.Limit limit) whole bytes rising low few is pointers some cause = absurd (few_imports m layout fixups whole.files pointers few cause.1)
+with_fault m layout fixups chain.OutOfMemory whole bytes rising low few is pointers some cause = absurd (some refl)
+with_fault m layout fixups (chain.Range None place kind value) whole bytes rising low few is pointers some cause =
+    inr (inr (None, record { file_place = place; kind = kind; value = value }, (layout, slot_unfit m layout fixups (record { file_place = place; kind = kind; value = value }) whole.files rising is pointers cause)))
+with_fault m layout fixups (chain.Range (Some key) place kind value) whole bytes rising low few is pointers some cause = by (told m layout whole bytes rising low is)
+  where
+    pointer : AtomFault
+    pointer = record { key = key; fault = record { file_place = place; kind = kind; value = value } }
+
+    by : Filled m layout [] (replicate (linkedit_offset layout.segments) 0) → IsAnswered m
+    by (inl (new, beside, placed, low_bytes)) = inr (inr (Some key, record { file_place = place; kind = kind; value = value }, (layout, pointer_unfit m layout fixups (Some key) (record { file_place = place; kind = kind; value = value }) new whole.files rising is pointers cause placed)))
+    by (inr (other, fault, least)) =
+        let field : AtomFault = record { key = other; fault = fault } in
+        inr (inr (Some (first_of (record { key = key; fault = record { file_place = place; kind = kind; value = value } }) field).key, (first_of (record { key = key; fault = record { file_place = place; kind = kind; value = value } }) field).fault, (layout, both_unfit m layout fixups (record { key = key; fault = record { file_place = place; kind = kind; value = value } }) field whole.files rising is pointers cause least)))
+
+pub answered : (m : ImageInputs) → IsWholeLoaded (record { files = m.files }) → AreBytesIn m.files → AreRising (kept_of m) → AreLow (kept_of m) → ¬ AreMany (binds_of m) → IsAnswered m
+answered m whole bytes rising low few = elim (cases_lt (image_size (plan_for m)) (2 ^ 32)) [
+  | inl small ↦ laid (a_layout m small)
+  | inr many ↦ inr (inl (pos (image_size (plan_for m)), inl (many, refl)))
+]
+  where
+    chained : (layout : Layout) → IsLaid m layout → (fixups : List Fixup) × AreFixups (scene_of m layout) (rows_of m layout) fixups → IsAnswered m
+    chained layout is (fixups, pointers) = elim (an_answer layout fixups) [
+      | inl (chains, are) ↦ with_chains m layout fixups chains whole bytes rising low is pointers are
+      | inr (why, some, cause) ↦ with_fault m layout fixups why whole bytes rising low few is pointers some cause
+    ]
+
     laid : (layout : Layout) × IsLaid m layout → IsAnswered m
-    laid (layout, is) = by (placed_or_fault m.files (mets_of m layout) 0 (rows_of m layout) (blank m layout) (are_work m layout whole rising low is)
-        (All-from_recursion (λ (row : PlacedWork). All (λ byte. byte < 256) (bytes_of m.files row)) (rows_of m layout) (all_from_in (λ (row : PlacedWork). All (λ byte. byte < 256) (bytes_of m.files row)) (rows_of m layout) (λ row h. row_bytes m.files row bytes))))
-      where
-        by : ((new : List ℕ) × IsSameBeside m.files 0 (rows_of m layout) (blank m layout) new × All (IsPlaced m.files (mets_of m layout) 0 new) (rows_of m layout) × All (HasBytes m.files 0 new) (rows_of m layout)) ⊎ ((key : AtomKey) × (fault : RangeFault) × IsLeastFault m.files (mets_of m layout) (rows_of m layout) key fault) → IsAnswered m
-        by (inl (new, beside, placed, low)) = inl (new, (layout, is, record { beside = beside; placed = placed; bytes = low }))
-        by (inr (key, fault, least)) = inr (inr (key, fault, (layout, is, least)))
+    laid (layout, is) =
+        let order = up_exists (λ (fixup : Fixup). fixup.address) (all_fixups (scene_of m layout) (rows_of m layout)) (are_spread m layout whole.files rising is) in
+        chained layout is (order.0, record { apart = order.2; all = order.1 })

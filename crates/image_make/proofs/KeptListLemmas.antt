@@ -1,5 +1,5 @@
 -- Lists of kept atoms: atoms, each with the place of its file.
-use Rattle.std.proofs.Common.{◌≡◌, ℕ, zero, suc, ◌+◌, ◌-◌, ◌<◌, ◌≤◌, ◌⊎◌, inl, inr, List, [], ◌∷◌, ◌++◌, length, map, take, replicate, get_or, slice_get, Some, None, refl, sym, ap, ◌∙◌, arith, length-append}
+use Rattle.std.proofs.Common.{◌≡◌, ℕ, zero, suc, ◌+◌, ◌-◌, ◌<◌, ◌≤◌, ◌⊎◌, inl, inr, List, [], ◌∷◌, ◌++◌, length, map, take, replicate, get_or, slice_get, Some, None, refl, sym, ap, ◌∙◌, append_assoc, arith, length-append}
 use Rattle.std.specs.List.Sorted.{IsSorted, IsStrictlySortedBy}
 use Rattle.std.specs.Ordering.{on}
 use Rattle.std.specs.declared.cmp.Ordering.TheVariants.{Less, Equal}
@@ -87,6 +87,14 @@ grown_files literals atoms new more files new_files at n same grown count is =
 pub file_grows : (literals : List Representative) (atoms new more : List Atom) (files new_files : List ℕ) (at n : ℕ) → length atoms ≡ length files → new ≡ atoms ++ map (raised literals) more → n ≡ length new → new_files ≡ take n files ++ replicate (n - length files) at → kept_list new new_files ≡ kept_list atoms files ++ map (kept_as literals at) more
 file_grows literals atoms new more files new_files at n same grown count is =
     rw (grown, grown_files literals atoms new more files new_files at n same grown count is) (list_more literals atoms more files at same)
+
+-- two parts of what is more
+mapped : {X Y : Type 0} (g : X → Y) (xs ys : List X) → map g xs ++ map g ys ≡ map g (xs ++ ys)
+mapped g [] ys = refl
+mapped {Y = Y} g (x ∷ xs) ys = ap (λ (zs : List Y). g x ∷ zs) (mapped g xs ys)
+
+pub joined_more : (literals : List Representative) (before xs ys : List Atom) → (before ++ map (raised literals) xs) ++ map (raised literals) ys ≡ before ++ map (raised literals) (xs ++ ys)
+joined_more literals before xs ys = append_assoc before (map (raised literals) xs) (map (raised literals) ys) ∙ ap (λ (zs : List Atom). before ++ zs) (mapped (raised literals) xs ys)
 
 -- ---- searches
 

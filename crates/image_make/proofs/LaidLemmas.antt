@@ -23,7 +23,8 @@ use Rattle.sect_place.specs.declared.layout.Placed.{Placed}
 use Rattle.slot_plan.specs.declared.list.Slots.{Slots}
 use Rattle.image_make.specs.Atoms.{atom_of}
 use Rattle.image_make.specs.declared.kept.KeptAtom.{KeptAtom}
-use Rattle.image_make.specs.Made.{no_parts, plan_with, sizes_of}
+use Rattle.image_make.specs.Made.{plan_with, sizes_of}
+use Rattle.image_make.specs.Parts.{parts_there}
 use Rattle.sect_place.specs.Addresses.{AreOnce}
 
 less_not_equal : Less ≡ Equal → ⊥
@@ -36,7 +37,7 @@ once placed rising = λ i j d low high same.
 pub low_atoms : (kept : List KeptAtom) → All (λ (one : KeptAtom). one.atom.align ≤ 14) kept → All (λ (atom : Atom). atom.align ≤ 14) (map atom_of kept)
 low_atoms kept low = λ k d within. all_at (λ (atom : Atom). atom.align ≤ 14) (map atom_of kept) k d (all_map atom_of (λ (atom : Atom). atom.align ≤ 14) kept (recursion_from_All (λ (one : KeptAtom). one.atom.align ≤ 14) kept low)) within
 
-pub same_plan : (command : Command) (libs : LibraryGraph) (files : List LoadedFile) (kept : List KeptAtom) (slots : Slots) (islands : IslandPlan) (atoms : List Atom) (sections : List OutSection) (size : ℕ) → atoms ≡ map atom_of kept → sections ≡ out_sections files atoms → size ≡ other_size no_parts command libs
+pub same_plan : (command : Command) (libs : LibraryGraph) (files : List LoadedFile) (kept : List KeptAtom) (slots : Slots) (islands : IslandPlan) (atoms : List Atom) (sections : List OutSection) (size : ℕ) → atoms ≡ map atom_of kept → sections ≡ out_sections files atoms → size ≡ other_size parts_there command libs
     → plan_of atoms sections slots islands (record { commands = size; unwind = 0 }) command ≡ plan_with command libs files kept slots islands
 unfolding plan_with
 same_plan command libs files kept slots islands atoms sections size a s z =

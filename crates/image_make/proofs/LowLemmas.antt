@@ -21,7 +21,7 @@ use Rattle.sect_place.specs.declared.part.Group.{Group}
 use Rattle.sect_place.specs.declared.part.Part.{Part}
 use Rattle.sect_place.proofs.Spread.{group_bounds, groups_after, parts_after}
 use Rattle.sect_list.proofs.Low.{appended}
-use Rattle.image_make.specs.Addresses.{AreLowPlaces}
+use Rattle.ref_meet.specs.Addresses.{AreLowPlaces}
 use Rattle.image_make.specs.Made.{IsLaid, ImageInputs, plan_for, plan_with}
 use Rattle.image_make.proofs.RoomLemmas.{base_small}
 use Rattle.image_make.proofs.Spots.{spot}

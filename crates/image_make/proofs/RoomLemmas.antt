@@ -20,7 +20,11 @@ use Rattle.sect_place.proofs.Sound.{groups_split, later_groups, whole_finished}
 use Rattle.sect_place.proofs.Spread.{group_bounds, groups_after}
 use Rattle.image_join.proofs.JoinedLemmas.{length-joined}
 use Rattle.image_make.specs.Atoms.{atom_of}
-use Rattle.image_make.specs.Made.{IsLaid, ImageInputs, blank_of, entry_offset, file_end, front_of, kept_of, no_parts, parts_of, plan_for, plan_with, sizes_of}
+use Rattle.image_make.specs.Made.{IsLaid, ImageInputs, blank, entry_offset, front_of, kept_of, plan_for, plan_with, sizes_of}
+use Rattle.image_make.specs.Flags.{bound_flags}
+use Rattle.image_make.specs.Parts.{blank_of, linkedit_address, linkedit_offset, parts_of, parts_there}
+use Rattle.fixup_chain.specs.declared.chains.Chains.{Chains}
+use Rattle.fixup_chain.specs.declared.chains.Fixup.{Fixup}
 use Rattle.image_make.specs.declared.kept.KeptAtom.{KeptAtom}
 
 -- ---- how many segments and sections there are
@@ -105,7 +109,7 @@ laid_by m kept layout is layout_of small = record {
   small = subst (λ (ks : List KeptAtom). image_size (plan_with m.command m.libs m.files ks m.slots m.islands) < 2 ^ 32) is small;
 }
 
-lead_is : (m : ImageInputs) → 32 + (other_size no_parts m.command m.libs + 72 * (length (plan_for m).groups + others_of m.command) + 80 * parts_count (plan_for m).groups) ≤ (plan_for m).lead
+lead_is : (m : ImageInputs) → 32 + (other_size parts_there m.command m.libs + 72 * (length (plan_for m).groups + others_of m.command) + 80 * parts_count (plan_for m).groups) ≤ (plan_for m).lead
 unfolding plan_with plan_of lead_of
 lead_is m = omega arith
 
@@ -120,55 +124,75 @@ lead_room m =
     subst (λ (gs : List Group). (plan.base + plan.lead ≤ groups_end plan.atoms plan.base plan.lead gs) × (plan.lead ≤ groups_file plan.atoms plan.base 0 plan.lead gs)) (sym (groups_split sections bytes)) (ends.0, omega (arith, ends.1))
 
 -- how many segments and sections there are, and how many bytes stand before the first section
-pub record HasCounts (m : ImageInputs) (layout : Layout) : Type 0 where
+pub record HasCounts (m : ImageInputs) (layout : Layout) (fixups : List Fixup) (chains : Chains) : Type 0 where
   pub segments : length layout.segments ≡ length (plan_for m).groups + others_of m.command
   pub sections : length layout.sections ≡ parts_count (plan_for m).groups
-  pub front : length (front_of m layout) ≡ 32 + (72 * length layout.segments + 80 * length layout.sections + other_size no_parts m.command m.libs)
-  pub room : length (front_of m layout) ≤ (plan_for m).lead
+  pub front : length (front_of m layout fixups chains) ≡ 32 + (72 * length layout.segments + 80 * length layout.sections + other_size parts_there m.command m.libs)
+  pub room : length (front_of m layout fixups chains) ≤ (plan_for m).lead
   pub small : (plan_for m).lead < 2 ^ 32
 
-pub counts : (m : ImageInputs) (layout : Layout) → IsLaid m layout → HasCounts m layout
-counts m layout laid =
+pub counts : (m : ImageInputs) (layout : Layout) (fixups : List Fixup) (chains : Chains) → IsLaid m layout → HasCounts m layout fixups chains
+counts m layout fixups chains laid =
     let segments : length layout.segments ≡ length (plan_for m).groups + others_of m.command = ap length laid.layout_of.segments ∙ segments_count m.command (plan_for m) in
     let sections : length layout.sections ≡ parts_count (plan_for m).groups = ap length laid.layout_of.sections ∙ sections_count (plan_for m) in
-    let front = commands_length layout (parts_of m.flags (entry_offset m layout)) m.command m.libs (whole_layout m layout laid) in
+    let front = commands_length layout (parts_of (m.flags + bound_flags fixups layout.sections) (entry_offset m layout) layout chains) m.command m.libs (whole_layout m layout laid) in
     let lead = lead_is m in
     let rooms = lead_room m in
     let small = laid.small in
     record { segments = segments; sections = sections; front = front; room = omega (arith, front, segments, sections, lead); small = omega (arith, rooms.0, small) }
 
--- ---- where it ends in the file
+-- ---- where it ends
 
 last_there : (xs : List Segment) (last : Segment) → slice_get (xs ++ last ∷ []) (length xs) ≡ Some last
 last_there [] last = refl
 last_there (x ∷ xs) last = last_there xs last
 
-end_is : (xs : List Segment) (last : Segment) → file_end (xs ++ last ∷ []) ≡ last.file_offset + last.file_size
-unfolding file_end
-end_is xs last =
+end_is : (f : Segment → ℕ) (xs : List Segment) (last : Segment) → option_map_or f (slice_get (xs ++ last ∷ []) (length (xs ++ last ∷ []) - 1)) 0 ≡ f last
+end_is f xs last =
     let long : length (xs ++ last ∷ []) - 1 ≡ length xs = omega (arith, length-append xs (last ∷ [])) in
-    ap (λ (n : ℕ). option_map_or (λ (s : Segment). s.file_offset + s.file_size) (slice_get (xs ++ last ∷ []) n) 0) long
-    ∙ ap (λ (o : Option Segment). option_map_or (λ (s : Segment). s.file_offset + s.file_size) o 0) (last_there xs last)
+    ap (λ (n : ℕ). option_map_or f (slice_get (xs ++ last ∷ []) n) 0) long
+    ∙ ap (λ (o : Option Segment). option_map_or f o 0) (last_there xs last)
 
-pub layout_end : (m : ImageInputs) (layout : Layout) → IsLaid m layout → file_end layout.segments ≡ groups_file (plan_for m).atoms (plan_for m).base 0 (plan_for m).lead (plan_for m).groups
-unfolding image_segments
+-- in the file
+pub layout_end : (m : ImageInputs) (layout : Layout) → IsLaid m layout → linkedit_offset layout.segments ≡ groups_file (plan_for m).atoms (plan_for m).base 0 (plan_for m).lead (plan_for m).groups
+unfolding image_segments linkedit_offset
 layout_end m layout laid =
     let plan = plan_for m in
     let last = linkedit (end_of_image plan) (groups_file plan.atoms plan.base 0 plan.lead plan.groups) in
-    let ends = ap file_end laid.layout_of.segments ∙ end_is (first_segments m.command ++ groups_segments plan.atoms plan.base 0 plan.lead plan.groups) last in
-    ends ∙ (omega arith)
+    ap (λ (ss : List Segment). option_map_or (λ (s : Segment). s.file_offset) (slice_get ss (length ss - 1)) 0) laid.layout_of.segments
+    ∙ end_is (λ (s : Segment). s.file_offset) (first_segments m.command ++ groups_segments plan.atoms plan.base 0 plan.lead plan.groups) last
 
-pub blank_long : (front : List ℕ) (layout : Layout) → length (blank_of front layout) ≡ file_end layout.segments
+-- and in memory
+pub memory_end : (m : ImageInputs) (layout : Layout) → IsLaid m layout → linkedit_address layout.segments ≡ end_of_image (plan_for m)
+unfolding image_segments linkedit_address
+memory_end m layout laid =
+    let plan = plan_for m in
+    let last = linkedit (end_of_image plan) (groups_file plan.atoms plan.base 0 plan.lead plan.groups) in
+    ap (λ (ss : List Segment). option_map_or (λ (s : Segment). s.address) (slice_get ss (length ss - 1)) 0) laid.layout_of.segments
+    ∙ end_is (λ (s : Segment). s.address) (first_segments m.command ++ groups_segments plan.atoms plan.base 0 plan.lead plan.groups) last
+
+pub blank_long : (m : ImageInputs) (layout : Layout) (fixups : List Fixup) (chains : Chains) → length (blank m layout fixups chains) ≡ linkedit_offset layout.segments + length chains.blob
 unfolding blank_of
-blank_long front layout = length-joined (record { size = file_end layout.segments; parts = record { from = 0; bytes = front } ∷ [] })
+blank_long m layout fixups chains = length-joined _
 
--- the header has room before the end, which is below 2^32
-pub front_room : (m : ImageInputs) (layout : Layout) → IsLaid m layout → (length (front_of m layout) ≤ file_end layout.segments) × (file_end layout.segments < 2 ^ 32)
+-- the header has room before `__LINKEDIT`, which begins below 2^32 in the file, and no farther there than in memory
+pub record HasRoomBefore (m : ImageInputs) (layout : Layout) : Type 0 where
+  pub lead : (plan_for m).lead ≤ linkedit_offset layout.segments
+  pub small : linkedit_offset layout.segments < 2 ^ 32
+  pub beside : (plan_for m).base + linkedit_offset layout.segments ≤ linkedit_address layout.segments
+  pub low : linkedit_address layout.segments < (plan_for m).base + 2 ^ 32
+
+pub front_room : (m : ImageInputs) (layout : Layout) → IsLaid m layout → HasRoomBefore m layout
 front_room m layout laid =
     let plan = plan_for m in
     let ends = layout_end m layout laid in
+    let memory = memory_end m layout laid in
     let rooms = lead_room m in
-    let count = counts m layout laid in
     let beside = file_beside plan.atoms plan.base 0 plan.lead plan.groups in
     let small = laid.small in
-    (omega (arith, ends, rooms.1, count.room), omega (arith, ends, beside, small, rooms.0))
+    record {
+      lead = omega (arith, ends, rooms.1);
+      small = omega (arith, ends, beside, small, rooms.0);
+      beside = omega (arith, ends, memory, beside);
+      low = omega (arith, memory, small);
+    }

@@ -124,6 +124,7 @@ pub record IsRowIn (m : ImageInputs) (layout : Layout) (row : PlacedWork) : Type
   pub solid : is_zerofill section.section.kind ≡ false
   pub kept : KeptAtom
   pub key : AtomKey
+  pub listed : In key section.section.atoms
   pub known : kept_at (kept_of m) key ≡ Some kept
   pub stood : address_in layout.placed row.atom.key ≡ Some row.address
   pub is : row_at section kept row.address ≡ row
@@ -149,6 +150,7 @@ row_in m layout row rising laid h =
       solid = solid_is (is_zerofill section.section.kind) passed.1;
       kept = one.kept;
       key = of_key.0;
+      listed = of_key.1;
       known = one.known;
       stood = subst (λ (k : AtomKey). address_in layout.placed k ≡ Some row.address) own (one.stood ∙ ap Some address);
       is = subst (λ (n : ℕ). row_at section one.kept n ≡ row) address one.is;

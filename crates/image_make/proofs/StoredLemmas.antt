@@ -3,7 +3,7 @@ use Rattle.std.proofs.Common.{◌≡◌, ℕ, ◌+◌, ◌-◌, ◌*◌, ◌≤�
 use Rattle.std.specs.List.{AllByRecursion, filter}
 use Rattle.std.proofs.lemmas.Bool.{cases_Bool, eqb-true, false≢true}
 use Rattle.std.proofs.lemmas.Nat.{pow-add}
-use Rattle.list_lemmas.proofs.Members.{In}
+use Rattle.list_lemmas.proofs.Members.{In, in_right}
 use Rattle.mo_types.specs.Whole.{is_zerofill}
 use Rattle.mo_types.specs.declared.atom.Atom.{Atom}
 use Rattle.mo_types.specs.declared.key.AtomKey.{AtomKey}
@@ -30,7 +30,7 @@ join : (at mid end : ℕ) (xs ys : List PlacedSection) → FileChain at xs mid �
 join at mid end [] ys first second = earlier at mid end ys first second
 join at mid end (x ∷ xs) ys first second = (first.0, join (x.file_offset + x.size) mid end xs ys first.1 second)
 
-filter_join : (t : PlacedSection → Bool) (xs ys : List PlacedSection) → filter t (xs ++ ys) ≡ filter t xs ++ filter t ys
+pub filter_join : (t : PlacedSection → Bool) (xs ys : List PlacedSection) → filter t (xs ++ ys) ≡ filter t xs ++ filter t ys
 filter_join t [] ys = refl
 filter_join t (x ∷ xs) ys = by (filter_join t xs ys) (t x) refl
   where
@@ -115,3 +115,33 @@ groups_chain atoms at file lead (group ∷ groups) stored =
     let here = parts_chain atoms at file (at + lead) (at + lead) (page_up (parts_filled atoms (at + lead) (at + lead) group.parts)) file group.parts stored.0.first stored.0.low (omega arith) (omega arith) (aligned_least 14 (at + lead)).enough (omega arith) (omega arith) in
     subst (λ (ss : List PlacedSection). FileChain file ss (groups_file atoms next past 0 groups)) (sym (filter_join has_bytes (parts_sections atoms at file (at + lead) group.parts) (groups_sections atoms next past 0 groups)))
     (join file past (groups_file atoms next past 0 groups) (filter has_bytes (parts_sections atoms at file (at + lead) group.parts)) (filter has_bytes (groups_sections atoms next past 0 groups)) here (groups_chain atoms next past 0 groups stored.1))
+
+-- the first one has its lead before all sections
+pub first_chain : (atoms : List AtomKey → List Atom) (at file lead : ℕ) (group : Group) (groups : List Group) → AllByRecursion (λ (g : Group). IsStored g.parts) (group ∷ groups) → FileChain (file + lead) (filter has_bytes (groups_sections atoms at file lead (group ∷ groups))) (groups_file atoms at file lead (group ∷ groups))
+unfolding groups_sections groups_file file_bytes
+first_chain atoms at file lead group groups stored =
+    let next = page_up (group_end atoms at lead group) in
+    let past = file + file_bytes atoms at lead group in
+    let here = parts_chain atoms at file (at + lead) (at + lead) (page_up (parts_filled atoms (at + lead) (at + lead) group.parts)) (file + lead) group.parts stored.0.first stored.0.low (omega arith) (omega arith) (aligned_least 14 (at + lead)).enough (omega arith) (omega arith) in
+    subst (λ (ss : List PlacedSection). FileChain (file + lead) ss (groups_file atoms next past 0 groups)) (sym (filter_join has_bytes (parts_sections atoms at file (at + lead) group.parts) (groups_sections atoms next past 0 groups)))
+    (join (file + lead) past (groups_file atoms next past 0 groups) (filter has_bytes (parts_sections atoms at file (at + lead) group.parts)) (filter has_bytes (groups_sections atoms next past 0 groups)) here (groups_chain atoms next past 0 groups stored.1))
+
+-- what is within such sections, and how two of them stand
+abbrev pub StandsBefore : PlacedSection → PlacedSection → Type 0
+StandsBefore p q = p.file_offset + p.size ≤ q.file_offset
+
+pub chain_within : (at end : ℕ) (ss : List PlacedSection) (p : PlacedSection) → FileChain at ss end → In p ss → (at ≤ p.file_offset) × (p.file_offset + p.size ≤ end)
+chain_within at end [] p chain h = absurd h
+chain_within at end (s ∷ ss) p chain (inl e) = subst (λ (q : PlacedSection). (at ≤ q.file_offset) × (q.file_offset + q.size ≤ end)) e (chain.0, chain_low (s.file_offset + s.size) end ss chain.1)
+  where
+    chain_low : (from last : ℕ) (xs : List PlacedSection) → FileChain from xs last → from ≤ last
+    chain_low from last [] low = low
+    chain_low from last (x ∷ xs) low = let rest = chain_low (x.file_offset + x.size) last xs low.1 in omega (arith, rest, low.0)
+chain_within at end (s ∷ ss) p chain (inr h) = let rest = chain_within (s.file_offset + s.size) end ss p chain.1 h in (omega (arith, rest.0, chain.0), rest.1)
+
+pub chain_turn : (at end : ℕ) (xs ys : List PlacedSection) (p q : PlacedSection) → FileChain at (xs ++ ys) end → In p xs → In q ys → StandsBefore p q
+chain_turn at end [] ys p q chain h k = absurd h
+chain_turn at end (x ∷ xs) ys p q chain (inl e) k =
+    let later = chain_within (x.file_offset + x.size) end (xs ++ ys) q chain.1 (in_right xs ys q k) in
+    subst (λ (z : PlacedSection). StandsBefore z q) e later.0
+chain_turn at end (x ∷ xs) ys p q chain (inr h) k = chain_turn (x.file_offset + x.size) end xs ys p q chain.1 h k

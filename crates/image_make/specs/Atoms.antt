@@ -1,16 +1,19 @@
 -- The atoms that an image keeps, as they are placed.
-use Rattle.std.specs.Prelude.{ℕ, ◌≤◌, All, List, map, Option}
-use Rattle.std.specs.List.{enumerate_from, filter, find, flat_map}
-use Rattle.std.specs.Option.{option_map_or}
+use Rattle.std.specs.Prelude.{ℕ, ◌≤◌, ◌==◌, ◌&&◌, ◌++◌, Bool, All, List, map, Option}
+use Rattle.std.specs.List.{enumerate_from, filter, filter_map, find, flat_map}
+use Rattle.std.specs.Option.{option_map, option_map_or}
 use Rattle.std.specs.List.Sorted.{IsStrictlySortedBy}
 use Rattle.std.specs.Ordering.{is_eq, on}
 use Rattle.mark_core.specs.Kept.{has}
-use Rattle.mo_types.specs.Keys.{compare_keys}
+use Rattle.mo_types.specs.Keys.{compare_files, compare_keys}
 use Rattle.mo_types.specs.declared.atom.Atom.{Atom}
 use Rattle.mo_types.specs.declared.key.AtomKey.{AtomKey}
+use Rattle.mo_types.specs.declared.key.FileId.{FileId}
+use Rattle.mo_types.specs.declared.key.TheConstants.{COMMON_SECTION}
 use Rattle.mo_types.specs.declared.loaded.LoadedFile.{LoadedFile}
 use Rattle.literal_merge.specs.Standing.{literal_at}
 use Rattle.literal_merge.specs.declared.representative.Representative.{Representative}
+use Rattle.symbol_winners.specs.declared.winner.Winner.{Winner}
 use Rattle.image_make.specs.declared.kept.KeptAtom.{KeptAtom}
 
 -- an atom with the alignment with which it is placed: a literal has the greatest of those for which it stands
@@ -21,17 +24,34 @@ raised literals atom = record {
   align = option_map_or (λ r. r.align) (literal_at literals atom.key) atom.align;
 }
 
+-- the atom of a winner that is a common symbol, of the greatest size and alignment of its name
+abbrev pub common_of : Winner → Atom
+common_of winner = record { key = winner.atom; size = winner.size; align = winner.align }
+
+-- that of a key
+unfoldable pub common_at : List Winner → AtomKey → Option Atom
+common_at winners key = option_map common_of (find (λ winner. is_eq (compare_keys winner.atom key)) winners)
+
+-- an atom of a common symbol of a file
+abbrev pub is_common_of : FileId → AtomKey → Bool
+is_common_of id key = key.section == COMMON_SECTION && is_eq (compare_files key.file id)
+
+-- those that are kept of a file
+unfoldable pub commons_in : List Winner → List AtomKey → FileId → List Atom
+commons_in winners keys id = filter_map (common_at winners) (filter (is_common_of id) keys)
+
 -- an atom of the file at a place
 abbrev pub kept_as : List Representative → ℕ → Atom → KeptAtom
 kept_as literals at atom = record { atom = raised literals atom; file = at }
 
--- the atoms that are kept of the file at a place
-unfoldable pub kept_in : List Representative → List AtomKey → ℕ × LoadedFile → List KeptAtom
-kept_in literals keys p = map (kept_as literals p.0) (filter (λ atom. has keys atom.key) p.1.atoms)
+-- the atoms that are kept of the file at a place: the pieces of its object, and then those of common symbols
+unfoldable pub kept_in : List Representative → List Winner → List AtomKey → ℕ × LoadedFile → List KeptAtom
+kept_in literals winners keys p =
+    map (kept_as literals p.0) (filter (λ atom. has keys atom.key) p.1.atoms ++ commons_in winners keys p.1.id)
 
 -- those of all files, file by file
-unfoldable pub kept_atoms : List Representative → List AtomKey → List LoadedFile → List KeptAtom
-kept_atoms literals keys files = flat_map (kept_in literals keys) (enumerate_from 0 files)
+unfoldable pub kept_atoms : List Representative → List Winner → List AtomKey → List LoadedFile → List KeptAtom
+kept_atoms literals winners keys files = flat_map (kept_in literals winners keys) (enumerate_from 0 files)
 
 abbrev pub atom_of : KeptAtom → Atom
 atom_of kept = kept.atom

@@ -10,6 +10,7 @@ inputs_of inputs = record {
   files = inputs.loaded.now.files;
   goals = goals_of inputs.goals.now;
   literals = inputs.symbols.now.literals;
+  winners = inputs.symbols.now.winners;
   keys = inputs.keys.now;
   flags = inputs.flags;
   entry = inputs.entry.now;

@@ -1,10 +1,10 @@
 pub mod Made
 pub mod inner
-pub mod Addresses
 pub mod Atoms
-pub mod AtomReferences
+pub mod Faults
+pub mod Flags
 pub mod Inputs
-pub mod Mets
 pub mod Near
+pub mod Parts
 pub mod Rows
 pub mod Whole

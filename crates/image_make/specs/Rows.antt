@@ -1,29 +1,15 @@
--- The atoms that have bytes in the image, with their places and references.
-use Rattle.std.specs.Prelude.{ℕ, ◌+◌, ◌-◌, Bool, not, List, [], Option, slice_get}
+-- The atoms that have bytes in the image, with their places.
+use Rattle.std.specs.Prelude.{ℕ, ◌+◌, ◌-◌, Bool, not, List, Option}
 use Rattle.std.specs.List.{filter, filter_map, flat_map}
-use Rattle.std.specs.Option.{option_and_then, option_map, option_map_or}
+use Rattle.std.specs.Option.{option_and_then, option_map}
 use Rattle.mo_types.specs.Whole.{is_zerofill}
-use Rattle.mo_types.specs.declared.goal.Goal.{Goal}
 use Rattle.mo_types.specs.declared.key.AtomKey.{AtomKey}
-use Rattle.mo_types.specs.declared.loaded.LoadedFile.{LoadedFile}
-use Rattle.patch.specs.declared.met.Met.{Met}
 use Rattle.patch.specs.declared.range.PlacedWork.{PlacedWork}
 use Rattle.sect_place.specs.declared.layout.Placed.{Placed}
 use Rattle.sect_place.specs.declared.layout.PlacedSection.{PlacedSection}
-use Rattle.image_make.specs.Addresses.{Addressing}
 use Rattle.sect_place.specs.Addresses.{address_in}
 use Rattle.image_make.specs.Atoms.{kept_at}
-use Rattle.image_make.specs.Mets.{mets_of}
 use Rattle.image_make.specs.declared.kept.KeptAtom.{KeptAtom}
-
--- the goals of the symbols of the file at a place
-abbrev pub goals_at : List (List Goal) → ℕ → List Goal
-goals_at goals at = option_map_or (λ some. some) (slice_get goals at) []
-
--- the references of a placed atom
-unfoldable pub kept_mets : Addressing → List LoadedFile → List (List Goal) → PlacedWork → List Met
-kept_mets scene files goals item =
-    option_map_or (λ file. mets_of scene (goals_at goals item.file) file.refs item.atom.key) (slice_get files item.file) []
 
 -- a kept atom that stands at an address, in a section of the image
 abbrev pub row_at : PlacedSection → KeptAtom → ℕ → PlacedWork

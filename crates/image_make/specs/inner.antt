@@ -1,5 +1,6 @@
+pub mod Commons
 pub mod Filled
 pub mod Kept
-pub mod Listed
-pub mod Orders
-pub mod Told
+pub mod Laid
+pub mod PartsReady
+pub mod Unfit

@@ -8,10 +8,13 @@ use std::alloc::{AllocError, AllocFailed};
 /// Why atoms have no image.
 #[derive(Debug, Drop)]
 pub enum MakeFault {
-    /// What stands before `__LINKEDIT` has 2^32 bytes or more.
+    /// What stands before `__LINKEDIT` has 2^32 bytes or more, or, where all values are in range, the whole image.
     Place(PlaceFault),
-    /// A value doesn't fit its field: the first one of the atom with the least key.
-    Range { atom: AtomKey, fault: RangeFault },
+    /// A value is out of range: the first one of the atom with the least key, or, before these, of a slot.
+    Range {
+        atom: Option<AtomKey>,
+        fault: RangeFault,
+    },
     /// Memory was asked for and refused.
     OutOfMemory,
 }

@@ -1,52 +1,30 @@
 //! A blank image, filled with its atoms.
-ghost use Rattle.std.specs.Prelude.{◌≡◌, ◌<◌, ◌≤◌, ◌^◌, All, IfOk, length};
-ghost use Rattle.image_make.specs.AtomReferences.{IsReady, met_by};
-ghost use Rattle.image_make.specs.Made as spec;
-ghost use Rattle.image_make.specs.inner.Filled.{IsFilled};
+ghost use Rattle.std.specs.Prelude.{◌≡◌, ◌<◌, ◌^◌, All, [], length};
+ghost use Rattle.image_make.specs.Parts as parts;
+ghost use Rattle.image_make.specs.inner.Filled.{IsFilled, IsTold};
 ghost use Rattle.patch.specs.Range.{AreWork, HasBytes};
-ghost use Rattle.sect_place.specs.Whole.{IsWholeSegment};
+ghost use Rattle.ref_meet.specs.Mets.{mets_of};
+ghost use Rattle.ref_meet.specs.Ready.{AreInOrder, IsReady, IsSound, met_by, scene_of};
+ghost use Rattle.ref_meet.specs.inner.Orders.{AreOrders};
 
 use crate::fault::MakeFault;
-use crate::meeting::AtomReferences;
-use image_join::{Part, PartList, Parts, PlacedAtoms, fill, join};
+use crate::parts::linkedit_offset;
+use fixup_chain::{ChainWord, Fixup};
+use image_join::{PlacedAtoms, fill};
 use mo_outside::Gate;
-use mo_types::{Bytes, OutOfMemory};
-use patch::PatchFault;
-use sect_place::{Layout, Segment};
+use mo_types::Bytes;
+use patch::{PatchFault, PlacedWork};
+use ref_meet::{AtomReferences, FileOrders, Scene};
 use std::alloc::Global;
 use std::thread::Threads;
 
-// Where the last segment ends in the file.
-#[tactic(auto, unfolding(crate::specs::Made::file_end))]
-fn file_end(segments: &[Segment]) -> u64
-    requires { All IsWholeSegment segments.now }
-    ensures { result ≡ spec.file_end segments.now }
-{
-    match segments.get(segments.len().saturating_sub(1)) {
-        Some(last) => last.file_offset + last.file_size,
-        None => 0,
-    }
-}
-
-/// An image with its header and load commands, and zeros behind them, to the end of the last segment.
-#[tactic(auto, unfolding(crate::specs::Made::blank_of))]
-pub(crate) fn blank_image(
-    alloc: Global,
-    layout: &Layout,
-    front: Bytes,
-) -> Result<Vec<u8>, OutOfMemory>
-    requires whole { All IsWholeSegment layout.now.segments }
-    requires room { length front ≤ spec.file_end layout.now.segments }
-    requires small { spec.file_end layout.now.segments < 2 ^ 32 }
-    ensures { IfOk result (λ blank. blank.items ≡ spec.blank_of front layout.now) }
-{
-    let size = file_end(layout.segments.as_slice());
-    let mut parts = PartList::new(alloc);
-    parts.push(Part {
-        from: 0,
-        bytes: front,
-    })?;
-    join(alloc, &Parts { size, parts })
+/// What is laid out: where everything stands, the atoms with bytes, and the pointers that the loader fills in.
+#[derive(Clone, Copy)]
+pub(crate) struct Laid<'a> {
+    pub scene: &'a Scene<'a>,
+    pub orders: &'a FileOrders,
+    pub work: &'a [PlacedWork],
+    pub fixups: &'a [Fixup],
 }
 
 // Each element of a slice of bytes is one.
@@ -64,9 +42,9 @@ fn have_bytes(atoms: &PlacedAtoms<AtomReferences>, image: &[u8])
     are_bytes(image);
 }
 
-/// An image with its atoms, which stand one behind the other, each with the fields of its references, written by so many
-/// workers.
-pub(crate) fn fill_image<R: Threads + Sync, G: Gate + Sync>(
+// An image with its atoms, which stand one behind the other, each with the fields of its references, written by so many
+// workers.
+fn fill_image<R: Threads + Sync, G: Gate + Sync>(
     rt: &R,
     alloc: Global,
     gate: &G,
@@ -85,7 +63,55 @@ pub(crate) fn fill_image<R: Threads + Sync, G: Gate + Sync>(
             have_bytes(atoms, image.as_slice());
             Ok(image)
         }
-        Err(PatchFault::Range { atom, fault }) => Err(MakeFault::Range { atom, fault }),
+        Err(PatchFault::Range { atom, fault }) => Err(MakeFault::Range {
+            atom: Some(atom),
+            fault,
+        }),
         Err(PatchFault::OutOfMemory) => Err(MakeFault::OutOfMemory),
     }
+}
+
+/// An image with its atoms, where pointers have these words.
+pub(crate) fn fill_laid<R: Threads + Sync, G: Gate + Sync>(
+    rt: &R,
+    alloc: Global,
+    gate: &G,
+    workers: u32,
+    laid: &Laid,
+    words: &[ChainWord],
+    blank: Vec<u8>,
+) -> Result<Bytes, MakeFault>
+    requires sound { IsSound (scene_of laid.now.scene.now) }
+    requires orders { AreOrders laid.now.scene.now.loaded.now.files laid.now.orders.now }
+    requires words { AreInOrder words.now }
+    requires work { AreWork laid.now.scene.now.loaded.now.files (mets_of (scene_of laid.now.scene.now) words.now) 0 (length blank.items) laid.now.work.now }
+    ensures { IsFilled laid.now.scene.now.loaded.now.files (mets_of (scene_of laid.now.scene.now) words.now) laid.now.work.now blank.items result }
+{
+    let meets = AtomReferences::of(alloc, laid.scene, laid.orders, words)?;
+    let atoms = PlacedAtoms {
+        work: laid.work,
+        loaded: laid.scene.loaded,
+        meeting: &meets,
+    };
+    fill_image(rt, alloc, gate, workers, &atoms, blank)
+}
+
+/// Whether all fields can hold their values, but for pointers', or the first value that is out of range. They are written
+/// into zeros for this, as many as the image has bytes before `__LINKEDIT`: it is asked for where there is no image.
+pub(crate) fn told_fault<R: Threads + Sync, G: Gate + Sync>(
+    rt: &R,
+    alloc: Global,
+    gate: &G,
+    workers: u32,
+    laid: &Laid,
+) -> Result<(), MakeFault>
+    requires sound { IsSound (scene_of laid.now.scene.now) }
+    requires orders { AreOrders laid.now.scene.now.loaded.now.files laid.now.orders.now }
+    requires work { AreWork laid.now.scene.now.loaded.now.files (mets_of (scene_of laid.now.scene.now) []) 0 (parts.linkedit_offset laid.now.scene.now.layout.now.segments) laid.now.work.now }
+    ensures { IsTold laid.now.scene.now.loaded.now.files (mets_of (scene_of laid.now.scene.now) []) laid.now.work.now result }
+{
+    let size = linkedit_offset(laid.scene.layout.segments.as_slice());
+    let zeros = vec![in alloc; 0u8; size as usize]?;
+    let _image = fill_laid(rt, alloc, gate, workers, laid, &[], zeros)?;
+    Ok(())
 }

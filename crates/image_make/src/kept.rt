@@ -5,7 +5,9 @@ ghost use Rattle.std.specs.List.Sorted.{IsStrictlySortedBy};
 ghost use Rattle.mark_core.specs.Kept.{has};
 ghost use Rattle.mo_types.specs.Keys.{compare_keys};
 ghost use Rattle.image_make.specs.Atoms as spec;
+ghost use Rattle.image_make.specs.inner.Commons.{all_commons};
 
+use crate::commons::{commons_of, kept_commons};
 use mark_core::is_kept_near;
 use mo_types::{Atom, AtomKey, AtomList, KeyList, Loaded, LoadedFile, OutOfMemory};
 use std::alloc::Global;
@@ -128,22 +130,40 @@ fn with_atoms(
     Ok(kept)
 }
 
-// Kept atoms, and those among some of the file at a place.
+// Kept atoms, and those of common symbols.
+#[tactic(auto, using(crate::proofs::KeptLemmas::commons))]
+fn with_commons(
+    before: Vec<Atom>,
+    symbols: &SymbolTable,
+    commons: &[Atom],
+) -> Result<Vec<Atom>, OutOfMemory>
+    ensures { IfOk result (λ new. new.items ≡ before.items ++ map (spec.raised symbols.now.literals) commons.now) }
+{
+    let mut kept = before;
+    for atom in commons {
+        kept.push(raised(symbols, *atom))?;
+    }
+    Ok(kept)
+}
+
+// Kept atoms, and those among some of the file at a place, and of common symbols.
 fn with_file(
     before: KeptList,
     symbols: &SymbolTable,
     keys: &[AtomKey],
     at: usize,
-    atoms: &[Atom],
+    file: &LoadedFile,
+    commons: &[Atom],
 ) -> Result<KeptList, OutOfMemory>
     requires { IsStrictlySortedBy compare_keys keys.now }
-    ensures { IfOk result (λ new. new ≡ before ++ map (spec.kept_as symbols.now.literals at) (filter (λ atom. has keys.now atom.key) atoms.now)) }
+    ensures { IfOk result (λ new. new ≡ before ++ map (spec.kept_as symbols.now.literals at) (filter (λ atom. has keys.now atom.key) file.now.atoms ++ commons.now)) }
 {
     let KeptList {
         atoms: kept,
         mut files,
     } = before;
-    let kept = with_atoms(kept.into_vec(), symbols, keys, atoms)?;
+    let kept = with_atoms(kept.into_vec(), symbols, keys, file.atoms.as_slice())?;
+    let kept = with_commons(kept, symbols, commons)?;
     files.resize(kept.len(), at)?;
     Ok(KeptList {
         atoms: AtomList::from_vec(kept),
@@ -158,19 +178,22 @@ fn kept_of(
     files: &[LoadedFile],
     symbols: &SymbolTable,
     keys: &[AtomKey],
+    commons: &[Atom],
 ) -> Result<KeptList, OutOfMemory>
-    requires { IsStrictlySortedBy compare_keys keys.now }
-    ensures { IfOk result (λ kept. kept ≡ spec.kept_atoms symbols.now.literals keys.now files.now) }
+    requires keys { IsStrictlySortedBy compare_keys keys.now }
+    requires commons { commons.now ≡ all_commons symbols.now.winners keys.now }
+    ensures { IfOk result (λ kept. kept ≡ spec.kept_atoms symbols.now.literals symbols.now.winners keys.now files.now) }
 {
     let mut kept = KeptList::with_capacity(alloc, keys.len())?;
     for (at, file) in files.iter().enumerate() {
-        kept = with_file(kept, symbols, keys, at, file.atoms.as_slice())?;
+        let own = commons_of(commons, file.id);
+        kept = with_file(kept, symbols, keys, at, file, own)?;
     }
     Ok(kept)
 }
 
-/// The atoms of loaded files whose keys are kept, file by file and in each as it is cut, with the alignments with which
-/// they are placed: a literal has the greatest of those for which it stands.
+/// The atoms of loaded files whose keys are kept, file by file: in each as it is cut, and then those of common symbols, of
+/// the greatest size and alignment of their names. A literal has the greatest alignment of those for which it stands.
 pub fn kept_atoms(
     alloc: Global,
     loaded: &Loaded,
@@ -178,7 +201,15 @@ pub fn kept_atoms(
     keys: &KeyList,
 ) -> Result<KeptList, OutOfMemory>
     requires { IsStrictlySortedBy compare_keys keys.now }
-    ensures { IfOk result (λ kept. kept ≡ spec.kept_atoms symbols.now.literals keys.now loaded.now.files) }
+    ensures { IfOk result (λ kept. kept ≡ spec.kept_atoms symbols.now.literals symbols.now.winners keys.now loaded.now.files) }
 {
-    kept_of(alloc, loaded.files.as_slice(), symbols, keys.as_slice())
+    let keys = keys.as_slice();
+    let commons = kept_commons(alloc, symbols.winners(), keys)?;
+    kept_of(
+        alloc,
+        loaded.files.as_slice(),
+        symbols,
+        keys,
+        commons.as_slice(),
+    )
 }

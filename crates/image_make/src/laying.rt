@@ -3,6 +3,8 @@ ghost use Rattle.std.specs.Prelude.{◌≡◌, ◌<◌, ◌^◌, IfErr, IfOk};
 ghost use Rattle.std.specs.List.{AllPairs};
 ghost use Rattle.sect_place.specs.Addresses.{AreOnce};
 ghost use Rattle.image_make.specs.Atoms.{AreLow, AreRising};
+ghost use Rattle.image_make.specs.Parts as parts;
+ghost use Rattle.image_make.specs.inner.Filled.{IsPlanFault};
 ghost use Rattle.mo_types.specs.Loaded.{IsBefore};
 ghost use Rattle.mo_types.specs.declared.loaded.LoadedFile.{LoadedFile};
 ghost use Rattle.sect_place.specs.Layout.{IsLayoutOf, image_size};
@@ -20,9 +22,9 @@ use sect_place::{IslandPlan, Layout, PlaceFault, PlaceSizes, place};
 use slot_plan::Slots;
 use std::alloc::Global;
 
-/// No part of `__LINKEDIT` is there yet.
-pub(crate) const NO_PARTS: PartKinds = PartKinds {
-    fixups: false,
+/// Which parts of `__LINKEDIT` are there: exports, symbols, the UUID and the signature come with a later version.
+pub(crate) const PARTS_THERE: PartKinds = PartKinds {
+    fixups: true,
     trie: false,
     symbols: false,
     uuid: false,
@@ -47,12 +49,12 @@ pub(crate) fn lay_out(
     ensures small { IfOk result (λ layout. image_size (spec.plan_with command.now libs.now loaded.now.files kept.now slots.now islands.now) < 2 ^ 32) }
     ensures whole { IfOk result IsWholeLayout }
     ensures once { IfOk result (λ layout. AreOnce layout.placed) }
-    ensures fault { IfErr result (spec.IsSizeFault (spec.plan_with command.now libs.now loaded.now.files kept.now slots.now islands.now)) }
+    ensures fault { IfErr result (IsPlanFault (spec.plan_with command.now libs.now loaded.now.files kept.now slots.now islands.now)) }
 {
     let atoms = kept.atoms();
     let sections = out_sections(alloc, loaded, atoms)?;
     let sizes = PlaceSizes {
-        commands: other_size(NO_PARTS, command, libs),
+        commands: other_size(PARTS_THERE, command, libs),
         unwind: 0,
     };
     match place(alloc, atoms, &sections, slots, islands, &sizes, command) {

@@ -1,26 +1,34 @@
 //! The image of the atoms that are kept.
+ghost use Rattle.std.specs.Prelude.{◌≡◌, ◌+◌, ◌<◌, ◌≤◌, ◌^◌, Err, length, pos};
 ghost use Rattle.std.specs.List.Sorted.{IsStrictlySortedBy};
+ghost use Rattle.fixup_chain.specs.Chained.{AreChains, AreMany, IsCause};
 ghost use Rattle.image_make.specs.Atoms.{AreLow, AreRising};
 ghost use Rattle.image_make.specs.Inputs.{inputs_of};
+ghost use Rattle.image_make.specs.Made.{IsMade, binds_of, kept_of};
+ghost use Rattle.image_make.specs.Near.{AreNear};
+ghost use Rattle.image_make.specs.Parts as parts;
+ghost use Rattle.image_make.specs.inner.Laid.{IsEncoded, IsLaidOut, IsSized};
 ghost use Rattle.mo_types.specs.Keys.{compare_keys};
 ghost use Rattle.mo_types.specs.Loaded.{IsWholeLoaded};
-ghost use Rattle.image_make.specs.Made.{IsMade, kept_of};
-ghost use Rattle.image_make.specs.Near.{AreNear};
 
 use crate::fault::MakeFault;
-use crate::filling::{blank_image, fill_image};
+use crate::filling::{Laid, fill_laid, told_fault};
+use crate::flags::bound_flags;
 use crate::front::{base_of, front_of};
 use crate::kept::kept_atoms;
 use crate::laying::lay_out;
-use crate::meeting::AtomReferences;
+use crate::parts::{blank_image, linkedit_address};
 use crate::rows::work_of;
+use crate::unfit::{PointerFault, first_fault};
 use command_line::Command;
-use image_join::PlacedAtoms;
+use fixup_chain::{ChainFault, Chains, encode};
 use lib_bind::Libraries;
 use mo_outside::Gate;
 use mo_types::{Bytes, Goal, KeyList, Loaded};
+use patch::RangeFault;
+use ref_meet::{Scene, fixups_of, orders_of};
 use resolve::GoalTable;
-use sect_place::IslandPlan;
+use sect_place::{IslandPlan, PlaceFault};
 use slot_plan::Slots;
 use std::alloc::Global;
 use std::thread::Threads;
@@ -37,7 +45,7 @@ pub struct ImageInputs<'a> {
     pub goals: &'a GoalTable,
     /// The atoms that are kept, by rising key.
     pub keys: &'a KeyList,
-    /// The header's flags (`loader.h`: MH_NOUNDEFS and its kin).
+    /// The header's flags but for those that its pointers and sections tell (`loader.h`: MH_DYLDLINK and its kin).
     pub flags: u32,
     /// Where the program begins.
     pub entry: &'a Goal,
@@ -45,10 +53,154 @@ pub struct ImageInputs<'a> {
     pub islands: &'a IslandPlan,
 }
 
-/// The image of the atoms that are kept: its header with the load commands, and each atom at its place, with the fields of
-/// its references, written by so many workers; or why there is none. Everything stands in one
-/// allocation, in which each byte of an object is written once. The entry and what references lead to are to lie within
-/// 2^63 bytes of the start of their atoms: these stand below 2^33 in an image, so that each address has 64 bits.
+/// An image has fewer bytes than these.
+const IMAGE_SIZE: u64 = 1 << 32;
+
+// A number of bytes with those behind them.
+fn with_bytes(size: u64, bytes: &[u8]) -> u64
+    requires { size < 2 ^ 63 }
+    ensures { result ≡ size + length bytes.now }
+{
+    size + bytes.len() as u64
+}
+
+// The bytes of an image with these chains.
+fn whole_size(laid: &Laid, chains: &Chains) -> u64
+    requires { IsSized laid.now }
+    ensures { result ≡ parts.whole_size laid.now.scene.now.base laid.now.scene.now.layout.now chains.now }
+{
+    let end = linkedit_address(laid.scene.layout.segments.as_slice());
+    with_bytes(end.saturating_sub(laid.scene.base), chains.blob.as_slice())
+}
+
+// An image would have so many bytes.
+fn size_fault(size: u64) -> MakeFault
+    ensures { result ≡ MakeFault.Place (PlaceFault.ImageSize (pos size)) }
+{
+    MakeFault::Place(PlaceFault::ImageSize {
+        value: i128::from(size),
+    })
+}
+
+// Why there is no image that is as large as these chains make it: a value is out of range, or else its size.
+fn overlong<R: Threads + Sync, G: Gate + Sync>(
+    rt: &R,
+    alloc: Global,
+    gate: &G,
+    threads: u32,
+    inputs: &ImageInputs,
+    laid: &Laid,
+    chains: &Chains,
+) -> MakeFault
+    requires laid { IsLaidOut (inputs_of inputs.now) laid.now }
+    requires chains { AreChains laid.now.scene.now.layout.now laid.now.fixups.now chains.now }
+    requires long { 2 ^ 32 ≤ parts.whole_size laid.now.scene.now.base laid.now.scene.now.layout.now chains.now }
+    ensures { IsMade (inputs_of inputs.now) (Err result) }
+{
+    let _ = inputs;
+    match told_fault(rt, alloc, gate, threads, laid) {
+        Ok(()) => size_fault(whole_size(laid, chains)),
+        Err(fault) => fault,
+    }
+}
+
+// The image with these chains, which has fewer than 2^32 bytes.
+fn image_with<R: Threads + Sync, G: Gate + Sync>(
+    rt: &R,
+    alloc: Global,
+    gate: &G,
+    threads: u32,
+    inputs: &ImageInputs,
+    laid: &Laid,
+    chains: Chains,
+) -> Result<Bytes, MakeFault>
+    requires laid { IsLaidOut (inputs_of inputs.now) laid.now }
+    requires chains { AreChains laid.now.scene.now.layout.now laid.now.fixups.now chains }
+    requires few { parts.whole_size laid.now.scene.now.base laid.now.scene.now.layout.now chains < 2 ^ 32 }
+    ensures { IsMade (inputs_of inputs.now) result }
+{
+    let layout = laid.scene.layout;
+    let flags = inputs.flags + bound_flags(laid.fixups, layout.sections.as_slice());
+    let front = front_of(
+        alloc,
+        inputs.command,
+        inputs.libs,
+        laid.scene,
+        &chains,
+        flags,
+        inputs.entry,
+    )?;
+    let Chains { words, blob } = chains;
+    let words = words.as_slice();
+    let blank = blank_image(alloc, layout, inputs.slots, words, blob, front)?;
+    fill_laid(rt, alloc, gate, threads, laid, words, blank)
+}
+
+// Why there is no image where pointers have no chains.
+fn refused<R: Threads + Sync, G: Gate + Sync>(
+    rt: &R,
+    alloc: Global,
+    gate: &G,
+    threads: u32,
+    inputs: &ImageInputs,
+    laid: &Laid,
+    why: ChainFault,
+) -> MakeFault
+    requires laid { IsLaidOut (inputs_of inputs.now) laid.now }
+    requires cause { IsCause laid.now.scene.now.layout.now laid.now.fixups.now why }
+    ensures { IsMade (inputs_of inputs.now) (Err result) }
+{
+    match why {
+        ChainFault::Range {
+            atom,
+            place,
+            kind,
+            value,
+        } => {
+            let fault = RangeFault {
+                file_place: place,
+                kind,
+                value,
+            };
+            let pointer = PointerFault { atom, fault };
+            first_fault(rt, alloc, gate, threads, inputs, laid, pointer)
+        }
+        ChainFault::Limit(_) => unreachable!(),
+        ChainFault::OutOfMemory => MakeFault::OutOfMemory,
+    }
+}
+
+// The image of what is laid out, or why there is none.
+fn image_of<R: Threads + Sync, G: Gate + Sync>(
+    rt: &R,
+    alloc: Global,
+    gate: &G,
+    threads: u32,
+    inputs: &ImageInputs,
+    laid: &Laid,
+    chains: Result<Chains, ChainFault>,
+) -> Result<Bytes, MakeFault>
+    requires laid { IsLaidOut (inputs_of inputs.now) laid.now }
+    requires chains { IsEncoded laid.now.scene.now.layout.now laid.now.fixups.now chains }
+    ensures { IsMade (inputs_of inputs.now) result }
+{
+    match chains {
+        Ok(chains) => {
+            if whole_size(laid, &chains) < IMAGE_SIZE {
+                image_with(rt, alloc, gate, threads, inputs, laid, chains)
+            } else {
+                Err(overlong(rt, alloc, gate, threads, inputs, laid, &chains))
+            }
+        }
+        Err(why) => Err(refused(rt, alloc, gate, threads, inputs, laid, why)),
+    }
+}
+
+/// The image of the atoms that are kept: its header with the load commands, stubs, slots, each atom at its place with the
+/// fields of its references, and the chains of pointers that the loader fills in, written by so many workers; or why there is
+/// none. Everything stands in one allocation, in which each byte of an object is written once. There are to be fewer than
+/// 2^24 imports. The entry and what references lead to are to lie within 2^63 bytes of the start of their atoms: these stand
+/// below 2^33 in an image, so that each address has 64 bits.
 pub fn make_image<R: Threads + Sync, G: Gate + Sync>(
     rt: &R,
     alloc: Global,
@@ -61,6 +213,8 @@ pub fn make_image<R: Threads + Sync, G: Gate + Sync>(
     requires rising { AreRising (kept_of (inputs_of inputs.now)) }
     requires low { AreLow (kept_of (inputs_of inputs.now)) }
     requires near { AreNear (inputs_of inputs.now) }
+    requires flags { inputs.now.flags < 2 ^ 31 }
+    requires few { ¬ AreMany (binds_of (inputs_of inputs.now)) }
     ensures { IsMade (inputs_of inputs.now) result }
 {
     let kept = kept_atoms(alloc, inputs.loaded, inputs.symbols, inputs.keys)?;
@@ -73,29 +227,24 @@ pub fn make_image<R: Threads + Sync, G: Gate + Sync>(
         inputs.slots,
         inputs.islands,
     )?;
-    let front = front_of(
-        alloc,
-        inputs.command,
-        inputs.libs,
-        &layout,
-        inputs.flags,
-        inputs.entry,
-    )?;
     let work = work_of(alloc, &kept, &layout)?;
     drop(kept);
-    let blank = blank_image(alloc, &layout, front)?;
-    let meets = AtomReferences::of(
-        alloc,
-        inputs.loaded,
-        inputs.symbols,
-        inputs.goals,
-        &layout,
-        base_of(inputs.command),
-    )?;
-    let atoms = PlacedAtoms {
-        work: work.as_slice(),
+    let orders = orders_of(alloc, inputs.loaded.files.as_slice())?;
+    let scene = Scene {
         loaded: inputs.loaded,
-        meeting: &meets,
+        goals: inputs.goals,
+        symbols: inputs.symbols,
+        layout: &layout,
+        slots: inputs.slots,
+        base: base_of(inputs.command),
     };
-    fill_image(rt, alloc, gate, threads, &atoms, blank)
+    let fixups = fixups_of(alloc, &scene, &orders, work.as_slice())?;
+    let laid = Laid {
+        scene: &scene,
+        orders: &orders,
+        work: work.as_slice(),
+        fixups: fixups.as_slice(),
+    };
+    let chains = encode(alloc, &fixups, &layout);
+    image_of(rt, alloc, gate, threads, inputs, &laid, chains)
 }

@@ -2,15 +2,14 @@
 ghost use Rattle.std.specs.Prelude.{◌≡◌, ◌+◌, ◌-◌, ◌≤◌, ◌++◌, ◌∷◌, [], All, IfOk, IsTrue, slice_get};
 ghost use Rattle.std.specs.List.{filter_map};
 ghost use Rattle.std.specs.Option.{option_map, option_to_list};
-ghost use Rattle.sect_place.specs.Addresses.{AreOnce};
+ghost use Rattle.sect_place.specs.Addresses.{AreOnce, address_in};
 ghost use Rattle.image_make.specs.Atoms.{AreRising, kept_at};
 ghost use Rattle.image_make.specs.Rows as spec;
 
-use crate::addresses::address_beside;
 use crate::kept::{KeptAtom, KeptList};
 use mo_types::{AtomKey, OutOfMemory, compare_atoms};
 use patch::PlacedWork;
-use sect_place::{Layout, PlacedSection, is_zerofill};
+use sect_place::{Layout, PlacedSection, address_near, is_zerofill};
 use std::alloc::Global;
 
 // A kept atom, and its place in the list.
@@ -61,6 +60,14 @@ fn find_near(atoms: &KeptList, near: usize, key: AtomKey) -> Option<PlacedKept>
         }
     }
     find_kept(atoms, key)
+}
+
+// The address of an atom, which mostly stands at a place of the list of addresses.
+fn address_beside(layout: &Layout, near: usize, atom: AtomKey) -> Option<u64>
+    requires { AreOnce layout.now.placed }
+    ensures { result ≡ address_in layout.now.placed atom }
+{
+    address_near(layout, near, atom)
 }
 
 // Where an address of a section stands in the file.

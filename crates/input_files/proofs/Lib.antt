@@ -1,7 +1,6 @@
 pub mod CollectedLemmas
 pub mod EachLemmas
 pub mod FileLemmas
-pub mod FormLemmas
 pub mod GatherLemmas
 pub mod PlaceLemmas
 pub mod ReadLemmas

@@ -23,6 +23,7 @@ use Rattle.mo_ar.specs.Text.{part}
 use Rattle.mo_ar.specs.declared.archive.Archive.{Archive}
 use Rattle.mo_ar.specs.declared.member.Member.{Member}
 use Rattle.mo_obj.specs.Object.{object_of}
+use Rattle.reader_laws.specs.Facts.{IsLowCommon}
 use Rattle.unwind_read.specs.Unwinds.{unwinds_of}
 use Rattle.input_files.specs.Form.{is_later}
 use Rattle.input_files.specs.declared.fault.LoadFault.{LoadFault}
@@ -123,9 +124,11 @@ read_as id label bytes = read_by (kind_of bytes) id label bytes >>= in_form
 unfoldable pub file_of : List Input → FileId → Result LoadedFile LoadFault
 file_of inputs id = read_as id (content_of inputs id).label (content_of inputs id).bytes
 
--- no atom is aligned to more than a page of 2^14 bytes
-abbrev pub HasLowAtoms : LoadedFile → Type 0
-HasLowAtoms file = All (λ atom. atom.align ≤ 14) file.atoms
+-- it has at most 255 sections, and no atom and no common symbol is aligned to more than a page of 2^14 bytes
+pub record IsLow (file : LoadedFile) : Type 0 where
+  pub sections : length file.object.sections ≤ 255
+  pub atoms : All (λ atom. atom.align ≤ 14) file.atoms
+  pub commons : All (λ symbol. IsLowCommon symbol.kind) file.object.symbols
 
 -- a fault that files have
 abbrev pub IsLoadFault : LoadFault → Type 0

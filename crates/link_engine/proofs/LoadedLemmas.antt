@@ -26,20 +26,19 @@ use Rattle.mo_obj.proofs.ReadLemmas.{bind_ok}
 use Rattle.mo_obj.specs.Read.{AreBytes, IsRead}
 use Rattle.mo_obj.specs.Relocations.{relocations_of}
 use Rattle.lib_bind.specs.declared.library.LibraryGraph.{LibraryGraph}
-use Rattle.input_files.specs.Files.{HasLowAtoms, all_ids, content_of, file_of, is_first, or_none}
-use Rattle.input_files.specs.Form.{is_later}
+use Rattle.input_files.specs.Files.{IsLow, all_ids, content_of, file_of, is_first, or_none}
 use Rattle.member_rounds.specs.Growth.{union}
 use Rattle.member_rounds.specs.Rounds.{asks, loaded_ids, loaded_of}
 use Rattle.input_files.specs.declared.input.Input.{Input}
 use Rattle.member_rounds.proofs.AnswerLemmas.{loaded_only}
 use Rattle.input_files.proofs.FileLemmas.{few_ids}
-use Rattle.member_rounds.proofs.LowLemmas.{IsObjectOf, form_is, low_at, object_at}
+use Rattle.member_rounds.proofs.LowLemmas.{IsObjectOf, low_at, object_at}
 use Rattle.input_files.proofs.EachLemmas.{all_from}
 use Rattle.member_rounds.proofs.WorkLemmas.{from_all}
 use Rattle.link_files.proofs.KeptLemmas.{IsCut}
 use Rattle.link_engine.proofs.ValueLemmas.{no_value, same_value}
 use Rattle.link_engine.proofs.PartLemmas.{HaveBytes, content_bytes}
-use Rattle.link_files.specs.Linked.{AreCut, AreLow, AreReferred}
+use Rattle.link_files.specs.Linked.{AreCut, AreReferred}
 use Rattle.image_make.specs.Whole.{AreBytesIn}
 
 -- ---- an object
@@ -79,10 +78,6 @@ file_whole inputs id file few bytes is =
       unwinds = tt;
     })
 
-file_formed : (inputs : List Input) (id : FileId) (file : LoadedFile) → file_of inputs id ≡ Ok file → is_later file ≡ false
-unfolding file_of
-file_formed inputs id file is = form_is id (content_of inputs id).label (content_of inputs id).bytes file is
-
 abbrev HasByteSections : LoadedFile → Type 0
 HasByteSections file = All (λ (section : Section). All (λ byte. byte < 256) section.bytes) file.object.sections
 
@@ -108,20 +103,23 @@ module _ (inputs : List Input) (libs : LibraryGraph) (wanted : List (List ℕ)) 
       let from = loaded_only inputs libs wanted loaded file is (Contains_from_in loaded.files file there) in
       holds from.0 file (from_all (all_ids inputs) (is_first inputs) (asks inputs libs wanted) (length (all_ids inputs)) from.0 (in_from_Contains (loaded_ids inputs libs wanted) from.0 from.1)) from.2)
 
+  -- what holds of each object that is read holds of theirs
+  pub loaded_objects : (P : Object → Type 0) → ((bytes : List ℕ) (object : Object) → object_of bytes ≡ Ok object → P object) → All (λ (file : LoadedFile). P file.object) loaded.files
+  loaded_objects P holds = each_loaded (λ (file : LoadedFile). P file.object) (λ id file among read.
+      let of = object_at inputs id file read in
+      subst (λ (f : LoadedFile). P f.object) (sym of.is) (holds (content_of inputs id).bytes of.object of.read))
+
   pub loaded_cut : AreCut loaded.files
   loaded_cut = each_loaded IsCut (λ id file among read. subst IsCut (sym (object_at inputs id file read).is) refl)
 
   pub loaded_referred : AreReferred loaded.files
   loaded_referred = each_loaded IsReferred (λ id file among read. subst IsReferred (sym (object_at inputs id file read).is) refl)
 
-  pub loaded_formed : All (λ (file : LoadedFile). is_later file ≡ false) loaded.files
-  loaded_formed = each_loaded (λ (file : LoadedFile). is_later file ≡ false) (λ id file among read. file_formed inputs id file read)
-
   pub loaded_whole : HaveBytes inputs → All IsWholeFile loaded.files
   loaded_whole are = each_loaded IsWholeFile (λ id file among read. file_whole inputs id file (few_ids inputs id among) (content_bytes inputs id are) read)
 
-  pub loaded_low : AreLow loaded.files
-  loaded_low = each_loaded HasLowAtoms (λ id file among read. low_at inputs id file read)
+  pub loaded_low : All IsLow loaded.files
+  loaded_low = each_loaded IsLow (λ id file among read. low_at inputs id file read)
 
   pub loaded_bytes : HaveBytes inputs → AreBytesIn loaded.files
   loaded_bytes are = each_loaded HasByteSections (λ id file among read. file_bytes inputs id file (content_bytes inputs id are) read)

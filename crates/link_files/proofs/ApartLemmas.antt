@@ -1,166 +1,280 @@
--- No two atoms that are written into an image have one key.
-use Rattle.std.proofs.Common.{◌≡◌, ◌≢◌, ℕ, ◌+◌, ◌⊎◌, Bool, true, false, List, [], ◌∷◌, ◌++◌, map, Option, Some, None, inl, inr, refl, sym, ap, ap₂, subst, ◌∙◌, arith}
-use Rattle.std.specs.List.{AllPairs, filter, filter_map, flat_map}
-use Rattle.std.specs.List.Sorted.{IsStrictlySortedBy}
-use Rattle.std.specs.Ordering.{is_eq, on}
-use Rattle.std.specs.declared.cmp.Ordering.{Ordering}
-use Rattle.std.specs.declared.cmp.Ordering.TheVariants.{Equal, Greater, Less}
-use Rattle.std.proofs.lemmas.List.Kept.{AllPairs-cons}
-use Rattle.std.proofs.lemmas.List.Elements.{All-from_recursion}
-use Rattle.list_lemmas.proofs.Members.{In, all_from_in, find_some, in_map}
-use Rattle.sect_place.specs.Addresses.{address_in}
-use Rattle.image_make.specs.Atoms.{atom_of, kept_at}
-use Rattle.image_make.specs.Rows.{has_bytes, row_at, row_of, rows, section_rows}
-use Rattle.image_make.specs.declared.kept.KeptAtom.{KeptAtom}
-use Rattle.image_make.specs.Made.{IsLaid, ImageInputs, kept_of, plan_for, plan_with, rows_of}
-use Rattle.mo_types.specs.Keys.{compare_keys}
-use Rattle.mo_types.specs.declared.atom.Atom.{Atom}
-use Rattle.mo_types.specs.declared.key.AtomKey.{AtomKey}
-use Rattle.mo_types.specs.declared.out_section.OutSection.{OutSection}
-use Rattle.patch.specs.declared.range.PlacedWork.{PlacedWork}
-use Rattle.sect_place.specs.Layout.{IsLayoutOf, image_sections, plan_of}
-use Rattle.sect_list.specs.OutSections.{out_sections}
-use Rattle.sect_place.specs.Places.{file_bytes, group_end, groups_sections, page_up, part_end, parts_sections, placed_section}
-use Rattle.sect_place.specs.declared.layout.Layout.{Layout}
-use Rattle.sect_place.specs.declared.layout.Placed.{Placed}
-use Rattle.sect_place.specs.declared.layout.PlacedSection.{PlacedSection}
-use Rattle.sect_place.specs.declared.part.Group.{Group}
-use Rattle.sect_place.specs.declared.part.Part.{Part}
-use Rattle.sect_list.proofs.Once.{Apart, listed_once}
-use Rattle.sect_place.proofs.Positions.{all_apart, all_group_keys, flat_join, from_pairs, group_keys, part_keys}
+-- At each place of an image stands one value, so that one fault at most is the first.
+use Rattle.std.proofs.Common.{◌≡◌, ◌≢◌, ℕ, ◌+◌, ◌≤◌, ◌⊎◌, ◌++◌, ℤ, List, [], Contains, Option, Some, None, All, Err, refl, sym, ap, ◌∙◌, subst, inl, inr, arith}
+use Rattle.std.specs.List.{AllPairs, enumerate_from, flat_map}
+use Rattle.std.specs.Option.{option_cmp}
+use Rattle.std.specs.Ordering.{nat_cmp}
+use Rattle.std.specs.declared.cmp.Ordering.TheVariants.{Equal, Greater}
+use Rattle.std.specs.Cmp.{IsTotalOrder}
+use Rattle.std.specs.Cmp.Lexicographic.{options_total}
+use Rattle.std.proofs.lemmas.Cmp.{nat_cmp_total, on_total, then_total}
+use Rattle.std.proofs.lemmas.List.Sorted.{Contains-permutation, IsPermutation-sym}
+use Rattle.list_lemmas.proofs.Members.{In, from_filter_map, from_flat, from_map, in_either, in_from_Contains}
+use Rattle.list_lemmas.proofs.Ties.{same_number, tied_first, tied_second}
 use Rattle.atom_index.proofs.Keys.{same_key}
-use Rattle.tlv_plan.specs.Template.{keys_of}
+use Rattle.fixup_chain.specs.Encoded.{AreApart}
+use Rattle.fixup_chain.specs.Faults.{fault_of}
+use Rattle.fixup_chain.specs.declared.chains.ChainFault.TheVariants as chain
+use Rattle.fixup_chain.specs.declared.chains.Fixup.{Fixup}
+use Rattle.image_make.specs.Atoms.{AreRising}
+use Rattle.image_make.specs.Faults.{IsFault, IsFieldFault, IsFirstFault, IsPointerFault, Spot, compare_spots}
+use Rattle.image_make.specs.Made.{IsLaid, ImageInputs, kept_of, rows_of, scene_of, told_mets}
+use Rattle.image_make.proofs.AloneLemmas.{bare, bytes_bare, mets_bare, refs_bare, same_row}
+use Rattle.image_make.proofs.FieldLemmas.{Beside, HasRefs, as_met, mets_apart, refs_beside}
+use Rattle.image_make.proofs.SpreadLemmas.{of_pairs, pairs_all}
+use Rattle.mo_types.proofs.KeyOrder.{compare_keys_total}
+use Rattle.mo_types.specs.Keys.{compare_keys}
+use Rattle.mo_types.specs.declared.goal.Goal.{Goal}
+use Rattle.mo_types.specs.declared.key.AtomKey.{AtomKey}
+use Rattle.mo_types.specs.declared.reference.Ref.{Ref}
+use Rattle.mo_types.specs.declared.reference.RefKind.{RefKind}
+use Rattle.mo_types.specs.declared.reference.RefKind.TheVariants.{Pointer, Diff32, Diff64, Branch, Page, PageOff, GotPage, GotPageOff, GotDelta, GotPointer, TlvPage, TlvPageOff}
+use Rattle.patch.specs.Field.{field_by, field_of}
+use Rattle.patch.specs.Patched as fields
+use Rattle.patch.specs.Range.{bytes_of}
+use Rattle.patch.specs.declared.met.Met.{Met}
+use Rattle.patch.specs.declared.met.RangeFault.{RangeFault}
+use Rattle.patch.specs.declared.range.PlacedWork.{PlacedWork}
+use Rattle.patch.proofs.ChosenLemmas.{Pairs, from_mapped}
+use Rattle.patch.proofs.WriteLemmas.{four_at_least}
+use Rattle.ref_meet.specs.Mets.{met_of, mets_of}
+use Rattle.ref_meet.specs.Pointers.{AreFixups, all_fixups, fixup_of, fixup_to, pointee, pointee_by, row_fixups, slot_fixup, slot_fixups}
+use Rattle.ref_meet.specs.Scene.{Scene, goal_of, refs_of}
+use Rattle.ref_meet.specs.declared.pointers.Pointee.{Pointee}
+use Rattle.sect_place.specs.declared.layout.Layout.{Layout}
+use Rattle.slot_place.specs.Places.{starts_of}
+use Rattle.link_files.proofs.Lists.{neither_after, no_some, some_is}
 
--- ---- the keys of a layout's sections
+-- ---- spots of which neither is after the other
 
--- the keys that sections list
-abbrev section_keys : List PlacedSection → List AtomKey
-section_keys sections = flat_map (λ (section : PlacedSection). section.section.atoms) sections
+spots_total : IsTotalOrder compare_spots
+unfolding compare_spots
+spots_total = then_total (on_total (λ (s : Spot). s.atom) (options_total compare_keys_total)) (on_total (λ (s : Spot). s.address) nat_cmp_total)
 
-parts_listed : (atoms : List AtomKey → List Atom) (start file at : ℕ) (parts : List Part) → section_keys (parts_sections atoms start file at parts) ≡ part_keys parts
-unfolding parts_sections placed_section
-parts_listed atoms start file at [] = refl
-parts_listed atoms start file at (part ∷ parts) = ap (λ (keys : List AtomKey). part.section.atoms ++ keys) (parts_listed atoms start file (part_end atoms at part) parts)
+same_atom : (a b : Option AtomKey) → option_cmp compare_keys a b ≡ Equal → a ≡ b
+same_atom None None e = refl
+same_atom None (Some key) e = absurd cc
+same_atom (Some key) None e = absurd cc
+same_atom (Some j) (Some k) e = ap Some (same_key j k e)
 
-groups_listed : (atoms : List AtomKey → List Atom) (at file lead : ℕ) (groups : List Group) → section_keys (groups_sections atoms at file lead groups) ≡ group_keys groups
-unfolding groups_sections
-groups_listed atoms at file lead [] = refl
-groups_listed atoms at file lead (group ∷ groups) =
-    flat_join (λ (section : PlacedSection). section.section.atoms) (parts_sections atoms at file (at + lead) group.parts) (groups_sections atoms (page_up (group_end atoms at lead group)) (file + file_bytes atoms at lead group) 0 groups)
-    ∙ ap₂ (λ (xs ys : List AtomKey). xs ++ ys) (parts_listed atoms at file (at + lead) group.parts) (groups_listed atoms (page_up (group_end atoms at lead group)) (file + file_bytes atoms at lead group) 0 groups)
+abbrev spot_at : Option AtomKey → ℕ → Spot
+spot_at atom address = record { atom = atom; address = address }
 
-layout_apart : (m : ImageInputs) (layout : Layout) → IsStrictlySortedBy (on (λ (atom : Atom). atom.key) compare_keys) (map atom_of (kept_of m)) → IsLayoutOf m.command (plan_for m) layout → Apart (section_keys layout.sections)
-unfolding plan_with plan_of image_sections
-layout_apart m layout rising is =
-    let sections : List OutSection = out_sections m.files (map atom_of (kept_of m)) in
-    let once : Apart (keys_of sections) = from_pairs (keys_of sections) (listed_once m.files (map atom_of (kept_of m)) rising) in
-    subst (λ (placed : List PlacedSection). Apart (section_keys placed)) (sym is.sections)
-    (subst (λ (keys : List AtomKey). Apart keys) (sym (groups_listed _ _ _ _ _ ∙ all_group_keys sections _)) (all_apart sections once))
+same_parts : (a b : Spot) → a.atom ≡ b.atom → a.address ≡ b.address → a ≡ b
+same_parts a b e f = rw (e, f) refl
 
--- ---- parts of lists
+one_spot : (a b : Spot) → compare_spots a b ≢ Greater → compare_spots b a ≢ Greater → a ≡ b
+unfolding compare_spots
+one_spot a b first second =
+    let tied : compare_spots a b ≡ Equal = neither_after spots_total a b first second in
+    same_parts a b (same_atom a.atom b.atom (tied_first (option_cmp compare_keys a.atom b.atom) (nat_cmp a.address b.address) tied))
+    (same_number a.address b.address (tied_second (option_cmp compare_keys a.atom b.atom) (nat_cmp a.address b.address) tied))
 
--- a list has some elements of another one, in their order
-IsPart : {X : Type 0} → List X → List X → Type 0
-IsPart {X = X} xs [] = xs ≡ []
-IsPart {X = X} xs (y ∷ ys) = IsPart xs ys ⊎ ((rest : List X) × (xs ≡ y ∷ rest) × IsPart rest ys)
+-- ---- two pointers
 
-next_in : {X : Type 0} (y x : X) (rest ys : List X) → (In x rest → In x ys) → In x (y ∷ rest) → In x (y ∷ ys)
-next_in y x rest ys leads (inl e) = inl e
-next_in y x rest ys leads (inr k) = inr (leads k)
+abbrev Before : Fixup → Fixup → Type 0
+Before a b = a.address + 8 ≤ b.address
 
-part_in : {X : Type 0} (xs ys : List X) (x : X) → IsPart xs ys → In x xs → In x ys
-unfolding IsPart
-part_in {X = X} xs [] x part h = subst (λ (zs : List X). In x zs) part h
-part_in xs (y ∷ ys) x (inl part) h = inr (part_in xs ys x part h)
-part_in {X = X} xs (y ∷ ys) x (inr p) h = next_in y x p.0 ys (λ k. part_in p.0 ys x p.2 k) (subst (λ (zs : List X). In x zs) p.1 h)
+one_pointer : (fixups : List Fixup) (a b : Fixup) → AreApart fixups → Contains fixups a → Contains fixups b → a.address ≡ b.address → a ≡ b
+one_pointer fixups a b apart h k same = elim (of_pairs Before fixups a b (pairs_all Before fixups apart) (in_from_Contains fixups a h) (in_from_Contains fixups b k)) [
+  | inl e ↦ e
+  | inr beside ↦ elim beside [
+    | inl before ↦ absurd (omega (arith, before, same))
+    | inr after ↦ absurd (omega (arith, after, same))
+  ]
+]
 
-part_apart : {X : Type 0} (xs ys : List X) → IsPart xs ys → Apart ys → Apart xs
-unfolding IsPart
-part_apart {X = X} xs [] part apart = subst (λ (zs : List X). Apart zs) (sym part) tt
-part_apart xs (y ∷ ys) (inl part) apart = part_apart xs ys part apart.1
-part_apart {X = X} xs (y ∷ ys) (inr p) apart = subst (λ (zs : List X). Apart zs) (sym p.1) ((λ h. apart.0 (part_in p.0 ys y p.2 h)), part_apart p.0 ys p.2 apart.1)
-
-part_none : {X : Type 0} (ys : List X) → IsPart [] ys
-unfolding IsPart
-part_none [] = refl
-part_none (y ∷ ys) = inl (part_none ys)
-
-part_join : {X : Type 0} (xs ys zs ws : List X) → IsPart xs ys → IsPart zs ws → IsPart (xs ++ zs) (ys ++ ws)
-unfolding IsPart
-part_join {X = X} xs [] zs ws first second = subst (λ (vs : List X). IsPart (vs ++ zs) ws) (sym first) second
-part_join xs (y ∷ ys) zs ws (inl part) second = inl (part_join xs ys zs ws part second)
-part_join {X = X} xs (y ∷ ys) zs ws (inr p) second = inr (p.0 ++ zs, ap (λ (vs : List X). vs ++ zs) p.1, part_join p.0 ys zs ws p.2 second)
-
--- ---- the keys of rows
-
-abbrev row_key : PlacedWork → AtomKey
-row_key row = row.atom.key
-
-row_has : (placed : List Placed) (atoms : List KeptAtom) (section : PlacedSection) (key : AtomKey) (row : PlacedWork) → row_of placed atoms section key ≡ Some row → row_key row ≡ key
-unfolding row_of
-row_has placed atoms section key row e = by (kept_at atoms key) refl
+same_range : (a b : Option AtomKey) (f g : RangeFault) → Some (chain.Range a f.file_place f.kind f.value) ≡ Some (chain.Range b g.file_place g.kind g.value) → f ≡ g
+same_range a b f g e =
+    let place : f.file_place ≡ g.file_place = cc in
+    let kind : f.kind ≡ g.kind = cc in
+    let value : f.value ≡ g.value = cc in
+    parts place kind value
   where
-    same : (one : KeptAtom) → is_eq (compare_keys one.atom.key key) ≡ true → one.atom.key ≡ key
-    same one h = same_key one.atom.key key (equal (compare_keys one.atom.key key) h)
-      where
-        equal : (o : Ordering) → is_eq o ≡ true → o ≡ Equal
-        equal Less f = cc
-        equal Equal f = refl
-        equal Greater f = cc
+    parts : f.file_place ≡ g.file_place → f.kind ≡ g.kind → f.value ≡ g.value → f ≡ g
+    parts p q r = rw (p, q, r) refl
 
-    by : (o : Option KeptAtom) → kept_at atoms key ≡ o → row_key row ≡ key
-    by None f = absurd (let g : None ≡ Some row = rw f at e in cc)
-    by (Some one) f = found (address_in placed key) refl
-      where
-        found : (a : Option ℕ) → address_in placed key ≡ a → row_key row ≡ key
-        found None g = absurd (let k : None ≡ Some row = rw (f, g) at e in cc)
-        found (Some address) g =
-            let k : Some (row_at section one address) ≡ Some row = rw (f, g) at e in
-            let is : row_at section one address ≡ row = cc in
-            ap row_key (sym is) ∙ same one (find_some (λ (k : KeptAtom). is_eq (compare_keys k.atom.key key)) atoms one f).1
+two_pointers : (layout : Layout) (fixups : List Fixup) (spot : Spot) (f g : RangeFault) → AreApart fixups → IsPointerFault layout fixups spot f → IsPointerFault layout fixups spot g → f ≡ g
+two_pointers layout fixups spot f g apart p q =
+    let address : p.fixup.address ≡ q.fixup.address = ap (λ (s : Spot). s.address) (sym p.stands ∙ q.stands) in
+    let one : p.fixup ≡ q.fixup = one_pointer fixups p.fixup q.fixup apart p.among q.among address in
+    same_range p.fixup.atom q.fixup.atom f g (sym p.fails ∙ ap (fault_of layout) one ∙ q.fails)
 
-section_part : (placed : List Placed) (atoms : List KeptAtom) (section : PlacedSection) (keys : List AtomKey) → IsPart (map row_key (filter_map (row_of placed atoms section) keys)) keys
-unfolding IsPart
-section_part placed atoms section [] = refl
-section_part placed atoms section (key ∷ keys) = by (section_part placed atoms section keys) (row_of placed atoms section key) refl
+-- ---- two fields
+
+never_apart : (a b : Met) → a.place ≡ b.place → fields.AreApart a b → ⊥
+never_apart a b same (inl before) = let some = four_at_least a.kind in omega (arith, before, some, same)
+never_apart a b same (inr after) = let some = four_at_least b.kind in omega (arith, after, some, same)
+
+one_met : (mets : List Met) (a b : Met) → AllPairs fields.AreApart mets → In a mets → In b mets → a.place ≡ b.place → a ≡ b
+one_met mets a b apart h k same = elim (of_pairs fields.AreApart mets a b (pairs_all fields.AreApart mets apart) h k) [
+  | inl e ↦ e
+  | inr beside ↦ elim beside [
+    | inl first ↦ absurd (never_apart a b same first)
+    | inr second ↦ absurd (never_apart b a (sym same) second)
+  ]
+]
+
+same_fault : (address : ℕ) (bytes : List ℕ) (a b : Met) (f g : RangeFault) → a ≡ b → field_of address bytes a ≡ Err f → field_of address bytes b ≡ Err g → f ≡ g
+same_fault address bytes a b f g same first second =
+    let there : field_of address bytes b ≡ Err f = ap (field_of address bytes) (sym same) ∙ first in
+    cc
+
+two_fields : (m : ImageInputs) (layout : Layout) (spot : Spot) (f g : RangeFault) → AreRising (kept_of m) → IsLaid m layout → All HasRefs m.files
+    → IsFieldFault m.files (told_mets m layout) (rows_of m layout) spot f → IsFieldFault m.files (told_mets m layout) (rows_of m layout) spot g → f ≡ g
+two_fields m layout spot f g rising laid refs p q =
+    let stands = sym p.stands ∙ q.stands in
+    let key : p.item.atom.key ≡ q.item.atom.key = some_is p.item.atom.key q.item.atom.key (ap (λ (s : Spot). s.atom) stands) in
+    let row : bare p.item ≡ bare q.item = same_row m layout p.item q.item rising laid (in_from_Contains (rows_of m layout) p.item p.of_items) (in_from_Contains (rows_of m layout) q.item q.of_items) key in
+    let address : p.item.address ≡ q.item.address = ap (λ (r : PlacedWork). r.address) row in
+    let bytes : bytes_of m.files p.item ≡ bytes_of m.files q.item = bytes_bare m.files p.item ∙ ap (bytes_of m.files) row ∙ sym (bytes_bare m.files q.item) in
+    let mets : told_mets m layout p.item ≡ told_mets m layout q.item = mets_bare (scene_of m layout) [] p.item ∙ ap (mets_of (scene_of m layout) []) row ∙ sym (mets_bare (scene_of m layout) [] q.item) in
+    let sum : p.item.address + p.met.place ≡ q.item.address + q.met.place = ap (λ (s : Spot). s.address) stands in
+    let there : In p.met (told_mets m layout q.item) = subst (λ (ms : List Met). In p.met ms) mets (in_from_Contains (told_mets m layout p.item) p.met p.among) in
+    let one : p.met ≡ q.met =
+    one_met (told_mets m layout q.item) p.met q.met (mets_apart (scene_of m layout) [] q.item refs) there (in_from_Contains (told_mets m layout q.item) q.met q.among) (omega (arith, sum, address)) in
+    let fails : field_of q.item.address (bytes_of m.files q.item) p.met ≡ Err f =
+    ap (λ (n : ℕ). field_of n (bytes_of m.files q.item) p.met) (sym address) ∙ ap (λ (bs : List ℕ). field_of p.item.address bs p.met) (sym bytes) ∙ p.fails in
+    same_fault q.item.address (bytes_of m.files q.item) p.met q.met f g one fails q.fails
+
+-- ---- a pointer, and a field
+
+abbrev HoldsWord : RefKind → Type 0
+HoldsWord kind = (kind ≡ Pointer) ⊎ (kind ≡ GotPointer)
+
+is_pointer : (kind : RefKind) (scene : Scene) (item : PlacedWork) (goal : Goal) (addend : ℤ) (p : Pointee) → pointee_by kind scene item goal addend ≡ Some p → HoldsWord kind
+is_pointer Pointer scene item goal addend p e = inl refl
+is_pointer GotPointer scene item goal addend p e = inr refl
+is_pointer Diff32 scene item goal addend p e = absurd cc
+is_pointer Diff64 scene item goal addend p e = absurd cc
+is_pointer Branch scene item goal addend p e = absurd cc
+is_pointer Page scene item goal addend p e = absurd cc
+is_pointer PageOff scene item goal addend p e = absurd cc
+is_pointer GotPage scene item goal addend p e = absurd cc
+is_pointer GotPageOff scene item goal addend p e = absurd cc
+is_pointer GotDelta scene item goal addend p e = absurd cc
+is_pointer TlvPage scene item goal addend p e = absurd cc
+is_pointer TlvPageOff scene item goal addend p e = absurd cc
+
+-- the field of a pointer holds each value
+never_fails : (address : ℕ) (bytes : List ℕ) (met : Met) (fault : RangeFault) → HoldsWord met.kind → field_of address bytes met ≡ Err fault → ⊥
+unfolding field_of field_by
+never_fails address bytes met fault (inl kind) e = let f = rw kind at e in cc
+never_fails address bytes met fault (inr kind) e = let f = rw kind at e in cc
+
+-- a pointer of an atom is that of a reference, at its place
+record IsOfRow (m : ImageInputs) (layout : Layout) (fixup : Fixup) : Type 0 where
+  row : PlacedWork
+  among : In row (rows_of m layout)
+  named : Some row.atom.key ≡ fixup.atom
+  r : Ref
+  of : In r (refs_of m.files row)
+  stands : row.address + r.place ≡ fixup.address
+  word : HoldsWord r.kind
+
+of_ref : (m : ImageInputs) (layout : Layout) (row : PlacedWork) (r : Ref) (fixup : Fixup) → In row (rows_of m layout) → In r (refs_of m.files row) → fixup_of (scene_of m layout) row r ≡ Some fixup → IsOfRow m layout fixup
+unfolding fixup_of pointee
+of_ref m layout row r fixup h k e =
+    let found = from_mapped (fixup_to row r) (pointee (scene_of m layout) row r) fixup e in
+    record {
+      row = row;
+      among = h;
+      named = ap (λ (f : Fixup). f.atom) found.2;
+      r = r;
+      of = k;
+      stands = ap (λ (f : Fixup). f.address) found.2;
+      word = is_pointer r.kind (scene_of m layout) row (goal_of (scene_of m layout) row.file r.target) r.addend found.0 found.1;
+    }
+
+of_slot : (start : Option ℕ) (goals : List Goal) (fixup : Fixup) → In fixup (slot_fixups start goals) → fixup.atom ≡ None
+unfolding slot_fixups
+of_slot None goals fixup h = absurd h
+of_slot (Some at) goals fixup h = let from = from_map (slot_fixup at) (enumerate_from 0 goals) fixup h in ap (λ (f : Fixup). f.atom) (sym from.2)
+
+of_image : (m : ImageInputs) (layout : Layout) (fixups : List Fixup) (fixup : Fixup) → AreFixups (scene_of m layout) (rows_of m layout) fixups → Contains fixups fixup → (fixup.atom ≡ None) ⊎ IsOfRow m layout fixup
+unfolding all_fixups row_fixups
+of_image m layout fixups fixup pointers among =
+    by (in_from_Contains (all_fixups (scene_of m layout) (rows_of m layout)) fixup (Contains-permutation fixups (all_fixups (scene_of m layout) (rows_of m layout)) fixup (IsPermutation-sym (all_fixups (scene_of m layout) (rows_of m layout)) fixups pointers.all) among))
   where
-    by : IsPart (map row_key (filter_map (row_of placed atoms section) keys)) keys → (o : Option PlacedWork) → row_of placed atoms section key ≡ o → IsPart (map row_key (filter_map (row_of placed atoms section) (key ∷ keys))) (key ∷ keys)
-    by rest None e = rw e (inl rest)
-    by rest (Some row) e =
-        rw e (inr (
-          map row_key (filter_map (row_of placed atoms section) keys),
-          ap (λ (k : AtomKey). k ∷ map row_key (filter_map (row_of placed atoms section) keys)) (row_has placed atoms section key row e),
-          rest,
-        ))
+    got : List Fixup
+    got = slot_fixups (starts_of layout.sections).got m.slots.got
 
-map_join : {X Y : Type 0} (f : X → Y) (xs ys : List X) → map f (xs ++ ys) ≡ map f xs ++ map f ys
-map_join f [] ys = refl
-map_join {Y = Y} f (x ∷ xs) ys = ap (λ (zs : List Y). f x ∷ zs) (map_join f xs ys)
+    tlv : List Fixup
+    tlv = slot_fixups (starts_of layout.sections).tlv m.slots.tlv
 
-sections_part : (placed : List Placed) (atoms : List KeptAtom) (sections : List PlacedSection) → IsPart (map row_key (flat_map (section_rows placed atoms) (filter has_bytes sections))) (section_keys sections)
-unfolding IsPart section_rows
-sections_part placed atoms [] = refl
-sections_part placed atoms (section ∷ sections) = by (sections_part placed atoms sections) (has_bytes section) refl
+    atoms : List Fixup
+    atoms = flat_map (row_fixups (scene_of m layout)) (rows_of m layout)
+
+    of_atom : In fixup atoms → IsOfRow m layout fixup
+    of_atom h =
+        let row = from_flat (row_fixups (scene_of m layout)) (rows_of m layout) fixup h in
+        let r = from_filter_map (fixup_of (scene_of m layout) row.0) (refs_of m.files row.0) fixup row.2 in
+        of_ref m layout row.0 r.0 fixup row.1 r.1 r.2
+
+    by : In fixup (got ++ (tlv ++ atoms)) → (fixup.atom ≡ None) ⊎ IsOfRow m layout fixup
+    by h = elim (in_either got (tlv ++ atoms) fixup h) [
+      | inl first ↦ inl (of_slot (starts_of layout.sections).got m.slots.got fixup first)
+      | inr rest ↦ elim (in_either tlv atoms fixup rest) [
+        | inl second ↦ inl (of_slot (starts_of layout.sections).tlv m.slots.tlv fixup second)
+        | inr atom ↦ inr (of_atom atom)
+      ]
+    ]
+
+beside_not : (a b : Ref) → a.place ≡ b.place → Beside a b → ⊥
+beside_not a b same (inl before) = let some = four_at_least a.kind in omega (arith, before, some, same)
+beside_not a b same (inr after) = let some = four_at_least b.kind in omega (arith, after, some, same)
+
+one_ref : (refs : List Ref) (a b : Ref) → Pairs Beside refs → In a refs → In b refs → a.place ≡ b.place → a ≡ b
+one_ref refs a b apart h k same = elim (of_pairs Beside refs a b apart h k) [
+  | inl e ↦ e
+  | inr beside ↦ elim beside [
+    | inl first ↦ absurd (beside_not a b same first)
+    | inr second ↦ absurd (beside_not b a (sym same) second)
+  ]
+]
+
+pointer_not_field : (m : ImageInputs) (layout : Layout) (fixups : List Fixup) (spot : Spot) (f g : RangeFault) → AreRising (kept_of m) → IsLaid m layout → All HasRefs m.files → AreFixups (scene_of m layout) (rows_of m layout) fixups
+    → IsPointerFault layout fixups spot f → IsFieldFault m.files (told_mets m layout) (rows_of m layout) spot g → ⊥
+unfolding mets_of
+pointer_not_field m layout fixups spot f g rising laid refs pointers p q = by (of_image m layout fixups p.fixup pointers p.among)
   where
-    by : IsPart (map row_key (flat_map (section_rows placed atoms) (filter has_bytes sections))) (section_keys sections) → (b : Bool) → has_bytes section ≡ b → IsPart (map row_key (flat_map (section_rows placed atoms) (filter has_bytes (section ∷ sections)))) (section_keys (section ∷ sections))
-    by rest true e =
-        rw e (subst (λ (keys : List AtomKey). IsPart keys (section_keys (section ∷ sections)))
-        (sym (map_join row_key (section_rows placed atoms section) (flat_map (section_rows placed atoms) (filter has_bytes sections))))
-        (part_join (map row_key (section_rows placed atoms section)) section.section.atoms (map row_key (flat_map (section_rows placed atoms) (filter has_bytes sections))) (section_keys sections)
-        (section_part placed atoms section section.section.atoms) rest))
-    by rest false e = rw e (part_join [] section.section.atoms (map row_key (flat_map (section_rows placed atoms) (filter has_bytes sections))) (section_keys sections) (part_none section.section.atoms) rest)
+    stands : spot_at p.fixup.atom p.fixup.address ≡ spot_at (Some q.item.atom.key) (q.item.address + q.met.place)
+    stands = sym p.stands ∙ q.stands
 
--- ---- the keys of what is written
+    atoms : p.fixup.atom ≡ Some q.item.atom.key
+    atoms = ap (λ (s : Spot). s.atom) stands
 
-row_pairs : (rows : List PlacedWork) → Apart (map row_key rows) → AllPairs (λ a b. row_key a ≢ row_key b) rows
-row_pairs [] apart = λ i j d low high. absurd (omega arith)
-row_pairs (row ∷ rows) apart =
-    AllPairs-cons (λ (a : PlacedWork) (b : PlacedWork). row_key a ≢ row_key b) row rows
-    (All-from_recursion (λ (b : PlacedWork). row_key row ≢ row_key b) rows (all_from_in (λ (b : PlacedWork). row_key row ≢ row_key b) rows (λ b h e. apart.0 (subst (λ (k : AtomKey). In k (map row_key rows)) (sym e) (in_map row_key rows b h)))))
-    (row_pairs rows apart.1)
+    addresses : p.fixup.address ≡ q.item.address + q.met.place
+    addresses = ap (λ (s : Spot). s.address) stands
 
-pub work_apart : (m : ImageInputs) (layout : Layout) → IsStrictlySortedBy (on (λ (atom : Atom). atom.key) compare_keys) (map atom_of (kept_of m)) → IsLaid m layout → AllPairs (λ a b. a.atom.key ≢ b.atom.key) (rows_of m layout)
-unfolding rows
-work_apart m layout rising laid =
-    row_pairs (rows_of m layout)
-    (part_apart (map row_key (rows_of m layout)) (section_keys layout.sections) (sections_part layout.placed (kept_of m) layout.sections) (layout_apart m layout rising laid.layout_of))
+    by : (p.fixup.atom ≡ None) ⊎ IsOfRow m layout p.fixup → ⊥
+    by (inl none) = no_some q.item.atom.key (sym none ∙ atoms)
+    by (inr one) =
+        let key : one.row.atom.key ≡ q.item.atom.key = some_is one.row.atom.key q.item.atom.key (one.named ∙ atoms) in
+        let row : bare one.row ≡ bare q.item = same_row m layout one.row q.item rising laid one.among (in_from_Contains (rows_of m layout) q.item q.of_items) key in
+        let address : one.row.address ≡ q.item.address = ap (λ (r : PlacedWork). r.address) row in
+        let same : refs_of m.files one.row ≡ refs_of m.files q.item = refs_bare m.files one.row ∙ ap (refs_of m.files) row ∙ sym (refs_bare m.files q.item) in
+        let there : In one.r (refs_of m.files q.item) = subst (λ (rs : List Ref). In one.r rs) same one.of in
+        let from = from_filter_map (met_of (scene_of m layout) [] q.item) (refs_of m.files q.item) q.met (in_from_Contains (told_mets m layout q.item) q.met q.among) in
+        let met = as_met (scene_of m layout) [] q.item from.0 q.met from.2 in
+        let place : from.0.place ≡ q.met.place = ap (λ (x : Met). x.place) met.is in
+        let kind : from.0.kind ≡ q.met.kind = ap (λ (x : Met). x.kind) met.is in
+        let stood = one.stands in
+        let ref : one.r ≡ from.0 = one_ref (refs_of m.files q.item) one.r from.0 (refs_beside m.files q.item refs) there from.1 (omega (arith, stood, addresses, place, address)) in
+        never_fails q.item.address (bytes_of m.files q.item) q.met g (subst HoldsWord (ap (λ (r : Ref). r.kind) ref ∙ kind) one.word) q.fails
+
+-- ---- the first one
+
+at_one_spot : (m : ImageInputs) (layout : Layout) (fixups : List Fixup) (spot : Spot) (f g : RangeFault) → AreRising (kept_of m) → IsLaid m layout → All HasRefs m.files → AreFixups (scene_of m layout) (rows_of m layout) fixups
+    → IsFault layout fixups m.files (told_mets m layout) (rows_of m layout) spot f → IsFault layout fixups m.files (told_mets m layout) (rows_of m layout) spot g → f ≡ g
+at_one_spot m layout fixups spot f g rising laid refs pointers (inl p) (inl q) = two_pointers layout fixups spot f g pointers.apart p q
+at_one_spot m layout fixups spot f g rising laid refs pointers (inl p) (inr q) = absurd (pointer_not_field m layout fixups spot f g rising laid refs pointers p q)
+at_one_spot m layout fixups spot f g rising laid refs pointers (inr p) (inl q) = absurd (pointer_not_field m layout fixups spot g f rising laid refs pointers q p)
+at_one_spot m layout fixups spot f g rising laid refs pointers (inr p) (inr q) = two_fields m layout spot f g rising laid refs p q
+
+pub one_first : (m : ImageInputs) (layout : Layout) (fixups : List Fixup) (a b : Option AtomKey) (f g : RangeFault) → AreRising (kept_of m) → IsLaid m layout → All HasRefs m.files → AreFixups (scene_of m layout) (rows_of m layout) fixups
+    → IsFirstFault layout fixups m.files (told_mets m layout) (rows_of m layout) a f → IsFirstFault layout fixups m.files (told_mets m layout) (rows_of m layout) b g → (a ≡ b) × (f ≡ g)
+one_first m layout fixups a b f g rising laid refs pointers p q =
+    let spot : q.spot ≡ p.spot = one_spot q.spot p.spot (q.first p.spot f p.fails) (p.first q.spot g q.fails) in (
+      sym p.of_atom ∙ ap (λ (s : Spot). s.atom) (sym spot) ∙ q.of_atom,
+      at_one_spot m layout fixups p.spot f g rising laid refs pointers p.fails (subst (λ (s : Spot). IsFault layout fixups m.files (told_mets m layout) (rows_of m layout) s g) spot q.fails),
+    )

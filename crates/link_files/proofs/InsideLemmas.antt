@@ -5,14 +5,11 @@ use Rattle.lib_bind.specs.declared.library.LibraryGraph.{LibraryGraph}
 use Rattle.link_steps.proofs.StepLemmas.{checks_passed, unless_passed}
 use Rattle.command_line.specs.declared.command.Command.{Command}
 use Rattle.mo_types.specs.declared.answer.Refusal.TheVariants as refusal
-use Rattle.mo_types.specs.declared.cause.Feature.TheVariants.{Later}
 use Rattle.mo_types.specs.declared.goal.Goal.{Goal}
 use Rattle.mo_types.specs.declared.key.AtomKey.{AtomKey}
 use Rattle.mo_types.specs.declared.loaded.LoadedFile.{LoadedFile}
-use Rattle.resolve.specs.Goals.{goal_of_name, goal_table}
+use Rattle.resolve.specs.Goals.{goal_table}
 use Rattle.link_files.specs.Causes.{WentThrough}
-use Rattle.link_files.specs.Flags.{header_flags}
-use Rattle.link_files.specs.Later.{first_later, later_refusal}
 use Rattle.link_files.specs.Linked.{IsLinked}
 use Rattle.link_files.specs.Lost.{lost_wanted, undefined_refusal}
 use Rattle.link_files.specs.Names.{wanted}
@@ -26,38 +23,32 @@ none_lost command libs files goals keys e = by (undefined keys files goals (lost
     by None f = f
     by (Some (name, file)) f = absurd (let g : Some (refusal.Undefined name file) ≡ None = rw f at e in cc)
 
-none_later : (command : Command) (files : List LoadedFile) (goals : List (List Goal)) (entry : Goal) (keys : List AtomKey) → later_refusal command files goals entry keys ≡ None → first_later command files goals entry keys ≡ None
-unfolding later_refusal
-none_later command files goals entry keys e = by (first_later command files goals entry keys) refl
-  where
-    by : (o : Option (List ℕ)) → first_later command files goals entry keys ≡ o → first_later command files goals entry keys ≡ None
-    by None f = f
-    by (Some file) f = absurd (let g : Some (refusal.Unsupported file Later) ≡ None = rw f at e in cc)
-
 pub went_through : (command : Command) (libs : LibraryGraph) (files : List LoadedFile) (image : List ℕ) → IsLinked command libs files (Ok image) → WentThrough command libs files image
 went_through command libs files image linked =
     let goals : List (List Goal) = goal_table files libs command in
-    let entry : Goal = goal_of_name files libs command command.entry in
     let named = unless_passed _ _ _ linked in
     let few = unless_passed _ _ _ named.1 in
     let once = checks_passed _ _ _ few.1 in
     let symbols = once.1 in
     let kept = symbols.follows in
     let found = unless_passed _ _ _ kept.follows in
-    let inside = unless_passed _ _ _ found.1 in
+    let needed = found.1 in
+    let bound = checks_passed _ _ _ needed.follows in
+    let met = checks_passed _ _ _ bound.1 in
     record {
-      flags = header_flags command libs symbols.value kept.value;
+      symbols = symbols.value;
       keys = kept.value;
+      slots = needed.value;
       inside = record {
         few_names = names_few files (wanted command) named.0;
         few_atoms = atoms_few files few.0;
         once = once.0;
-        symbols = symbols.value;
         symbols_are = symbols.is;
         kept = kept.is;
-        flagged = refl;
         found = none_lost command libs files goals kept.value found.0;
-        none = none_later command files goals entry kept.value inside.0;
+        slots_are = needed.is;
+        few_imports = bound.0;
+        met = met.0;
       };
-      made = inside.1;
+      made = met.1;
     }

@@ -1,4 +1,5 @@
 mod ApartLemmas
+pub mod BoundLemmas
 pub mod CauseLemmas
 pub mod Cuts
 pub mod DuplicateLemmas
@@ -7,13 +8,14 @@ pub mod ImageLemmas
 pub mod InsideLemmas
 mod KeepingLemmas
 pub mod KeptLemmas
-pub mod LaterLemmas
 pub mod Lists
 pub mod LostLemmas
+pub mod MadeLemmas
 pub mod MissingLemmas
 pub mod NameLemmas
 pub mod NearLemmas
 pub mod OneLemmas
 mod RaceLemmas
 pub mod Refs
+pub mod UnmetLemmas
 pub mod WinnerPlaces

@@ -1,8 +1,12 @@
--- Members of lists that are numbered, chosen or searched, and options that are there.
-use Rattle.std.proofs.Common.{◌≡◌, ℕ, zero, suc, ◌+◌, ◌<◌, ◌≤◌, Bool, true, false, ◌&&◌, ◌||◌, List, [], ◌∷◌, ◌++◌, Option, Some, None, inl, inr, refl, sym, ap, ◌∙◌, subst, arith}
+-- Members of lists that are numbered, chosen or searched, options that are there, and what ties in an order.
+use Rattle.std.proofs.Common.{◌≡◌, ◌≢◌, ℕ, zero, suc, ◌+◌, ◌<◌, ◌≤◌, Bool, true, false, ◌&&◌, ◌||◌, List, [], ◌∷◌, ◌++◌, Option, Some, None, inl, inr, refl, sym, ap, ◌∙◌, subst, arith}
 use Rattle.std.specs.Prelude.{nat_lt, slice_get, option_and_then}
 use Rattle.std.specs.List.{enumerate_from, filter_map, list_any, range_with_len}
 use Rattle.std.specs.Option.{option_map}
+use Rattle.std.specs.Cmp.{IsTotalOrder}
+use Rattle.std.specs.Ordering.{ordering_reverse}
+use Rattle.std.specs.declared.cmp.Ordering.{Ordering}
+use Rattle.std.specs.declared.cmp.Ordering.TheVariants.{Less, Equal, Greater}
 use Rattle.std.proofs.lemmas.Bool.{cases_Bool, false≢true, ltb-false, ltb-true}
 use Rattle.list_lemmas.proofs.Members.{In, any_from_in, in_filter_map}
 use Rattle.mo_types.specs.Rows.{when}
@@ -109,3 +113,12 @@ none_first {X = X} {Y = Y} f (z ∷ xs) x e h = by (f z) refl (none_first f xs x
 pub both_empty : {X : Type 0} (xs ys : List X) → xs ++ ys ≡ [] → (xs ≡ []) × (ys ≡ [])
 both_empty [] ys e = (refl, e)
 both_empty (x ∷ xs) ys e = absurd cc
+
+neither_by : (o : Ordering) → o ≢ Greater → ordering_reverse o ≢ Greater → o ≡ Equal
+neither_by Less p q = absurd (q refl)
+neither_by Equal p q = refl
+neither_by Greater p q = absurd (p refl)
+
+-- two of which neither is after the other tie
+pub neither_after : {X : Type 0} {R : X → X → Ordering} → IsTotalOrder R → (a b : X) → R a b ≢ Greater → R b a ≢ Greater → R a b ≡ Equal
+neither_after {R = R} order a b first second = neither_by (R a b) first (λ e. second (order.antisymm b a ∙ e))

@@ -1,14 +1,14 @@
--- Which kept atom is the first to refer to what an image can't have.
+-- Which kept atom is the first to refer to a name that leads nowhere.
 use Rattle.std.proofs.Common.{◌≡◌, ℕ, zero, suc, ◌+◌, ◌<◌, ◌&&◌, ◌⊎◌, Bool, true, false, List, [], ◌∷◌, ◌++◌, map, Option, Some, None, inl, inr, refl, sym, ap, ◌∙◌, subst, arith, if◌then◌else◌}
 use Rattle.std.specs.Prelude.{slice_get}
 use Rattle.std.specs.Cmp.Lexicographic.{slice_cmp}
-use Rattle.std.specs.List.{AllByRecursion, enumerate_from, find, flat_map, list_any}
+use Rattle.std.specs.List.{AllByRecursion, enumerate_from, find, flat_map}
 use Rattle.std.specs.Option.{option_map}
 use Rattle.std.specs.Ordering.{is_eq, is_lt, nat_cmp, ordering_reverse}
 use Rattle.std.specs.Str.{bytes_eq}
 use Rattle.std.specs.declared.cmp.Ordering.{Ordering}
 use Rattle.std.specs.declared.cmp.Ordering.TheVariants.{Less, Equal, Greater}
-use Rattle.std.proofs.lemmas.Bool.{cases_Bool, cases_lt, false≢true}
+use Rattle.std.proofs.lemmas.Bool.{cases_lt, false≢true}
 use Rattle.std.proofs.lemmas.Cmp.{nat_list_cmp_total, tied_itself}
 use Rattle.std.proofs.lemmas.Map.Text.{is_eq-slice_cmp}
 use Rattle.std.proofs.lemmas.Option.{slice_get-map}
@@ -17,7 +17,7 @@ use Rattle.command_line.specs.declared.command.Command.{Command}
 use Rattle.lib_bind.specs.Provides.{provider_of}
 use Rattle.lib_bind.specs.declared.library.LibraryGraph.{LibraryGraph}
 use Rattle.lib_bind.specs.declared.provider.Provider.{Provider}
-use Rattle.list_lemmas.proofs.Members.{Contains_from_in, In, all_in, any_from_in, any_true, find_none, find_some, from_filter, from_filter_map, from_flat, from_map, in_either, in_filter, in_filter_map, in_flat, in_from_Contains, in_map, in_right}
+use Rattle.list_lemmas.proofs.Members.{Contains_from_in, In, all_in, find_none, find_some, from_filter, from_filter_map, from_flat, from_map, in_either, in_filter, in_filter_map, in_flat, in_from_Contains, in_map, in_right}
 use Rattle.literal_merge.specs.Representatives.{representatives_of}
 use Rattle.liveness.specs.Undefined.{IsFirstLeast, is_nobody, kept_refs, least, lost, lost_at, lost_in, lost_name, lost_names, name_if, targets_of, undefined}
 use Rattle.liveness.specs.Undefined as undefined_names
@@ -38,9 +38,8 @@ use Rattle.symbol_winners.specs.Winners.{winner_of}
 use Rattle.symbol_winners.specs.declared.places.Place.{Place}
 use Rattle.symbol_winners.specs.declared.winner.Winner.{Winner}
 use Rattle.link_files.specs.Causes.{IsMissed, IsMissedIn}
-use Rattle.link_files.specs.Later.{is_kept_later, is_later_ref, is_later_target, is_looked_up, later_at, later_file}
 use Rattle.link_files.specs.Lost.{is_lost, lost_wanted}
-use Rattle.link_files.specs.Missing.{Asks, HoldsOfNone, IsFirstFile, IsWantedInVain, LeadsNowhere, Misses, StandsForNothing}
+use Rattle.link_files.specs.Missing.{HoldsOfNone, IsFirstFile, IsWantedInVain, LeadsNowhere, Misses, StandsForNothing}
 use Rattle.link_files.specs.Names.{wanted}
 
 some_is : {X : Type 0} (x y : X) → Some x ≡ Some y → x ≡ y
@@ -48,10 +47,6 @@ some_is x y e = cc
 
 no_some : {X Y : Type 0} (x : X) → None ≡ Some x → Y
 no_some x e = absurd cc
-
-both : (a b : Bool) → (a && b) ≡ true → (a ≡ true) × (b ≡ true)
-both true b e = (refl, e)
-both false b e = absurd (false≢true e)
 
 same_name : (a b : List ℕ) → bytes_eq a b ≡ true → a ≡ b
 same_name a b e = (bytes_eq-Decides a b).0 e
@@ -131,57 +126,7 @@ goal_of_file files libs command file index goal e = by (slice_get file.object.sy
 goal_stands : (files : List LoadedFile) (libs : LibraryGraph) (command : Command) (file : LoadedFile) (index : ℕ) (symbol : Symbol) → slice_get file.object.symbols index ≡ Some symbol → slice_get (goals_of_symbols files libs command file) index ≡ Some (goal_of_symbol files libs command file (index, symbol))
 goal_stands files libs command file index symbol e = symbol_goal files libs command file index ∙ ap (option_map (λ (s : Symbol). goal_of_symbol files libs command file (index, s))) e
 
--- ---- what the loader looks up
-
-asks_here : (command : Command) (libs : LibraryGraph) (files : List LoadedFile) (keys : List AtomKey) (at : ℕ) (file : LoadedFile) → slice_get files at ≡ Some file → Decides (later_at keys (goal_table files libs command)) (Asks command libs files keys) at file
-unfolding later_at is_later_ref
-asks_here command libs files keys at file there =
-    let goals : List Goal = goals_of_symbols files libs command file in
-    let table = table_at files libs command at file there in
-    elim (cases_Bool (list_any (is_kept_later keys goals) file.refs)) [
-      | inl some ↦ inl (rw table (rw some refl), asked some)
-      | inr none ↦ inr (rw table (rw none refl), (λ asks. false≢true (sym none ∙ answers asks)))
-    ]
-  where
-    by_target : (r : Ref) → In r file.refs → has keys r.atom ≡ true → (target : Target) → In target (targets_of r.target r.minus) → is_later_target (goals_of_symbols files libs command file) target ≡ true → Asks command libs files keys file
-    by_target r among kept (Local atom offset) of e = absurd (false≢true e)
-    by_target r among kept (Name index) of e = goal (slice_get (goals_of_symbols files libs command file) index) refl
-      where
-        goal : (o : Option Goal) → slice_get (goals_of_symbols files libs command file) index ≡ o → Asks command libs files keys file
-        goal None f = absurd (false≢true (rw f at e))
-        goal (Some g) f =
-            let is = goal_of_file files libs command file index g f in
-            let looked : is_looked_up g ≡ true = rw f at e in
-            record {
-              index = index;
-              symbol = is.symbol;
-              refers = record { reference = r; among = Contains_from_in file.refs r among; kept = kept; refers = Contains_from_in (targets_of r.target r.minus) (Name index) of; of_file = is.of_file };
-              looked_up = ap is_looked_up is.is ∙ looked;
-            }
-
-    asked : list_any (is_kept_later keys (goals_of_symbols files libs command file)) file.refs ≡ true → Asks command libs files keys file
-    asked some =
-        let hit = any_true (is_kept_later keys (goals_of_symbols files libs command file)) file.refs some in
-        let tests = both (is_later_ref (goals_of_symbols files libs command file) hit.0) (has keys hit.0.atom) hit.2 in
-        let target = any_true (is_later_target (goals_of_symbols files libs command file)) (targets_of hit.0.target hit.0.minus) tests.0 in
-        by_target hit.0 hit.1 tests.1 target.0 target.1 target.2
-
-    answers : Asks command libs files keys file → list_any (is_kept_later keys (goals_of_symbols files libs command file)) file.refs ≡ true
-    answers asks =
-        let r : Ref = asks.refers.reference in
-        let goals : List Goal = goals_of_symbols files libs command file in
-        let stands = goal_stands files libs command file asks.index asks.symbol asks.refers.of_file in
-        let target : is_later_target goals (Name asks.index) ≡ true = rw stands asks.looked_up in
-        let one : is_later_ref goals r ≡ true = any_from_in (is_later_target goals) (targets_of r.target r.minus) (Name asks.index) (in_from_Contains (targets_of r.target r.minus) (Name asks.index) asks.refers.refers) target in
-        any_from_in (is_kept_later keys goals) file.refs r (in_from_Contains file.refs r asks.refers.among) (rw (one, asks.refers.kept) refl)
-
-pub asks_searched : (command : Command) (libs : LibraryGraph) (files : List LoadedFile) (keys : List AtomKey)
-    → ((file : LoadedFile) × IsFirstFile (Asks command libs files keys) files file × (later_file keys files (goal_table files libs command) ≡ Some file.label))
-    ⊎ (HoldsOfNone (Asks command libs files keys) files × (later_file keys files (goal_table files libs command) ≡ None))
-unfolding later_file
-asks_searched command libs files keys =
-    searched (later_at keys (goal_table files libs command)) (Asks command libs files keys) 0 files
-    (λ k file e. let same : k ≡ 0 + k = omega arith in subst (λ (m : ℕ). Decides (later_at keys (goal_table files libs command)) (Asks command libs files keys) m file) same (asks_here command libs files keys k file e))
+-- ---- the first file
 
 -- the first file is one
 pub one_first : (P : LoadedFile → Type 0) (files : List LoadedFile) (a b : LoadedFile) → IsFirstFile P files a → IsFirstFile P files b → a ≡ b

@@ -29,11 +29,13 @@ use Rattle.literal_merge.specs.Representatives.{representatives_of}
 use Rattle.literal_merge.specs.Standing.{stands_for}
 use Rattle.resolve.specs.Goals.{goal_of_name, goal_of_symbol, goal_table, goals_of_symbols, is_flat, is_header_symbol, local_goal, name_goal, outer_goal}
 use Rattle.symbol_winners.specs.Places.{place_at, place_in, place_of}
-use Rattle.symbol_winners.specs.SymbolTable.{is_weak}
+use Rattle.symbol_winners.specs.SymbolTable.{SymbolTable, is_weak}
 use Rattle.symbol_winners.specs.Winners.{winner_of}
 use Rattle.symbol_winners.specs.declared.places.Place.{Place}
 use Rattle.symbol_winners.specs.declared.winner.Winner.{Winner}
-use Rattle.image_make.specs.Near.{AreNear, HasNearEnds, HaveNearEnds, IsNear, IsNearTarget}
+use Rattle.ref_meet.specs.Near.{HasNearEnds, HaveNearEnds, IsNear, IsNearTarget}
+use Rattle.slot_plan.specs.declared.list.Slots.{Slots}
+use Rattle.image_make.specs.Near.{AreNear}
 use Rattle.link_files.specs.Linked.{making}
 use Rattle.link_files.proofs.Cuts.{at_place}
 use Rattle.link_files.proofs.Lists.{from_numbered, from_then, in_slice, no_some, some_is}
@@ -164,9 +166,9 @@ refs_near files whole =
 
 -- ---- what an image is made of
 
-pub making_near : (command : Command) (libs : LibraryGraph) (files : List LoadedFile) (flags : ℕ) (keys : List AtomKey) → All IsWholeFile files → AreNear (making command libs files flags keys)
+pub making_near : (command : Command) (libs : LibraryGraph) (files : List LoadedFile) (symbols : SymbolTable) (keys : List AtomKey) (slots : Slots) → All IsWholeFile files → AreNear (making command libs files symbols keys slots)
 unfolding making
-making_near command libs files flags keys whole = record {
+making_near command libs files symbols keys slots whole = record {
   entry = name_near files libs command command.entry whole;
   goals = table_near files libs command whole;
   refs = refs_near files whole;

@@ -1,62 +1,58 @@
 -- Loaded files link to one thing.
-use Rattle.std.proofs.Common.{◌≡◌, ℕ, ◌+◌, ◌<◌, ◌≤◌, ◌^◌, ◌++◌, Bool, true, false, ℤ, inl, inr, get_or, List, [], ◌∷◌, map, Option, Some, None, Result, Ok, Err, refl, sym, ap, ap₂, subst, ◌∙◌, arith, if◌then◌else◌}
-use Rattle.std.specs.Prelude.{All, slice_get}
+use Rattle.std.proofs.Common.{◌≡◌, ℕ, ◌+◌, ◌++◌, Bool, true, false, inl, inr, get_or, List, [], ◌∷◌, Option, Some, None, Result, Ok, Err, refl, sym, ap, ap₂, subst, ◌∙◌, if◌then◌else◌}
+use Rattle.std.specs.Prelude.{All}
 use Rattle.std.specs.List.{filter_map, flat_map, list_any}
 use Rattle.std.specs.List.Sorted.{IsStrictlySortedBy}
-use Rattle.std.specs.Ordering.{on}
-use Rattle.image_make.specs.Atoms.{AreLow as AreLowKept, AreRising, atom_of}
-use Rattle.image_join.proofs.OneLemmas.{not_filled, one_fault, one_image}
-use Rattle.image_make.proofs.KeptListLemmas.{rising_atoms}
-use Rattle.image_make.proofs.WorkLemmas.{HasRefs, are_standing, rows_apart}
-use Rattle.input_files.specs.Files.{or_none}
-use Rattle.image_make.specs.Made.{IsFilledImage, IsLaid, IsMade, ImageInputs, blank, kept_of, mets_of, plan_for, plan_with, rows_of, sizes_of}
+use Rattle.command_line.specs.declared.command.Command.{Command}
+use Rattle.fixup_chain.specs.declared.chains.Fixup.{Fixup}
+use Rattle.image_make.specs.Made.{IsMade, ImageInputs}
 use Rattle.image_make.specs.declared.fault.MakeFault.{MakeFault}
 use Rattle.image_make.specs.declared.fault.MakeFault.TheVariants as make
+use Rattle.image_make.proofs.FieldLemmas.{HasRefs}
+use Rattle.input_files.specs.Files.{IsLow, or_none}
 use Rattle.lib_bind.specs.declared.library.LibraryGraph.{LibraryGraph}
+use Rattle.link_steps.proofs.StepLemmas.{checks_agree, some_agree, unless_agree}
+use Rattle.link_steps.specs.Steps.{Agree}
+use Rattle.literal_merge.specs.declared.representative.Representative.{Representative}
+use Rattle.liveness.specs.Edges.{edges_by, supports_by}
+use Rattle.liveness.specs.Roots.{exported_root, exported_roots, kept_roots, marked_root, name_root, merged_root, plain_roots, roots, wanted_roots}
 use Rattle.mark_core.proofs.LawLemmas.{kept_is_one}
 use Rattle.mark_core.specs.Kept.{IsKept}
-use Rattle.command_line.specs.declared.command.Command.{Command}
+use Rattle.mo_format.specs.declared.loader.TheConstants.{MH_DYLDLINK, MH_TWOLEVEL}
 use Rattle.mo_types.specs.Keys.{compare_keys}
 use Rattle.mo_types.specs.Refs.{refs_of}
-use Rattle.mo_format.specs.declared.loader.TheConstants.{MH_DYLDLINK, MH_NOUNDEFS, MH_TWOLEVEL}
 use Rattle.mo_types.specs.declared.answer.Refusal.{Refusal}
 use Rattle.mo_types.specs.declared.answer.Refusal.TheVariants.{Duplicate}
-use Rattle.mo_types.specs.declared.atom.Atom.{Atom}
 use Rattle.mo_types.specs.declared.goal.Goal.{Goal}
 use Rattle.mo_types.specs.declared.key.AtomKey.{AtomKey}
 use Rattle.mo_types.specs.declared.key.FileId.{FileId}
 use Rattle.mo_types.specs.declared.loaded.LoadedFile.{LoadedFile}
 use Rattle.mo_types.specs.declared.reference.Ref.{Ref}
 use Rattle.mo_types.specs.declared.reference_fault.RefFault.{RefFault}
-use Rattle.patch.specs.Range.{IsLeastFault}
-use Rattle.patch.specs.declared.met.RangeFault.{RangeFault}
+use Rattle.ref_meet.specs.Binds.{binds}
+use Rattle.resolve.specs.Goals.{goal_of_name, goal_table}
+use Rattle.sect_place.specs.declared.size.PlaceFault.TheVariants as place
+use Rattle.slot_needs.specs.Needs.{needs}
+use Rattle.slot_needs.specs.Unmet.{unmet}
+use Rattle.slot_plan.proofs.Ordered.{one_list}
+use Rattle.slot_plan.specs.Slots.{in_got, in_stubs, in_tlv, needed}
+use Rattle.slot_plan.specs.declared.list.Slots.{Slots}
+use Rattle.slot_plan.specs.declared.need.Need.{Need}
 use Rattle.symbol_winners.specs.Duplicates.{duplicate_of}
 use Rattle.symbol_winners.proofs.OneListLemmas.{is_some, neither_greater, winners_are_one}
-use Rattle.liveness.specs.Edges.{edges_by, supports_by}
-use Rattle.resolve.specs.Goals.{goal_of_name, goal_table}
 use Rattle.symbol_winners.specs.SymbolTable.{IsSymbolTable, SymbolTable}
-use Rattle.literal_merge.specs.Representatives.{representatives_of}
-use Rattle.liveness.specs.Roots.{exported_root, exported_roots, kept_roots, marked_root, name_root, merged_root, plain_roots, roots, wanted_roots}
-use Rattle.literal_merge.specs.declared.representative.Representative.{Representative}
 use Rattle.symbol_winners.specs.declared.winner.Winner.{Winner}
-use Rattle.sect_list.proofs.Once.{listed_once}
-use Rattle.sect_place.proofs.Single.{layouts_same}
-use Rattle.sect_place.specs.Layout.{image_size}
-use Rattle.sect_list.specs.OutSections.{out_sections}
-use Rattle.sect_place.specs.declared.layout.Layout.{Layout}
-use Rattle.sect_place.specs.declared.size.PlaceFault.TheVariants as place
+use Rattle.link_files.specs.Bound.{AreSlotsFor, IsImportsTold, IsUnmetTold, start_of}
 use Rattle.link_files.specs.Flags.{header_flags, is_weak_export, kind_flag, weak_flag}
-use Rattle.link_files.specs.Later.{later_refusal}
-use Rattle.link_files.specs.Linked.{AreCut, AreLow, AreOrdered, AreReferred, AsImage, AsMade, IsLinked, making}
+use Rattle.link_files.specs.Linked.{AreCut, AreOrdered, AreReferred, AsImage, IsLinked, making, no_islands}
 use Rattle.link_files.specs.Lost.{undefined_refusal}
 use Rattle.link_files.specs.Names.{label_of}
 use Rattle.link_files.specs.Refusals.{AreOnce, IsDuplicateTold, IsToldAs, IsTwice}
 use Rattle.link_files.specs.Resolved.{AreKept}
-use Rattle.link_files.proofs.ApartLemmas.{work_apart}
-use Rattle.link_files.proofs.KeptLemmas.{kept_low, kept_rise}
+use Rattle.link_files.proofs.KeptLemmas.{making_low, making_rises}
+use Rattle.link_files.proofs.MadeLemmas.{IsAnswer, IsSound, made_one}
 use Rattle.link_files.proofs.NameLemmas.{same_some}
-use Rattle.link_steps.proofs.StepLemmas.{checks_agree, some_agree, unless_agree}
-use Rattle.link_steps.specs.Steps.{Agree}
+use Rattle.link_files.proofs.UnmetLemmas.{unmet_same}
 
 -- ---- names that two strong definitions have
 
@@ -141,71 +137,24 @@ flags_same command libs files symbols other a b p q same =
     ∙ ap (flags other.literals other.winners) same
   where
     flags : List Representative → List Winner → List AtomKey → ℕ
-    flags literals winners keys = MH_NOUNDEFS + MH_DYLDLINK + MH_TWOLEVEL + weak_flag (list_any (is_weak_export literals keys) winners) + kind_flag command.dylib (list_any (λ library. library.reexport) libs.libraries)
+    flags literals winners keys = MH_DYLDLINK + MH_TWOLEVEL + weak_flag (list_any (is_weak_export literals keys) winners) + kind_flag command.dylib (list_any (λ library. library.reexport) libs.libraries)
+
+-- ---- slots and imports
+
+slots_same : (needs : List Need) (a b : Slots) → AreSlotsFor needs a → AreSlotsFor needs b → a ≡ b
+slots_same needs a b p q =
+    parts (one_list (needed in_got needs) a.got b.got p.got q.got) (one_list (needed in_stubs needs) a.stubs b.stubs p.stubs q.stubs) (one_list (needed in_tlv needs) a.tlv b.tlv p.tlv q.tlv)
+  where
+    parts : a.got ≡ b.got → a.stubs ≡ b.stubs → a.tlv ≡ b.tlv → a ≡ b
+    parts e f g = rw (e, f, g) refl
+
+imports_same : (fixups : List Fixup) (a b : Option Refusal) → IsImportsTold fixups a → IsImportsTold fixups b → a ≡ b
+imports_same fixups None None p q = refl
+imports_same fixups None (Some why) p q = absurd (p q.many)
+imports_same fixups (Some why) None p q = absurd (q p.many)
+imports_same fixups (Some a) (Some b) p q = ap Some (p.told ∙ sym q.told)
 
 -- ---- the image
-
-layout_one : (m : ImageInputs) (a b : Layout) → IsStrictlySortedBy (on (λ (atom : Atom). atom.key) compare_keys) (map atom_of (kept_of m)) → IsLaid m a → IsLaid m b → a ≡ b
-unfolding plan_with
-layout_one m a b rising p q =
-    layouts_same (map atom_of (kept_of m)) (out_sections m.files (map atom_of (kept_of m))) m.slots m.islands (sizes_of m.command m.libs) m.command a b
-    (listed_once m.files (map atom_of (kept_of m)) rising) p.layout_of q.layout_of
-
--- What an image is made of that is one: kept atoms that rise and are aligned to a page at most, and references of which no
--- two fill in one field.
-record IsSound (m : ImageInputs) : Type 0 where
-  rising : AreRising (kept_of m)
-  low : AreLowKept (kept_of m)
-  refs : All HasRefs m.files
-
-same_layout : (m : ImageInputs) (a b : Layout) → IsSound m → IsLaid m a → IsLaid m b → a ≡ b
-same_layout m a b sound = layout_one m a b (rising_atoms (kept_of m) sound.rising)
-
-image_one : (m : ImageInputs) (a b : List ℕ) → IsSound m → IsMade m (Ok a) → IsMade m (Ok b) → a ≡ b
-image_one m a b sound (lay, laid, filled) (other, also, again) =
-    let same : other ≡ lay = same_layout m other lay sound also laid in
-    let here : IsFilledImage m.files (mets_of m lay) (rows_of m lay) (blank m lay) b = subst (λ (l : Layout). IsFilledImage m.files (mets_of m l) (rows_of m l) (blank m l) b) same again in
-    one_image m.files (mets_of m lay) 0 (rows_of m lay) (blank m lay) a b (are_standing m lay sound.rising sound.low laid) filled.bytes here.bytes filled.beside filled.placed here.beside here.placed
-
-image_or_fault : (m : ImageInputs) (image : List ℕ) (key : AtomKey) (fault : RangeFault) → IsSound m → IsMade m (Ok image) → IsMade m (Err (make.Range key fault)) → ⊥
-image_or_fault m image key fault sound (lay, laid, filled) (other, also, least) =
-    let same : other ≡ lay = same_layout m other lay sound also laid in
-    not_filled m.files (mets_of m lay) 0 (rows_of m lay) key fault image (subst (λ (l : Layout). IsLeastFault m.files (mets_of m l) (rows_of m l) key fault) same least) filled.placed
-
-fault_one : (m : ImageInputs) (key other_key : AtomKey) (fault other_fault : RangeFault) → IsSound m → IsMade m (Err (make.Range key fault)) → IsMade m (Err (make.Range other_key other_fault)) → ◌≡◌ {A = AtomKey × RangeFault} (key, fault) (other_key, other_fault)
-fault_one m key other_key fault other_fault sound (lay, laid, least) (other, also, more) =
-    let same : other ≡ lay = same_layout m other lay sound also laid in
-    one_fault m.files (mets_of m lay) (rows_of m lay) (key, fault) (other_key, other_fault) (rows_apart m lay sound.refs) (work_apart m lay (rising_atoms (kept_of m) sound.rising) laid) least
-    (subst (λ (l : Layout). IsLeastFault m.files (mets_of m l) (rows_of m l) other_key other_fault) same more)
-
--- an image, or a fault of what it is made of
-abbrev IsAnswer : Result (List ℕ) MakeFault → Type 0
-IsAnswer (Ok image) = Unit {0}
-IsAnswer (Err (make.Place (place.ImageSize value))) = Unit {0}
-IsAnswer (Err (make.Place place.OutOfMemory)) = ⊥
-IsAnswer (Err (make.Range key fault)) = Unit {0}
-IsAnswer (Err make.OutOfMemory) = ⊥
-
-made_one : (m : ImageInputs) (a b : Result (List ℕ) MakeFault) → IsSound m → IsAnswer a → IsAnswer b → IsMade m a → IsMade m b → a ≡ b
-made_one m (Ok a) (Ok b) sound p q x y = ap Ok (image_one m a b sound x y)
-made_one m (Ok a) (Err (make.Place (place.ImageSize value))) sound p q (lay, laid, filled) y = let small : image_size (plan_for m) < 2 ^ 32 = laid.small in let large : 2 ^ 32 ≤ image_size (plan_for m) = y.0 in absurd (omega (arith, small, large))
-made_one m (Ok a) (Err (make.Place place.OutOfMemory)) sound p q x y = absurd q
-made_one m (Ok a) (Err (make.Range key fault)) sound p q x y = absurd (image_or_fault m a key fault sound x y)
-made_one m (Ok a) (Err make.OutOfMemory) sound p q x y = absurd q
-made_one m (Err (make.Place (place.ImageSize value))) (Ok b) sound p q x (lay, laid, filled) = let small : image_size (plan_for m) < 2 ^ 32 = laid.small in let large : 2 ^ 32 ≤ image_size (plan_for m) = x.0 in absurd (omega (arith, small, large))
-made_one m (Err (make.Place (place.ImageSize value))) (Err (make.Place (place.ImageSize other))) sound p q x y = ap (λ (v : ℤ). Err (make.Place (place.ImageSize v))) (x.1 ∙ sym y.1)
-made_one m (Err (make.Place (place.ImageSize value))) (Err (make.Place place.OutOfMemory)) sound p q x y = absurd q
-made_one m (Err (make.Place (place.ImageSize value))) (Err (make.Range key fault)) sound p q x (lay, laid, least) = let small : image_size (plan_for m) < 2 ^ 32 = laid.small in let large : 2 ^ 32 ≤ image_size (plan_for m) = x.0 in absurd (omega (arith, small, large))
-made_one m (Err (make.Place (place.ImageSize value))) (Err make.OutOfMemory) sound p q x y = absurd q
-made_one m (Err (make.Place place.OutOfMemory)) b sound p q x y = absurd p
-made_one m (Err (make.Range key fault)) (Ok b) sound p q x y = absurd (image_or_fault m b key fault sound y x)
-made_one m (Err (make.Range key fault)) (Err (make.Place (place.ImageSize value))) sound p q (lay, laid, least) y = let small : image_size (plan_for m) < 2 ^ 32 = laid.small in let large : 2 ^ 32 ≤ image_size (plan_for m) = y.0 in absurd (omega (arith, small, large))
-made_one m (Err (make.Range key fault)) (Err (make.Place place.OutOfMemory)) sound p q x y = absurd q
-made_one m (Err (make.Range key fault)) (Err (make.Range other_key other_fault)) sound p q x y = ap (λ (f : AtomKey × RangeFault). Err (make.Range f.0 f.1)) (fault_one m key other_key fault other_fault sound x y)
-made_one m (Err (make.Range key fault)) (Err make.OutOfMemory) sound p q x y = absurd q
-made_one m (Err make.OutOfMemory) b sound p q x y = absurd p
-
--- ---- all steps
 
 refs_in : (file : LoadedFile) → file.refs ≡ or_none (refs_of file.object file.id) → HasRefs file
 refs_in file is = by (refs_of file.object file.id) refl
@@ -219,60 +168,77 @@ record AreLoaded (files : List LoadedFile) : Type 0 where
   ordered : AreOrdered files
   cut : AreCut files
   referred : AreReferred files
-  low : AreLow files
+  low : All IsLow files
 
-sound_of : (command : Command) (libs : LibraryGraph) (files : List LoadedFile) (flags : ℕ) (keys : List AtomKey) → AreLoaded files → IsSound (making command libs files flags keys)
+sound_of : (command : Command) (libs : LibraryGraph) (files : List LoadedFile) (symbols : SymbolTable) (keys : List AtomKey) (slots : Slots) → AreLoaded files → IsSymbolTable command files symbols → IsStrictlySortedBy compare_keys keys → IsSound (making command libs files symbols keys slots)
 unfolding making
-sound_of command libs files flags keys are = record {
-  rising = kept_rise (representatives_of files) keys files are.ordered are.cut;
-  low = kept_low (representatives_of files) keys files are.low refl;
+sound_of command libs files symbols keys slots are table rises = record {
+  rising = making_rises command libs files symbols keys slots are.ordered are.cut are.low rises;
+  low = making_low command libs files symbols keys slots are.low table;
   refs = λ k d low. refs_in (get_or files k d) (are.referred k d low);
 }
 
 answer_of : (command : Command) (files : List LoadedFile) (fault : MakeFault) (why : Refusal) → IsToldAs command files fault why → IsAnswer (Err fault)
 answer_of command files (make.Place (place.ImageSize value)) why told = tt
 answer_of command files (make.Place place.OutOfMemory) why told = absurd told
-answer_of command files (make.Range key fault) why told = tt
+answer_of command files (make.Range atom fault) why told = tt
 answer_of command files make.OutOfMemory why told = absurd told
 
 told_same : (command : Command) (files : List LoadedFile) (fault : MakeFault) (a b : Refusal) → IsToldAs command files fault a → IsToldAs command files fault b → a ≡ b
 told_same command files (make.Place (place.ImageSize value)) a b p q = p ∙ sym q
 told_same command files (make.Place place.OutOfMemory) a b p q = absurd p
-told_same command files (make.Range key fault) a b p q = p ∙ sym q
+told_same command files (make.Range None fault) a b p q = p ∙ sym q
+told_same command files (make.Range (Some key) fault) a b p q = p ∙ sym q
 told_same command files make.OutOfMemory a b p q = absurd p
 
-made_same : (command : Command) (libs : LibraryGraph) (files : List LoadedFile) (flags : ℕ) (keys : List AtomKey) (a b : Result (List ℕ) Refusal) → AreLoaded files → AsMade command libs files flags keys a → AsMade command libs files flags keys b → a ≡ b
-made_same command libs files flags keys a b are p q = by a b p q
+image_same : (m : ImageInputs) → IsSound m → Agree (AsImage m) (AsImage m)
+image_same m sound a b p q = by a b p q
   where
-    m : ImageInputs
-    m = making command libs files flags keys
-
-    sound : IsSound m
-    sound = sound_of command libs files flags keys are
-
-    no_fault : (image : List ℕ) (fault : MakeFault) (why : Refusal) → IsMade m (Ok image) → IsMade m (Err fault) → IsToldAs command files fault why → ⊥
+    no_fault : (image : List ℕ) (fault : MakeFault) (why : Refusal) → IsMade m (Ok image) → IsMade m (Err fault) → IsToldAs m.command m.files fault why → ⊥
     no_fault image fault why is other told =
-        let same : ◌≡◌ {A = Result (List ℕ) MakeFault} (Ok image) (Err fault) = made_one m (Ok image) (Err fault) sound tt (answer_of command files fault why told) is other in
+        let same : ◌≡◌ {A = Result (List ℕ) MakeFault} (Ok image) (Err fault) = made_one m (Ok image) (Err fault) sound tt (answer_of m.command m.files fault why told) is other in
         cc
 
-    one_fault_only : (f g : MakeFault) (v w : Refusal) → IsMade m (Err f) → IsMade m (Err g) → IsToldAs command files f v → IsToldAs command files g w → v ≡ w
+    one_fault_only : (f g : MakeFault) (v w : Refusal) → IsMade m (Err f) → IsMade m (Err g) → IsToldAs m.command m.files f v → IsToldAs m.command m.files g w → v ≡ w
     one_fault_only f g v w is other told tell =
-        let both : ◌≡◌ {A = Result (List ℕ) MakeFault} (Err f) (Err g) = made_one m (Err f) (Err g) sound (answer_of command files f v told) (answer_of command files g w tell) is other in
+        let both : ◌≡◌ {A = Result (List ℕ) MakeFault} (Err f) (Err g) = made_one m (Err f) (Err g) sound (answer_of m.command m.files f v told) (answer_of m.command m.files g w tell) is other in
         let same : g ≡ f = cc in
-        told_same command files f v w told (subst (λ (x : MakeFault). IsToldAs command files x w) same tell)
+        told_same m.command m.files f v w told (subst (λ (x : MakeFault). IsToldAs m.command m.files x w) same tell)
 
-    by : (a b : Result (List ℕ) Refusal) → AsMade command libs files flags keys a → AsMade command libs files flags keys b → a ≡ b
-    by (Ok x) (Ok y) is other = ap Ok (image_one m x y sound is other)
+    by : (a b : Result (List ℕ) Refusal) → AsImage m a → AsImage m b → a ≡ b
+    by (Ok x) (Ok y) is other =
+        let same : ◌≡◌ {A = Result (List ℕ) MakeFault} (Ok x) (Ok y) = made_one m (Ok x) (Ok y) sound tt tt is other in
+        let images : x ≡ y = cc in
+        ap Ok images
     by (Ok x) (Err w) is other = absurd (no_fault x other.0 w is other.1 other.2)
     by (Err v) (Ok y) is other = absurd (no_fault y is.0 v other is.1 is.2)
     by (Err v) (Err w) is other = ap Err (one_fault_only is.0 other.0 v w is.1 other.1 is.2 other.2)
 
-image_same : (command : Command) (libs : LibraryGraph) (files : List LoadedFile) (symbols other : SymbolTable) (keys others : List AtomKey) → AreLoaded files → IsSymbolTable command files symbols → IsSymbolTable command files other → keys ≡ others
-    → Agree (AsImage command libs files symbols keys) (AsImage command libs files other others)
-image_same command libs files symbols other keys others are is also same a b p q =
-    made_same command libs files (header_flags command libs other others) others a b are
-    (subst (λ (n : ℕ). AsMade command libs files n others a) (flags_same command libs files symbols other keys others is also same)
-    (subst (λ (ks : List AtomKey). AsMade command libs files (header_flags command libs symbols keys) ks a) same p)) q
+-- what an image is made of, by its parts
+abbrev parts : Command → LibraryGraph → List LoadedFile → List Representative → List Winner → List AtomKey → ℕ → Slots → ImageInputs
+parts command libs files literals winners keys flags slots = record {
+  command = command;
+  libs = libs;
+  files = files;
+  goals = goal_table files libs command;
+  literals = literals;
+  winners = winners;
+  keys = keys;
+  flags = flags;
+  entry = goal_of_name files libs command command.entry;
+  slots = slots;
+  islands = no_islands;
+}
+
+inputs_same : (command : Command) (libs : LibraryGraph) (files : List LoadedFile) (symbols other : SymbolTable) (keys others : List AtomKey) (slots more : Slots) → IsSymbolTable command files symbols → IsSymbolTable command files other → keys ≡ others → slots ≡ more
+    → making command libs files symbols keys slots ≡ making command libs files other others more
+unfolding making
+inputs_same command libs files symbols other keys others slots more p q same served =
+    ap₂ (λ (literals : List Representative) (winners : List Winner). parts command libs files literals winners keys (header_flags command libs symbols keys) slots) (p.literals ∙ sym q.literals) (winners_are_one command files symbols.winners other.winners p.winners q.winners)
+    ∙ ap₂ (λ (ks : List AtomKey) (flags : ℕ). parts command libs files other.literals other.winners ks flags slots) same (flags_same command libs files symbols other keys others p q same)
+    ∙ ap (parts command libs files other.literals other.winners others (header_flags command libs other others)) served
+
+-- ---- all steps
 
 one_link : (command : Command) (libs : LibraryGraph) (files : List LoadedFile) → AreLoaded files → Agree (IsLinked command libs files) (IsLinked command libs files)
 one_link command libs files loaded =
@@ -284,9 +250,17 @@ one_link command libs files loaded =
     let entry : Goal = goal_of_name files libs command command.entry in
     some_agree _ _ _ _ (λ keys others kept again.
     let same : keys ≡ others = keys_same command files goals symbols other keys others is also kept again in
+    let needed_same : needs symbols.literals keys goals files (start_of command entry) ≡ needs other.literals others goals files (start_of command entry) =
+    ap₂ (λ (literals : List Representative) (ks : List AtomKey). needs literals ks goals files (start_of command entry)) (is.literals ∙ sym also.literals) same in
     unless_agree _ _ _ _ (ap (undefined_refusal command libs files goals) same) (λ found.
-    unless_agree _ _ _ _ (ap (later_refusal command files goals entry) same) (λ inside.
-    image_same command libs files symbols other keys others loaded is also same)))))))
+    some_agree _ _ _ _ (λ slots more served serves.
+    let slot : slots ≡ more = slots_same (needs other.literals others goals files (start_of command entry)) slots more (subst (λ (ns : List Need). AreSlotsFor ns slots) needed_same served) serves in
+    let bound : binds files symbols.literals keys goals slots ≡ binds files other.literals others goals more =
+    ap₂ (λ (literals : List Representative) (ks : List AtomKey). binds files literals ks goals slots) (is.literals ∙ sym also.literals) same ∙ ap (binds files other.literals others goals) slot in
+    checks_agree _ _ _ _ (λ a b x y. imports_same (binds files other.literals others goals more) a b (subst (λ (fs : List Fixup). IsImportsTold fs a) bound x) y) (λ few_imports.
+    checks_agree _ _ _ _ (λ a b x y. unmet_same others goals files a b loaded.ordered loaded.referred (subst (λ (ks : List AtomKey). IsUnmetTold files (unmet ks goals files) a) same x) y) (λ met a b x y.
+    image_same (making command libs files other others more) (sound_of command libs files other others more loaded also again.rises) a b
+    (subst (λ (m : ImageInputs). AsImage m a) (inputs_same command libs files symbols other keys others slots more is also same slot) x) y)))))))))
 
-pub link_one : (command : Command) (libs : LibraryGraph) (files : List LoadedFile) → AreOrdered files → AreCut files → AreReferred files → AreLow files → Agree (IsLinked command libs files) (IsLinked command libs files)
+pub link_one : (command : Command) (libs : LibraryGraph) (files : List LoadedFile) → AreOrdered files → AreCut files → AreReferred files → All IsLow files → Agree (IsLinked command libs files) (IsLinked command libs files)
 link_one command libs files ordered cut referred low = one_link command libs files (record { ordered = ordered; cut = cut; referred = referred; low = low })

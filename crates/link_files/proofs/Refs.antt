@@ -254,6 +254,7 @@ pub record IsRead (object : Object) (file : FileId) (r : Ref) : Type 0 where
   pub cut : offset ≡ cut_of object number section at
   pub atom : r.atom ≡ key_at file number offset
   pub low : offset < 2 ^ 31
+  pub place : r.file_place ≡ section.file_offset + (offset + r.place)
   pub target : IsTargetOf object file r.target
   pub minus : HasMinusBy r.kind object file r.minus
   pub subtracted : IfSome r.minus IsName
@@ -297,14 +298,14 @@ read_at object file number section at r numbered linked e placed good =
     let target = from_mapped _ (target_of object file section.bytes field.0 last.0) r field.2 in
     let low = low_field section.relocs at field.0 field.1 in
     let within = (greatest_cut object number section field.0.offset).within in
-    by last.0 kind.0 field.0 target.0 last.1 kind.1 field.1 target.1 target.2 (omega (arith, low, within)) (solid_there object number section at kind.0 field.0 placed kind.1 field.1)
+    by last.0 kind.0 field.0 target.0 last.1 kind.1 field.1 target.1 within target.2 (omega (arith, low, within)) (solid_there object number section at kind.0 field.0 placed kind.1 field.1)
   where
     -- neither target is a bad one
     fine : (a b : Bool) (at : ℕ) → (if a then Some (at - 1) else when b at) ≡ None → (a ≡ false) × (b ≡ false)
     fine true b at none = not_none (at - 1) none
     fine false b at none = (refl, not_when b at none)
 
-    by : (reloc : RawReloc) (kind : RefKind) (field : FieldRange) (target : Target) → last_at section.relocs at ≡ Some reloc → kind_at section.relocs at ≡ Some kind → field_at section.relocs at ≡ Some field → target_of object file section.bytes field reloc ≡ Some target
+    by : (reloc : RawReloc) (kind : RefKind) (field : FieldRange) (target : Target) → last_at section.relocs at ≡ Some reloc → kind_at section.relocs at ≡ Some kind → field_at section.relocs at ≡ Some field → target_of object file section.bytes field reloc ≡ Some target → cut_of object number section field.offset ≤ field.offset
         → ◌≡◌ {A = Ref} (record {
           atom = key_at file number (cut_of object number section field.offset);
           place = field.offset - cut_of object number section field.offset;
@@ -315,7 +316,7 @@ read_at object file number section at r numbered linked e placed good =
           addend = Rattle.mo_types.specs.Refs.addend_of section.bytes field (first_before section.relocs at) reloc;
         }) r
         → cut_of object number section field.offset < 2 ^ 31 → is_zerofill section.kind ≡ false → IsRead object file r
-    by reloc kind field target is_last is_kind is_field is_target is low solid =
+    by reloc kind field target is_last is_kind is_field is_target within is low solid =
         let tests = fine (option_map_or (λ first. is_subtractor first && is_bad_target object section.bytes field first) (first_before section.relocs at) false) (is_bad_target object section.bytes field reloc) at (rw (is_field, is_last) at good) in
         let kinds : kind_of (first_before section.relocs at) reloc ≡ Some kind = rw is_last at is_kind in
         subst (IsRead object file) is (record {
@@ -329,6 +330,7 @@ read_at object file number section at r numbered linked e placed good =
           cut = refl;
           atom = refl;
           low = low;
+          place = omega (arith, within);
           target = good_target object file section.bytes field reloc target tests.1 is_target;
           minus = has_minus object file section.bytes field (first_before section.relocs at) reloc kind kinds tests.0;
           subtracted = minus_named (first_before section.relocs at);

@@ -1,18 +1,23 @@
 -- Where the winner of a name stands.
-use Rattle.std.proofs.Common.{◌≡◌, ℕ, ◌+◌, ◌==◌, true, List, Some, ap, sym, ◌∙◌, arith}
+use Rattle.std.proofs.Common.{◌≡◌, ℕ, ◌+◌, ◌==◌, Bool, true, false, List, [], ◌∷◌, Some, inl, inr, refl, ap, sym, ◌∙◌, arith}
 use Rattle.std.specs.Prelude.{slice_get}
-use Rattle.std.specs.List.{enumerate_from}
+use Rattle.std.specs.Cmp.Lexicographic.{slice_cmp}
+use Rattle.std.specs.List.{AllPairs, enumerate_from}
+use Rattle.std.specs.Ordering.{nat_cmp}
 use Rattle.std.specs.Str.{bytes_eq}
+use Rattle.std.specs.declared.cmp.Ordering.TheVariants.{Less, Equal}
 use Rattle.std.proofs.lemmas.Bool.{and_parts}
+use Rattle.std.proofs.lemmas.Cmp.{nat_list_cmp_total, tied_itself}
 use Rattle.std.proofs.lemmas.Slice.Eq.{bytes_eq-Decides}
 use Rattle.list_lemmas.proofs.Members.{In, find_some, from_filter, from_filter_map, from_flat}
+use Rattle.literal_merge.proofs.RepresentativeLemmas.{pairs_head, pairs_tail}
 use Rattle.mo_types.specs.Candidates.{has_place, is_candidate, least, word_of}
 use Rattle.mo_types.specs.declared.loaded.LoadedFile.{LoadedFile}
 use Rattle.mo_types.specs.declared.object.Symbol.{Symbol}
 use Rattle.command_line.specs.declared.command.Command.{Command}
 use Rattle.symbol_winners.specs.Found.{FileCandidate, found, found_at, found_for, found_in}
 use Rattle.symbol_winners.specs.Places.{place_of}
-use Rattle.symbol_winners.specs.Winners.{found_word, winner_from, winner_of, winning}
+use Rattle.symbol_winners.specs.Winners.{AreWinners, found_word, winner_from, winner_named, winner_of, winning}
 use Rattle.symbol_winners.specs.declared.places.Place.{Place}
 use Rattle.symbol_winners.specs.declared.winner.Winner.{Winner}
 use Rattle.link_files.proofs.Lists.{from_mapped, from_numbered, from_then, from_when}
@@ -60,3 +65,30 @@ winner_there command files name winner e =
       offset = ap (λ (w : Winner). w.offset) place.2;
       word = ap (λ (i : ℕ). word_of of.0.id i p.0.1) index ∙ ap (λ (g : FileCandidate). found_word g) candidate.1 ∙ ap (λ (w : Winner). w.word) place.2;
     }
+
+-- ---- a winner is that of its own name
+
+abbrev Precedes : Winner → Winner → Type 0
+Precedes a b = slice_cmp nat_cmp a.name b.name ≡ Less
+
+named_itself : (winners : List Winner) (winner : Winner) → AllPairs Precedes winners → In winner winners → winner_named winners winner.name ≡ Some winner
+named_itself [] winner pairs h = absurd h
+named_itself (first ∷ winners) winner pairs (inl e) =
+    let here : bytes_eq winner.name first.name ≡ true = (bytes_eq-Decides winner.name first.name).1 (ap (λ (w : Winner). w.name) (sym e)) in
+    rw here (ap Some e)
+named_itself (first ∷ winners) winner pairs (inr h) = by (bytes_eq winner.name first.name) refl (named_itself winners winner (pairs_tail Precedes first winners pairs) h)
+  where
+    less : slice_cmp nat_cmp first.name winner.name ≡ Less
+    less = pairs_head Precedes first winners winner pairs h
+
+    two : Less ≡ Equal → ⊥
+    two e = cc
+
+    by : (b : Bool) → bytes_eq winner.name first.name ≡ b → winner_named winners winner.name ≡ Some winner → winner_named (first ∷ winners) winner.name ≡ Some winner
+    by false e rest = rw e rest
+    by true e rest =
+        let same : winner.name ≡ first.name = (bytes_eq-Decides winner.name first.name).0 e in
+        absurd (two (sym less ∙ ap (λ (n : List ℕ). slice_cmp nat_cmp n winner.name) (sym same) ∙ tied_itself nat_list_cmp_total winner.name))
+
+pub own_winner : (command : Command) (files : List LoadedFile) (winners : List Winner) (winner : Winner) → AreWinners command files winners → In winner winners → winner_of command files winner.name ≡ Some winner
+own_winner command files winners winner are h = sym (are.each winner.name) ∙ named_itself winners winner are.rising h

@@ -1,31 +1,33 @@
 -- Why loaded files are refused: the causes in the order of the steps.
-use Rattle.std.specs.Prelude.{ℕ, ◌≡◌, ◌<◌, ◌≤◌, ◌^◌, ◌⊎◌, pos, true, false, List, [], length, slice_get, Some, None, Ok}
+use Rattle.std.specs.Prelude.{ℕ, ◌≡◌, ◌<◌, ◌≤◌, ◌^◌, ◌⊎◌, ℤ, pos, false, List, [], length, slice_get, Some, None, Ok}
 use Rattle.std.specs.Cmp.Lexicographic.{slice_cmp}
 use Rattle.std.specs.Ordering.{is_lt, nat_cmp}
-use Rattle.image_make.specs.Made.{IsLaid, ImageInputs, mets_of, plan_for, rows_of}
+use Rattle.fixup_chain.specs.Chained.{AreMany}
+use Rattle.image_make.specs.Made.{IsMade, IsOverlong, IsUnfit, ImageInputs, plan_for}
 use Rattle.liveness.specs.Undefined.{undefined}
 use Rattle.lib_bind.specs.declared.library.LibraryGraph.{LibraryGraph}
 use Rattle.link_steps.specs.Steps.{Cause, ◌>>=◌, ◌>>◌, always, passes, refuses, taken}
 use Rattle.command_line.specs.declared.command.Command.{Command}
 use Rattle.mo_types.specs.declared.answer.Refusal.{Refusal}
-use Rattle.mo_types.specs.declared.answer.Refusal.TheVariants.{Limit, Range, Undefined, Unsupported}
-use Rattle.mo_types.specs.declared.cause.Feature.TheVariants.{Later}
-use Rattle.mo_types.specs.declared.cause.RangeKind.TheVariants.{ImageSize}
+use Rattle.mo_types.specs.declared.answer.Refusal.TheVariants.{Limit, Range, Undefined}
+use Rattle.mo_types.specs.declared.cause.RangeKind.TheVariants as size
 use Rattle.mo_types.specs.declared.cause.Which.TheVariants.{Atoms, Names}
-use Rattle.mo_types.specs.declared.goal.Goal.{Goal}
 use Rattle.mo_types.specs.declared.key.AtomKey.{AtomKey}
 use Rattle.mo_types.specs.declared.loaded.LoadedFile.{LoadedFile}
-use Rattle.patch.specs.Range.{IsLeastFault}
 use Rattle.patch.specs.declared.met.RangeFault.{RangeFault}
+use Rattle.ref_meet.specs.Binds.{binds}
 use Rattle.resolve.specs.Goals.{goal_of_name, goal_table}
 use Rattle.symbol_winners.specs.SymbolTable.{IsSymbolTable, SymbolTable}
 use Rattle.sect_place.specs.Layout.{image_size}
 use Rattle.sect_place.specs.declared.layout.Layout.{Layout}
-use Rattle.link_files.specs.Flags.{header_flags}
-use Rattle.link_files.specs.Later.{first_later, is_outer}
-use Rattle.link_files.specs.Linked.{AsMade, making}
+use Rattle.sect_place.specs.declared.size.PlaceFault.TheVariants.{ImageSize}
+use Rattle.slot_needs.specs.Needs.{needs}
+use Rattle.slot_needs.specs.Unmet.{unmet}
+use Rattle.slot_plan.specs.declared.list.Slots.{Slots}
+use Rattle.link_files.specs.Bound.{AreSlotsFor, HaveManyImports, NeedsAnImage, start_of}
+use Rattle.link_files.specs.Linked.{making}
 use Rattle.link_files.specs.Lost.{lost_wanted}
-use Rattle.link_files.specs.Missing.{Asks, HoldsOfNone, IsFirstFile, IsWantedInVain, Misses}
+use Rattle.link_files.specs.Missing.{HoldsOfNone, IsFirstFile, IsWantedInVain, Misses}
 use Rattle.link_files.specs.Names.{all_names, atoms_in, label_of, wanted}
 use Rattle.link_files.specs.Refusals.{AreOnce, IsTwice}
 use Rattle.link_files.specs.Resolved.{AreKept}
@@ -57,32 +59,36 @@ pub record IsLost (command : Command) (libs : LibraryGraph) (files : List Loaded
   pub least : (other : List ℕ) → IsMissed command libs files keys other → is_lt (slice_cmp nat_cmp other name) ≡ false
   pub told : why ≡ Undefined name file
 
--- a kept atom of a file refers to what the loader looks up, and none of an earlier file does; or the entry alone is in another
--- image
-abbrev pub IsLookedUp : Command → LibraryGraph → List LoadedFile → List AtomKey → Cause Refusal
-IsLookedUp command libs files keys why =
-    ((file : LoadedFile) × IsFirstFile (Asks command libs files keys) files file × (why ≡ Unsupported file.label Later))
-    ⊎ (HoldsOfNone (Asks command libs files keys) files × (command.dylib ≡ false)
-    × (is_outer (goal_of_name files libs command command.entry) ≡ true) × (why ≡ Unsupported command.output Later))
-
 -- the layout has 2^32 bytes or more before `__LINKEDIT`
 pub record IsTooLong (m : ImageInputs) (why : Refusal) : Type 0 where
   pub long : 2 ^ 32 ≤ image_size (plan_for m)
-  pub told : why ≡ Range m.command.output 0 ImageSize (pos (image_size (plan_for m)))
+  pub told : why ≡ Range m.command.output 0 size.ImageSize (pos (image_size (plan_for m)))
 
--- The layout has fewer. A value of a reference of a kept atom doesn't fit its field, and all fit of the atoms with lesser
--- keys, and of those at lesser places in the atom.
+-- The layout has fewer. A pointer of a slot stands or leads too far, and those of slots at lesser addresses don't.
+pub record IsSlotOutOfRange (m : ImageInputs) (why : Refusal) : Type 0 where
+  pub layout : Layout
+  pub fault : RangeFault
+  pub unfit : IsUnfit m layout None fault
+  pub told : why ≡ Range m.command.output 0 fault.kind fault.value
+
+-- Those of slots don't. A value of a reference of a kept atom is out of range, and none is of the atoms with lesser keys, and
+-- of those at lesser places in the atom: a field can't hold it, or a pointer stands or leads too far.
 pub record IsOutOfRange (m : ImageInputs) (why : Refusal) : Type 0 where
   pub layout : Layout
-  pub laid : IsLaid m layout
   pub key : AtomKey
   pub fault : RangeFault
-  pub unfit : IsLeastFault m.files (mets_of m layout) (rows_of m layout) key fault
+  pub unfit : IsUnfit m layout (Some key) fault
   pub told : why ≡ Range (label_of m.files key.file) fault.file_place fault.kind fault.value
 
--- the image is too long, or the value of a reference is out of range
-abbrev pub IsUnfit : ImageInputs → Cause Refusal
-IsUnfit m why = IsTooLong m why ⊎ IsOutOfRange m why
+-- all values are in range, and the whole image has 2^32 bytes or more
+pub record IsOverlongImage (m : ImageInputs) (why : Refusal) : Type 0 where
+  pub value : ℤ
+  pub overlong : IsOverlong m (ImageSize value)
+  pub told : why ≡ Range m.command.output 0 size.ImageSize value
+
+-- the image is too long, or a value is out of range
+abbrev pub HasNoImage : ImageInputs → Cause Refusal
+HasNoImage m why = IsTooLong m why ⊎ (IsSlotOutOfRange m why ⊎ (IsOutOfRange m why ⊎ IsOverlongImage m why))
 
 -- the cause of each refusal, where none before it stands
 abbrev pub LinkCause : Command → LibraryGraph → List LoadedFile → Cause Refusal
@@ -92,29 +98,36 @@ LinkCause command libs files = do
   passes (IsTwice files) (AreOnce files)
   symbols ← taken (IsSymbolTable command files)
   goals ← always (goal_table files libs command)
+  entry ← always (goal_of_name files libs command command.entry)
   keys ← taken (AreKept command files symbols goals)
   refuses (IsLost command libs files keys)
-  refuses (IsLookedUp command libs files keys)
-  IsUnfit (making command libs files (header_flags command libs symbols keys) keys)
+  slots ← taken (AreSlotsFor (needs symbols.literals keys goals files (start_of command entry)))
+  passes (HaveManyImports (binds files symbols.literals keys goals slots)) (¬ AreMany (binds files symbols.literals keys goals slots))
+  passes (NeedsAnImage files (unmet keys goals files)) (unmet keys goals files ≡ [])
+  HasNoImage (making command libs files symbols keys slots)
 
 -- ---- where nothing is refused
 
--- The files have fewer than 2^24 names and atoms, and no name has two strong definitions. These are the atoms that are kept
--- and the flags of the image's header; every name leads somewhere, and all that is referred to is in the image.
-pub record AreInside (command : Command) (libs : LibraryGraph) (files : List LoadedFile) (flags : ℕ) (keys : List AtomKey) : Type 0 where
+-- The files have fewer than 2^24 names and atoms, and no name has two strong definitions. These are the winners of the names,
+-- the atoms that are kept, and the slots that they need. Every name leads somewhere, there are fewer than 2^24 imports, and
+-- each reference can be met.
+pub record AreInside (command : Command) (libs : LibraryGraph) (files : List LoadedFile) (symbols : SymbolTable) (keys : List AtomKey)
+    (slots : Slots) : Type 0 where
   pub few_names : length (all_names files (wanted command)) < 2 ^ 24
   pub few_atoms : atoms_in files < 2 ^ 24
   pub once : AreOnce files
-  pub symbols : SymbolTable
   pub symbols_are : IsSymbolTable command files symbols
   pub kept : AreKept command files symbols (goal_table files libs command) keys
-  pub flagged : flags ≡ header_flags command libs symbols keys
   pub found : undefined keys files (goal_table files libs command) (lost_wanted command libs files) ≡ None
-  pub none : first_later command files (goal_table files libs command) (goal_of_name files libs command command.entry) keys ≡ None
+  pub slots_are : AreSlotsFor (needs symbols.literals keys (goal_table files libs command) files
+      (start_of command (goal_of_name files libs command command.entry))) slots
+  pub few_imports : ¬ AreMany (binds files symbols.literals keys (goal_table files libs command) slots)
+  pub met : unmet keys (goal_table files libs command) files ≡ []
 
 -- an image is made of these
 pub record WentThrough (command : Command) (libs : LibraryGraph) (files : List LoadedFile) (image : List ℕ) : Type 0 where
-  pub flags : ℕ
+  pub symbols : SymbolTable
   pub keys : List AtomKey
-  pub inside : AreInside command libs files flags keys
-  pub made : AsMade command libs files flags keys (Ok image)
+  pub slots : Slots
+  pub inside : AreInside command libs files symbols keys slots
+  pub made : IsMade (making command libs files symbols keys slots) (Ok image)

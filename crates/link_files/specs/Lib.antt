@@ -1,8 +1,8 @@
 pub mod Causes
+pub mod Bound
 pub mod Names
 pub mod Flags
 pub mod Lost
-pub mod Later
 pub mod Missing
 pub mod Refusals
 pub mod Resolved

@@ -1,10 +1,10 @@
 -- What loaded files link to: an image, or the first refusal in the order of the steps.
-use Rattle.std.specs.Prelude.{ℕ, ◌≡◌, ◌≤◌, List, [], All, Ok, Err}
+use Rattle.std.specs.Prelude.{ℕ, ◌≡◌, List, [], All, Ok, Err}
 use Rattle.std.specs.List.{AllPairs}
 use Rattle.image_make.specs.Made.{IsMade, ImageInputs}
 use Rattle.image_make.specs.Whole.{AreBytesIn}
 use Rattle.image_make.specs.declared.fault.MakeFault.{MakeFault}
-use Rattle.input_files.specs.Files.{or_none}
+use Rattle.input_files.specs.Files.{IsLow, or_none}
 use Rattle.lib_bind.specs.declared.library.LibraryGraph.{LibraryGraph}
 use Rattle.link_steps.specs.Steps.{Answer, ◌>>=◌, ◌>>◌, always, checks, some, unless}
 use Rattle.command_line.specs.declared.command.Command.{Command}
@@ -16,11 +16,13 @@ use Rattle.mo_types.specs.declared.key.AtomKey.{AtomKey}
 use Rattle.mo_types.specs.declared.loaded.LoadedFile.{LoadedFile}
 use Rattle.resolve.specs.Goals.{goal_of_name, goal_table}
 use Rattle.symbol_winners.specs.SymbolTable.{IsSymbolTable, SymbolTable}
-use Rattle.literal_merge.specs.Representatives.{representatives_of}
+use Rattle.ref_meet.specs.Binds.{binds}
 use Rattle.sect_place.specs.declared.island.IslandPlan.{IslandPlan}
+use Rattle.slot_needs.specs.Needs.{needs}
+use Rattle.slot_needs.specs.Unmet.{unmet}
 use Rattle.slot_plan.specs.declared.list.Slots.{Slots}
+use Rattle.link_files.specs.Bound.{AreSlotsFor, IsImportsTold, IsUnmetTold, start_of}
 use Rattle.link_files.specs.Flags.{header_flags}
-use Rattle.link_files.specs.Later.{later_refusal}
 use Rattle.link_files.specs.Lost.{undefined_refusal}
 use Rattle.link_files.specs.Names.{atoms_refusal, names_refusal, wanted}
 use Rattle.link_files.specs.Refusals.{IsDuplicateTold, IsToldAs}
@@ -38,41 +40,30 @@ AreCut files = All (λ file. file.atoms ≡ atoms_of file.object file.id) files
 abbrev pub AreReferred : List LoadedFile → Type 0
 AreReferred files = All (λ file. file.refs ≡ or_none (refs_of file.object file.id)) files
 
--- no atom is aligned to more than a page of 2^14 bytes
-abbrev pub AreLow : List LoadedFile → Type 0
-AreLow files = All (λ file. All (λ atom. atom.align ≤ 14) file.atoms) files
-
--- slots and islands come with a later version
-abbrev pub no_slots : Slots
-no_slots = record { got = []; stubs = []; tlv = [] }
-
+-- islands come with a later version
 abbrev pub no_islands : IslandPlan
 no_islands = record { areas = []; ways = [] }
 
 -- what the image is made of
-unfoldable pub making : Command → LibraryGraph → List LoadedFile → ℕ → List AtomKey → ImageInputs
-making command libs files flags keys = record {
+unfoldable pub making : Command → LibraryGraph → List LoadedFile → SymbolTable → List AtomKey → Slots → ImageInputs
+making command libs files symbols keys slots = record {
   command = command;
   libs = libs;
   files = files;
   goals = goal_table files libs command;
-  literals = representatives_of files;
+  literals = symbols.literals;
+  winners = symbols.winners;
   keys = keys;
-  flags = flags;
+  flags = header_flags command libs symbols keys;
   entry = goal_of_name files libs command command.entry;
-  slots = no_slots;
+  slots = slots;
   islands = no_islands;
 }
 
--- the image of the kept atoms, or the fault for which there is none, as it is told
-abbrev pub AsMade : Command → LibraryGraph → List LoadedFile → ℕ → List AtomKey → Answer Refusal (List ℕ)
-AsMade command libs files flags keys (Ok image) = IsMade (making command libs files flags keys) (Ok image)
-AsMade command libs files flags keys (Err why) =
-    (fault : MakeFault) × IsMade (making command libs files flags keys) (Err fault) × IsToldAs command files fault why
-
--- the same, with the flags that its header has
-abbrev pub AsImage : Command → LibraryGraph → List LoadedFile → SymbolTable → List AtomKey → Answer Refusal (List ℕ)
-AsImage command libs files symbols keys = AsMade command libs files (header_flags command libs symbols keys) keys
+-- the image, or the fault for which there is none, as it is told
+abbrev pub AsImage : ImageInputs → Answer Refusal (List ℕ)
+AsImage m (Ok image) = IsMade m (Ok image)
+AsImage m (Err why) = (fault : MakeFault) × IsMade m (Err fault) × IsToldAs m.command m.files fault why
 
 -- with the winners of the names
 abbrev pub AsWon : Command → LibraryGraph → List LoadedFile → SymbolTable → Answer Refusal (List ℕ)
@@ -81,12 +72,15 @@ AsWon command libs files symbols = do
   entry ← always (goal_of_name files libs command command.entry)
   keys ← some (AreKept command files symbols goals)
   unless (undefined_refusal command libs files goals keys)
-  unless (later_refusal command files goals entry keys)
-  AsImage command libs files symbols keys
+  slots ← some (AreSlotsFor (needs symbols.literals keys goals files (start_of command entry)))
+  checks (IsImportsTold (binds files symbols.literals keys goals slots))
+  checks (IsUnmetTold files (unmet keys goals files))
+  AsImage (making command libs files symbols keys slots)
 
 -- What files link to. They have fewer than 2^24 names and atoms, and no name has two strong definitions. With the winners
 -- and the goals of all names come the atoms that are kept. None of the names to which these refer or that are wanted leads
--- nowhere, and the loader looks up none of their goals. Then follows the image, by its layout and its fields.
+-- nowhere. They and the entry need slots and stubs; there are fewer than 2^24 imports, and no reference tells an address
+-- that another image has. Then follows the image, by its layout and its fields.
 abbrev pub IsLinked : Command → LibraryGraph → List LoadedFile → Answer Refusal (List ℕ)
 IsLinked command libs files = do
   unless (names_refusal files (wanted command))
@@ -99,5 +93,5 @@ IsLinked command libs files = do
 pub record AreLinkable (files : List LoadedFile) : Type 0 where
   pub ordered : AreOrdered files
   pub whole : All IsWholeFile files
-  pub low : AreLow files
+  pub low : All IsLow files
   pub bytes : AreBytesIn files

@@ -1,5 +1,4 @@
--- What kept atoms refer to and an image can't have: names that lead nowhere, and what the loader looks up (ld(1):
--- -undefined, -flat_namespace; `loader.h`: two-level namespaces).
+-- What kept atoms refer to and an image can't have: names that lead nowhere (ld(1): -undefined, -flat_namespace).
 use Rattle.std.specs.Prelude.{ℕ, ◌≡◌, ◌<◌, ◌⊎◌, true, false, List, Contains, Some, None, slice_get}
 use Rattle.command_line.specs.declared.command.Command.{Command}
 use Rattle.lib_bind.specs.Provides.{provider_of}
@@ -11,10 +10,9 @@ use Rattle.mo_types.specs.declared.loaded.LoadedFile.{LoadedFile}
 use Rattle.mo_types.specs.declared.object.Symbol.{Symbol}
 use Rattle.mo_types.specs.declared.reference.Ref.{Ref}
 use Rattle.mo_types.specs.declared.reference.Target.TheVariants.{Name}
-use Rattle.resolve.specs.Goals.{goal_of_symbol, is_flat, is_header_symbol}
+use Rattle.resolve.specs.Goals.{is_flat, is_header_symbol}
 use Rattle.symbol_winners.specs.Places.{place_of}
 use Rattle.symbol_winners.specs.Winners.{winner_of}
-use Rattle.link_files.specs.Later.{is_looked_up}
 use Rattle.link_files.specs.Names.{wanted}
 
 -- A kept atom of a file refers to the symbol of an index: as the target of a reference, or as what is subtracted from it.
@@ -52,15 +50,6 @@ pub record Misses (command : Command) (libs : LibraryGraph) (files : List Loaded
 pub record IsWantedInVain (command : Command) (libs : LibraryGraph) (files : List LoadedFile) (name : List ℕ) : Type 0 where
   pub among : Contains (wanted command) name
   pub nowhere : LeadsNowhere command libs files name
-
--- ---- what the loader looks up
-
--- a kept atom of a file refers to a symbol whose goal is in another image, or is found by its name
-pub record Asks (command : Command) (libs : LibraryGraph) (files : List LoadedFile) (keys : List AtomKey) (file : LoadedFile) : Type 0 where
-  pub index : ℕ
-  pub symbol : Symbol
-  pub refers : RefersTo keys file index symbol
-  pub looked_up : is_looked_up (goal_of_symbol files libs command file (index, symbol)) ≡ true
 
 -- ---- the first file
 

@@ -31,10 +31,11 @@ abbrev pub IsDuplicateTold : List LoadedFile → Option Refusal → Type 0
 IsDuplicateTold files None = AreOnce files
 IsDuplicateTold files (Some why) = IsTwice files why
 
--- An image that is too large is refused by its path and its size, and a reference whose value doesn't fit by its file and
--- its place there. Want of memory is no refusal.
+-- An image that is too large is refused by its path and its size. A value that is out of range is refused by the file of its
+-- atom and the place there, and that of a slot by the image's path. Want of memory is no refusal.
 abbrev pub IsToldAs : Command → List LoadedFile → MakeFault → Refusal → Type 0
 IsToldAs command files (make.Place (place.ImageSize value)) why = why ≡ refusal.Range command.output 0 ImageSize value
 IsToldAs command files (make.Place place.OutOfMemory) why = ⊥
-IsToldAs command files (make.Range key fault) why = why ≡ refusal.Range (label_of files key.file) fault.file_place fault.kind fault.value
+IsToldAs command files (make.Range None fault) why = why ≡ refusal.Range command.output 0 fault.kind fault.value
+IsToldAs command files (make.Range (Some key) fault) why = why ≡ refusal.Range (label_of files key.file) fault.file_place fault.kind fault.value
 IsToldAs command files make.OutOfMemory why = ⊥

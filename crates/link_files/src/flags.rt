@@ -1,5 +1,5 @@
 //! The flags of the image's header.
-ghost use Rattle.std.specs.Prelude.{◌≡◌};
+ghost use Rattle.std.specs.Prelude.{◌≡◌, ◌<◌, ◌^◌};
 ghost use Rattle.std.specs.List.{list_any};
 ghost use Rattle.std.specs.List.Sorted.{IsStrictlySortedBy};
 ghost use Rattle.mo_types.specs.Keys.{compare_keys};
@@ -9,7 +9,7 @@ use crate::resolved::Resolved;
 use lib_bind::Library;
 use mark_core::is_kept;
 use mo_format::loader::{
-    MH_DYLDLINK, MH_NO_REEXPORTED_DYLIBS, MH_NOUNDEFS, MH_PIE, MH_TWOLEVEL, MH_WEAK_DEFINES,
+    MH_DYLDLINK, MH_NO_REEXPORTED_DYLIBS, MH_PIE, MH_TWOLEVEL, MH_WEAK_DEFINES,
 };
 use mo_types::AtomKey;
 use symbol_winners::{SymbolTable, Winner};
@@ -37,11 +37,12 @@ fn any_reexported(libraries: &[Library]) -> bool
     libraries.iter().any(|library| library.reexport)
 }
 
-/// The flags of an image that keeps these atoms (`loader.h`).
+/// The flags of an image that keeps these atoms, but for those that its pointers and sections tell (`loader.h`).
 #[tactic(auto, unfolding(crate::specs::Flags::header_flags))]
 pub(crate) fn header_flags(resolved: &Resolved, keys: &[AtomKey]) -> u32
     requires { IsStrictlySortedBy compare_keys keys.now }
-    ensures { result ≡ spec.header_flags resolved.now.command.now resolved.now.libs.now resolved.now.symbols.now keys.now }
+    ensures exact { result ≡ spec.header_flags resolved.now.command.now resolved.now.libs.now resolved.now.symbols.now keys.now }
+    ensures few { result < 2 ^ 31 }
 {
     let Resolved {
         command,
@@ -61,5 +62,5 @@ pub(crate) fn header_flags(resolved: &Resolved, keys: &[AtomKey]) -> u32
     } else {
         MH_NO_REEXPORTED_DYLIBS
     };
-    MH_NOUNDEFS + MH_DYLDLINK + MH_TWOLEVEL + weak + kind
+    MH_DYLDLINK + MH_TWOLEVEL + weak + kind
 }

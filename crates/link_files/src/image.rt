@@ -1,12 +1,15 @@
 //! The image of the atoms that are kept.
-ghost use Rattle.std.specs.Prelude.{◌≡◌, IfOk};
+ghost use Rattle.std.specs.Prelude.{◌≡◌, All, IfOk};
 ghost use Rattle.std.specs.List.Sorted.{IsStrictlySortedBy};
 ghost use Rattle.link_steps.specs.Steps.{Meets};
 ghost use Rattle.mo_types.specs.Keys.{compare_keys};
 ghost use Rattle.mo_types.specs.Loaded.{IsWholeLoaded};
-ghost use Rattle.link_files.specs.Linked.{AreLow, AsImage, no_islands, no_slots};
+ghost use Rattle.fixup_chain.specs.Chained.{AreMany};
+ghost use Rattle.input_files.specs.Files.{IsLow};
+ghost use Rattle.ref_meet.specs.Binds.{binds};
+ghost use Rattle.link_files.specs.Linked.{AsImage, making, no_islands};
 ghost use Rattle.link_files.specs.Refusals.{IsToldAs};
-ghost use Rattle.link_files.specs.Resolved.{IsResolved, files_of};
+ghost use Rattle.link_files.specs.Resolved.{IsResolved, files_of, table_of};
 
 use crate::flags::header_flags;
 use crate::labels::label_of;
@@ -17,17 +20,9 @@ use link_steps::StepFault;
 use mo_outside::Gate;
 use mo_types::{Bytes, KeyList, Loaded, OutOfMemory, RangeKind, Refusal};
 use sect_place::{AreaList, IslandPlan, PlaceFault, WayList};
-use slot_plan::{NeedList, Slots, slots};
+use slot_plan::Slots;
 use std::alloc::Global;
 use std::thread::Threads;
-
-// No slots: they come with a later version.
-#[tactic(auto, using(crate::proofs::ImageLemmas::empties))]
-fn no_slots(alloc: Global) -> Result<Slots, OutOfMemory>
-    ensures { IfOk result (λ slots. slots ≡ no_slots) }
-{
-    slots(alloc, &NeedList::new(alloc))
-}
 
 // No islands: they come with a later version.
 fn no_islands(alloc: Global) -> IslandPlan
@@ -50,9 +45,18 @@ fn refusal_of(command: &Command, loaded: &Loaded, fault: MakeFault) -> Result<Re
             kind: RangeKind::ImageSize,
             value,
         }),
-        MakeFault::Range { atom, fault } => Ok(Refusal::Range {
-            file: label_of(loaded.files.as_slice(), atom.file)?,
+        MakeFault::Range {
+            atom: Some(key),
+            fault,
+        } => Ok(Refusal::Range {
+            file: label_of(loaded.files.as_slice(), key.file)?,
             place: fault.file_place,
+            kind: fault.kind,
+            value: fault.value,
+        }),
+        MakeFault::Range { atom: None, fault } => Ok(Refusal::Range {
+            file: command.output.clone()?,
+            place: 0,
             kind: fault.kind,
             value: fault.value,
         }),
@@ -68,12 +72,14 @@ pub(crate) fn image_of<R: Threads + Sync, G: Gate + Sync>(
     threads: u32,
     resolved: &Resolved,
     keys: &KeyList,
+    slots: &Slots,
 ) -> Result<Bytes, StepFault<Refusal>>
     requires whole { IsWholeLoaded resolved.now.loaded.now }
-    requires low { AreLow (files_of resolved.now) }
+    requires low { All IsLow (files_of resolved.now) }
     requires resolved { IsResolved resolved.now }
     requires keys { IsStrictlySortedBy compare_keys keys.now }
-    ensures { Meets (AsImage resolved.now.command.now resolved.now.libs.now (files_of resolved.now) resolved.now.symbols.now keys.now) result }
+    requires few { ¬ AreMany (binds (files_of resolved.now) resolved.now.symbols.now.literals keys.now (table_of resolved.now) slots.now) }
+    ensures { Meets (AsImage (making resolved.now.command.now resolved.now.libs.now (files_of resolved.now) resolved.now.symbols.now keys.now slots.now)) result }
 {
     let Resolved {
         command,
@@ -83,7 +89,6 @@ pub(crate) fn image_of<R: Threads + Sync, G: Gate + Sync>(
         goals,
         entry,
     } = *resolved;
-    let slots = no_slots(alloc)?;
     let islands = no_islands(alloc);
     let scheme = ImageInputs {
         command,
@@ -94,7 +99,7 @@ pub(crate) fn image_of<R: Threads + Sync, G: Gate + Sync>(
         keys,
         flags: header_flags(resolved, keys.as_slice()),
         entry,
-        slots: &slots,
+        slots,
         islands: &islands,
     };
     match make_image(rt, alloc, gate, threads, &scheme) {

@@ -1,11 +1,12 @@
 //! What holds of what loaded files link to, each on a call that does nothing.
-ghost use Rattle.std.specs.Prelude.{ℕ, List, Ok};
+ghost use Rattle.std.specs.Prelude.{ℕ, All, List, Ok};
+ghost use Rattle.input_files.specs.Files.{IsLow};
 ghost use Rattle.lib_bind.specs.declared.library.LibraryGraph.{LibraryGraph};
 ghost use Rattle.link_steps.specs.Steps.{IsOne, IsSome, Stops};
 ghost use Rattle.command_line.specs.declared.command.Command.{Command as Commanded};
 ghost use Rattle.mo_types.specs.declared.loaded.LoadedFile.{LoadedFile};
 ghost use Rattle.link_files.specs.Causes.{LinkCause, WentThrough};
-ghost use Rattle.link_files.specs.Linked.{AreCut, AreLinkable, AreLow, AreOrdered, AreReferred, IsLinked};
+ghost use Rattle.link_files.specs.Linked.{AreCut, AreLinkable, AreOrdered, AreReferred, IsLinked};
 
 /// Files as a link has them link to something.
 pub fn a_link_exists()
@@ -16,7 +17,7 @@ pub fn a_link_exists()
 /// more than a page, link to one thing.
 pub fn a_link_is_one()
     ensures { (command : Commanded) (libs : LibraryGraph) (files : List LoadedFile)
-        → AreOrdered files → AreCut files → AreReferred files → AreLow files → IsOne (IsLinked command libs files) }
+        → AreOrdered files → AreCut files → AreReferred files → All IsLow files → IsOne (IsLinked command libs files) }
 {}
 
 /// What files link to, where it is an image, went through all steps: none of them refuses, and it is made of the atoms that

@@ -1,16 +1,17 @@
 //! From loaded files to their image: a line of steps, each of which may refuse.
-ghost use Rattle.std.specs.Prelude.{◌≡◌};
+ghost use Rattle.std.specs.Prelude.{◌≡◌, All};
 ghost use Rattle.link_steps.specs.Steps.{Meets};
 ghost use Rattle.mo_types.specs.Loaded.{IsWholeLoaded};
 ghost use Rattle.name_ids.specs.Names.{AreNames, numbers_of};
 ghost use Rattle.symbol_winners.specs.SymbolTable.{IsSymbolTable};
-ghost use Rattle.link_files.specs.Linked.{AreLow, AsWon, IsLinked};
+ghost use Rattle.input_files.specs.Files.{IsLow};
+ghost use Rattle.link_files.specs.Linked.{AsWon, IsLinked};
 ghost use Rattle.link_files.specs.Names.{wanted};
 
+use crate::bound::{all_met, few_imports, needed_slots};
 use crate::duplicates::defined_once;
 use crate::image::image_of;
 use crate::keeping::kept_keys;
-use crate::later::all_inside;
 use crate::lost::all_defined;
 use crate::names::few_atoms;
 use crate::racing::raced_words;
@@ -28,8 +29,8 @@ use symbol_winners::{SymbolTable, winners};
 
 /// The image of loaded files, whose names and those that the command line wants are numbered in any order, written by so many
 /// workers; or the first refusal of these: 2^24 atoms; a name with two strong definitions; one that is referred to or wanted
-/// and leads nowhere; a goal that comes with a later version; an image of 2^32 bytes; a value that doesn't fit its field. The
-/// answer is the same for every number of workers.
+/// and leads nowhere; 2^24 imports; a reference that tells an address which another image has; an image of 2^32 bytes; a value
+/// that is out of range. The answer is the same for every number of workers.
 #[tactic(auto, unfolding(link_steps::specs::Steps::unless))]
 pub fn link_files<R: Threads + Sync, G: Gate + Sync>(
     rt: &R,
@@ -41,7 +42,7 @@ pub fn link_files<R: Threads + Sync, G: Gate + Sync>(
     named: &NamedFiles,
 ) -> Result<Bytes, StepFault<Refusal>>
     requires whole { IsWholeLoaded named.now.loaded }
-    requires low { AreLow named.now.loaded.files }
+    requires low { All IsLow named.now.loaded.files }
     requires names { AreNames named.now.loaded.files (wanted command.now) named.now.numbered.names }
     requires numbers { named.now.numbered.numbers ≡ numbers_of named.now.numbered.names named.now.loaded.files }
     ensures { Meets (IsLinked command.now libs.now named.now.loaded.files) result }
@@ -71,7 +72,7 @@ fn link_winners<R: Threads + Sync, G: Gate + Sync>(
     symbols: &SymbolTable,
 ) -> Result<Bytes, StepFault<Refusal>>
     requires whole { IsWholeLoaded inputs.now.named.now.loaded }
-    requires low { AreLow inputs.now.named.now.loaded.files }
+    requires low { All IsLow inputs.now.named.now.loaded.files }
     requires symbols { IsSymbolTable inputs.now.command.now inputs.now.named.now.loaded.files symbols.now }
     requires numbers { inputs.now.named.now.numbered.numbers ≡ numbers_of symbols.now.names inputs.now.named.now.loaded.files }
     ensures { Meets (AsWon inputs.now.command.now inputs.now.libs.now inputs.now.named.now.loaded.files symbols.now) result }
@@ -97,6 +98,9 @@ fn link_winners<R: Threads + Sync, G: Gate + Sync>(
     };
     let keys = kept_keys(alloc, &resolved, numbers)?;
     all_defined(alloc, &resolved, &keys)?;
-    all_inside(&resolved, &keys)?;
-    image_of(rt, alloc, gate, threads, &resolved, &keys)
+    let referring = resolved.referring(&keys);
+    let slots = needed_slots(alloc, &referring)?;
+    few_imports(alloc, &referring, &slots)?;
+    all_met(&referring)?;
+    image_of(rt, alloc, gate, threads, &resolved, &keys, &slots)
 }

@@ -1,9 +1,14 @@
 //! Files whose names have winners.
+ghost use Rattle.std.specs.Prelude.{◌≡◌};
+ghost use Rattle.std.specs.Option.{option_copied};
+ghost use Rattle.link_files.specs.Bound.{start_of};
+
 use command_line::Command;
 use lib_bind::Libraries;
-use mo_types::{Goal, Loaded};
+use mo_types::{Goal, KeyList, Loaded};
 use name_ids::NamedFiles;
 use resolve::GoalTable;
+use slot_needs::Referring;
 use symbol_winners::SymbolTable;
 
 /// Loaded files with the numbers of their names, with how many workers link them, by which command, and with which libraries.
@@ -26,4 +31,27 @@ pub(crate) struct Resolved<'a> {
     pub goals: &'a GoalTable,
     /// Where the program begins.
     pub entry: &'a Goal,
+}
+
+impl<'a> Resolved<'a> {
+    /// What refers to something, where these atoms are kept: their references, and an executable's entry.
+    pub fn referring(&self, keys: &'a KeyList) -> Referring<'a>
+        ensures loaded { result.loaded.now ≡ self.now.loaded.now }
+        ensures goals { result.goals.now ≡ self.now.goals.now }
+        ensures symbols { result.symbols.now ≡ self.now.symbols.now }
+        ensures keys { result.keys.now ≡ keys.now }
+        ensures entry { option_copied result.entry ≡ start_of self.now.command.now self.now.entry.now }
+    {
+        Referring {
+            loaded: self.loaded,
+            goals: self.goals,
+            symbols: self.symbols,
+            keys,
+            entry: if self.command.dylib {
+                None
+            } else {
+                Some(self.entry)
+            },
+        }
+    }
 }

@@ -1,16 +1,13 @@
 -- The bytes of an atom that its object doesn't have are zeros in the image.
-use Rattle.std.proofs.Common.{◌≡◌, ◌≢◌, ℕ, ◌+◌, ◌-◌, ◌<◌, ◌≤◌, ◌⊎◌, inl, inr, true, List, length, get_or, map, Some, sym, ap, ◌∙◌, arith, subst}
+use Rattle.std.proofs.Common.{◌≡◌, ◌≢◌, ℕ, ◌+◌, ◌-◌, ◌<◌, ◌≤◌, ◌⊎◌, inl, inr, true, List, [], length, get_or, map, Some, sym, ap, ◌∙◌, arith, subst}
 use Rattle.std.specs.Prelude.{All, slice_get}
 use Rattle.std.specs.Ordering.{is_eq}
 use Rattle.std.proofs.lemmas.Bool.{cases_Bool, cases_lt, false≢true}
-use Rattle.std.proofs.lemmas.Cmp.{tied_itself}
 use Rattle.std.proofs.lemmas.Option.{slice_get-get_or}
 use Rattle.list_lemmas.proofs.Members.{In}
-use Rattle.mo_types.proofs.KeyOrder.{compare_keys_total}
 use Rattle.mo_types.specs.Keys.{compare_keys}
 use Rattle.mo_types.specs.declared.atom.Atom.{Atom}
 use Rattle.mo_types.specs.declared.key.AtomKey.{AtomKey}
-use Rattle.atom_index.proofs.Keys.{same_key}
 use Rattle.patch.specs.Range.{IsBeside, bytes_of}
 use Rattle.patch.specs.declared.range.PlacedWork.{PlacedWork}
 use Rattle.sect_place.specs.Addresses.{address_in}
@@ -18,26 +15,32 @@ use Rattle.sect_place.specs.declared.layout.Layout.{Layout}
 use Rattle.sect_place.specs.declared.layout.PlacedSection.{PlacedSection}
 use Rattle.sect_place.specs.declared.layout.Segment.{Segment}
 use Rattle.sect_place.proofs.Positions.{found_atom}
+use Rattle.slot_place.specs.Places.{own_section}
+use Rattle.slot_plan.specs.declared.need.Way.{Way}
 use Rattle.image_make.specs.Atoms.{atom_of, kept_at}
-use Rattle.image_make.specs.Made.{ImageInputs, front_of, kept_of, plan_for, rows_of}
+use Rattle.image_make.specs.Made.{IsLaid, ImageInputs, front_of, kept_of, plan_for, rows_of}
+use Rattle.image_make.specs.Parts.{linkedit_offset}
 use Rattle.image_make.specs.declared.kept.KeptAtom.{KeptAtom}
-use Rattle.image_read.specs.Mapped.{mapped}
-use Rattle.loader_laws.specs.Means.{AreRising, IsImage}
 use Rattle.image_make.proofs.RoomLemmas.{counts}
-use Rattle.loader_laws.proofs.Begun.{all_places, blank_rest, end_there, is_plan, row_at_place}
+use Rattle.image_make.proofs.WorkLemmas.{few_bytes}
+use Rattle.image_read.specs.Mapped.{mapped}
+use Rattle.image_laws.specs.Means.{AreRising, Imaged}
+use Rattle.image_laws.proofs.Begun.{beside_atoms, image_long}
+use Rattle.image_laws.proofs.Blank.{zero_byte}
+use Rattle.image_laws.proofs.Layouts.{HasPlace, all_places, is_plan, own_bare, place_before, row_at_place, same_section, stored_place}
+use Rattle.image_laws.proofs.Mapping.{section_stored}
+use Rattle.image_laws.proofs.Planned.{in_turn}
+use Rattle.image_laws.proofs.Rowed.{IsRowIn, find_mapped, row_in}
+use Rattle.image_laws.proofs.Turned.{InTurn, IsAt, one_address}
 use Rattle.link_files.proofs.Lists.{some_is}
-use Rattle.loader_laws.proofs.Mapping.{few_bytes, section_stored}
-use Rattle.loader_laws.proofs.Planned.{in_turn}
-use Rattle.loader_laws.proofs.Rowed.{IsRowIn, find_mapped, row_in}
+use Rattle.loader_laws.proofs.Finding.{key_found, key_itself}
 use Rattle.loader_laws.proofs.Spread.{row_spread, stand_apart}
-use Rattle.loader_laws.proofs.Standing.{equal_is}
-use Rattle.loader_laws.proofs.Turned.{InTurn, IsAt, one_address}
 
 -- two keys are one or differ
 pub cases_key : (a b : AtomKey) → (a ≡ b) ⊎ (a ≢ b)
 cases_key a b = elim (cases_Bool (is_eq (compare_keys a b))) [
-  | inl tie ↦ inl (same_key a b (equal_is (compare_keys a b) tie))
-  | inr differ ↦ inr (λ e. false≢true (sym differ ∙ subst (λ (k : AtomKey). is_eq (compare_keys a k) ≡ true) e (ap is_eq (tied_itself compare_keys_total a))))
+  | inl tie ↦ inl (key_found a b tie)
+  | inr differ ↦ inr (λ e. false≢true (sym differ ∙ subst (λ (k : AtomKey). is_eq (compare_keys a k) ≡ true) e (key_itself a)))
 ]
 
 -- the kept atom of a row's key
@@ -64,15 +67,15 @@ same_rows m layout a b first second e =
     }
 
 -- a place in the file behind an atom's bytes, and before the atom's end, is part of no atom's bytes
-clear_behind : (m : ImageInputs) (layout : Layout) (image : List ℕ) (row : PlacedWork) (k : ℕ) → AreRising m → IsImage m layout image → In row (rows_of m layout) → length (bytes_of m.files row) ≤ k → k < row.atom.size → All (IsBeside m.files 0 (row.at + k)) (rows_of m layout)
-clear_behind m layout image row k rising is h past low = all_places (IsBeside m.files 0 (row.at + k)) (rows_of m layout) each
+clear_behind : (m : ImageInputs) (image : List ℕ) (of : Imaged m image) (row : PlacedWork) (k : ℕ) → AreRising m → In row (rows_of m of.layout) → length (bytes_of m.files row) ≤ k → k < row.atom.size → All (IsBeside m.files 0 (row.at + k)) (rows_of m of.layout)
+clear_behind m image of row k rising h past low = all_places (IsBeside m.files 0 (row.at + k)) (rows_of m of.layout) each
   where
-    clash : (other : PlacedWork) → In other (rows_of m layout) → other.at ≤ row.at + k → row.at + k < other.at + length (bytes_of m.files other) → IsBeside m.files 0 (row.at + k) other
+    clash : (other : PlacedWork) → In other (rows_of m of.layout) → other.at ≤ row.at + k → row.at + k < other.at + length (bytes_of m.files other) → IsBeside m.files 0 (row.at + k) other
     clash other h' begun short =
-        let one = row_in m layout row rising is.laid h in
-        let two = row_in m layout other rising is.laid h' in
-        let here = row_at_place m layout row rising is.laid h in
-        let there = row_at_place m layout other rising is.laid h' in
+        let one = row_in m of.layout row rising of.is_image.laid h in
+        let two = row_in m of.layout other rising of.is_image.laid h' in
+        let here = row_at_place m of.layout row rising of.is_image.laid h in
+        let there = row_at_place m of.layout other rising of.is_image.laid h' in
         let few = few_bytes m.files other in
         let stored = here.bytes (omega arith) in
         let stored' = there.bytes (omega arith) in
@@ -82,21 +85,21 @@ clear_behind m layout image row k rising is h past low = all_places (IsBeside m.
         let above' = there.low in
         let a : IsAt here.segment (row.address + k) (row.at + k) = (omega arith, omega arith, omega arith) in
         let b : IsAt there.segment (other.address + (row.at + k - other.at)) (row.at + k) = (omega arith, omega arith, omega arith) in
-        let turn = subst (λ (ss : List Segment). InTurn 0 0 ss) (sym is.laid.layout_of.segments) (in_turn m.command (plan_for m) (is_plan m layout is.laid)) in
-        let at : row.address + k ≡ other.address + (row.at + k - other.at) = one_address 0 0 layout.segments here.segment there.segment (row.address + k) (other.address + (row.at + k - other.at)) (row.at + k) turn here.among there.among a b in
+        let turn = subst (λ (ss : List Segment). InTurn 0 0 ss) (sym of.is_image.laid.layout_of.segments) (in_turn m.command (plan_for m) (is_plan m of.layout of.is_image.laid)) in
+        let at : row.address + k ≡ other.address + (row.at + k - other.at) = one_address 0 0 of.layout.segments here.segment there.segment (row.address + k) (other.address + (row.at + k - other.at)) (row.at + k) turn here.among there.among a b in
         elim (cases_key row.atom.key other.atom.key) [
           | inl same ↦
-              let rows = same_rows m layout row other one two same in
+              let rows = same_rows m of.layout row other one two same in
               let long : length (bytes_of m.files row) ≡ length (bytes_of m.files other) = ap length rows.bytes in
               let stands = rows.address in
               absurd (omega (arith, at, long, stands, past, begun, short))
-          | inr differ ↦ elim (stand_apart m row.atom.key other.atom.key row.atom other.atom row.address other.address (row_spread m layout row rising is.laid h) (row_spread m layout other rising is.laid h') differ) [
+          | inr differ ↦ elim (stand_apart m row.atom.key other.atom.key row.atom other.atom row.address other.address (row_spread m of.layout row rising of.is_image.laid h) (row_spread m of.layout other rising of.is_image.laid h') differ) [
             | inl before ↦ absurd (omega (arith, at, before, low, begun))
             | inr behind ↦ absurd (omega (arith, at, behind, few, begun, short))
           ]
         ]
 
-    each : (other : PlacedWork) → In other (rows_of m layout) → IsBeside m.files 0 (row.at + k) other
+    each : (other : PlacedWork) → In other (rows_of m of.layout) → IsBeside m.files 0 (row.at + k) other
     each other h' = elim (cases_lt (row.at + k) other.at) [
       | inl before ↦ inl (omega arith)
       | inr begun ↦ elim (cases_lt (row.at + k) (other.at + length (bytes_of m.files other))) [
@@ -105,24 +108,60 @@ clear_behind m layout image row k rising is h past low = all_places (IsBeside m.
       ]
     ]
 
-pub zero_behind : (m : ImageInputs) (layout : Layout) (image : List ℕ) (row : PlacedWork) (k : ℕ) → AreRising m → IsImage m layout image → In row (rows_of m layout) → length (bytes_of m.files row) ≤ k → k < row.atom.size → mapped image (row.address + k) ≡ Some 0
-zero_behind m layout image row k rising is h past low =
-    let of_section = row_in m layout row rising is.laid h in
-    let section : PlacedSection = of_section.section in
-    let within = of_section.within in
-    let from = within.low in
-    let to = within.high in
-    let at : section.file_offset + (row.address - section.address) ≡ row.at = ap (λ (r : PlacedWork). r.at) of_section.is in
-    let stored = section_stored m layout image section (row.address - section.address + k) rising is of_section.among of_section.solid (omega arith) in
-    let address : section.address + (row.address - section.address + k) ≡ row.address + k = omega arith in
-    let place : section.file_offset + (row.address - section.address + k) ≡ row.at + k = omega arith in
-    let here = row_at_place m layout row rising is.laid h in
-    let filled = here.bytes (omega arith) in
-    let where_at = here.place in
-    let above = here.low in
-    let behind = here.behind in
-    let count = counts m layout is.laid in
-    let room = count.room in
-    let long = end_there m layout image here.segment is here.among in
-    let zero : get_or image (row.at + k) 0 ≡ 0 = is.filled.beside.others (row.at + k) (clear_behind m layout image row k rising is h past low) ∙ blank_rest (front_of m layout) layout (row.at + k) (omega arith) in
-    ap (mapped image) (sym address) ∙ stored ∙ ap (slice_get image) place ∙ slice_get-get_or image (row.at + k) 0 (omega arith) ∙ ap Some zero
+pub zero_behind : (m : ImageInputs) (image : List ℕ) (of : Imaged m image) (row : PlacedWork) (k : ℕ) → AreRising m → In row (rows_of m of.layout) → length (bytes_of m.files row) ≤ k → k < row.atom.size → mapped image (row.address + k) ≡ Some 0
+zero_behind m image of row k rising h past low =
+    ap (mapped image) (sym address) ∙ stored ∙ ap (slice_get image) place ∙ slice_get-get_or image (row.at + k) 0 (omega (arith, long, before)) ∙ ap Some zero
+  where
+    laid : IsLaid m of.layout
+    laid = of.is_image.laid
+
+    of_section : IsRowIn m of.layout row
+    of_section = row_in m of.layout row rising laid h
+
+    section : PlacedSection
+    section = of_section.section
+
+    from : section.address ≤ row.address
+    from = of_section.within.low
+
+    to : row.address + row.atom.size ≤ section.address + section.size
+    to = of_section.within.high
+
+    at : section.file_offset + (row.address - section.address) ≡ row.at
+    at = ap (λ (r : PlacedWork). r.at) of_section.is
+
+    stored : mapped image (section.address + (row.address - section.address + k)) ≡ slice_get image (section.file_offset + (row.address - section.address + k))
+    stored = section_stored m image of section (row.address - section.address + k) rising of_section.among of_section.solid (omega (arith, from, to, low))
+
+    address : section.address + (row.address - section.address + k) ≡ row.address + k
+    address = omega (arith, from)
+
+    place : section.file_offset + (row.address - section.address + k) ≡ row.at + k
+    place = omega (arith, at)
+
+    here : HasPlace m of.layout section (row.at + k)
+    here = stored_place m of.layout section (row.at + k) laid of_section.among of_section.solid (omega (arith, at)) (omega (arith, at, from, to, low))
+
+    before : row.at + k < linkedit_offset of.layout.segments
+    before = place_before m of.layout section (row.at + k) laid here
+
+    long : length image ≡ linkedit_offset of.layout.segments + length of.chains.blob
+    long = image_long m image of
+
+    -- the linker's own sections list no atoms
+    bare : (way : Way) (other : PlacedSection) → own_section of.layout.sections way ≡ Some other → HasPlace m of.layout other (row.at + k) → ⊥
+    bare way other e there =
+        let same : section ≡ other = same_section m of.layout section other (row.at + k) laid here there in
+        let none : section.section.atoms ≡ [] = ap (λ (s : PlacedSection). s.section.atoms) same ∙ own_bare m of.layout way other laid e in
+        subst (λ (keys : List AtomKey). In of_section.key keys) none of_section.listed
+
+    past_front : length (front_of m of.layout of.fixups of.chains) ≤ row.at + k
+    past_front =
+        let room = (counts m of.layout of.fixups of.chains laid).room in
+        let behind = here.behind in
+        omega (arith, room, behind)
+
+    zero : get_or image (row.at + k) 0 ≡ 0
+    zero =
+        beside_atoms m image of (row.at + k) (clear_behind m image of row k rising h past low)
+        ∙ zero_byte m of.layout of.chains (front_of m of.layout of.fixups of.chains) (row.at + k) laid past_front before bare

@@ -21,8 +21,8 @@ use Rattle.member_rounds.proofs.RiseLemmas.{loaded_rises}
 use Rattle.member_rounds.specs.Rounds.{loaded_of}
 use Rattle.loader_laws.specs.Plans.{IsPlanOfImage}
 use Rattle.link_engine.proofs.ValueLemmas.{no_fault, same_value}
-use Rattle.loader_laws.proofs.Linked.{image_linked}
-use Rattle.link_engine.proofs.LoadedLemmas.{loaded_cut}
+use Rattle.loader_laws.proofs.Linked.{low_linked}
+use Rattle.link_engine.proofs.LoadedLemmas.{loaded_cut, loaded_low}
 
 -- ---- all steps, a line for each
 
@@ -48,6 +48,7 @@ image_planned words look plan (tried, verdict) =
     let loads : loaded_of contents.inputs libs (wanted command) ≡ Ok loaded = (mapped_value load_fault_for (loaded_of contents.inputs libs (wanted command)) loaded).0 e in
     let ordered = loaded_rises contents.inputs libs (wanted command) loaded (keeps_order (inputs_with command found) contents (inputs_rise command found) opened_are) loads in
     let cut = loaded_cut contents.inputs libs (wanted command) loaded loads in
+    let low = loaded_low contents.inputs libs (wanted command) loaded loads in
     record {
       command = command;
       found = found;
@@ -66,5 +67,5 @@ image_planned words look plan (tried, verdict) =
       ordered = ordered;
       cut = cut;
       linked = linked;
-      image_of = image_linked command libs loaded.files image ordered cut linked;
+      image_of = low_linked command libs loaded.files image ordered cut low linked;
     }))))))))

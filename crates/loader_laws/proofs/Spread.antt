@@ -1,7 +1,9 @@
 -- The kept atoms of an image stand apart.
-use Rattle.std.proofs.Common.{◌≡◌, ◌≢◌, ℕ, ◌+◌, ◌*◌, ◌<◌, ◌≤◌, ◌^◌, ◌⊎◌, inl, inr, List, [], ◌∷◌, length, get_or, map, Some, Contains, sym, ap, ◌∙◌, arith, subst}
+use Rattle.std.proofs.Common.{◌≡◌, ◌≢◌, ℕ, ◌+◌, ◌-◌, ◌*◌, ◌<◌, ◌≤◌, ◌^◌, ◌⊎◌, inl, inr, List, [], ◌∷◌, length, get_or, map, Some, Contains, sym, ap, ◌∙◌, arith, subst}
 use Rattle.std.specs.List.{AllPairs}
 use Rattle.std.proofs.lemmas.Bool.{cases_order}
+use Rattle.std.proofs.lemmas.Nat.{pow-add}
+use Rattle.std.proofs.Math.Nat.{mul_assoc}
 use Rattle.list_lemmas.proofs.Members.{Contains_from_in, In, from_filter_map, from_map, in_either}
 use Rattle.mo_types.specs.declared.atom.Atom.{Atom}
 use Rattle.mo_types.specs.declared.key.AtomKey.{AtomKey}
@@ -22,13 +24,13 @@ use Rattle.sect_list.specs.OutSections.{out_sections}
 use Rattle.image_make.specs.Atoms.{atom_of, kept_at}
 use Rattle.image_make.specs.Made.{IsLaid, ImageInputs, kept_of, plan_for, plan_with, rows_of}
 use Rattle.image_make.specs.declared.kept.KeptAtom.{KeptAtom}
-use Rattle.loader_laws.specs.Means.{AreRising}
-use Rattle.loader_laws.proofs.Complete.{stand_from}
+use Rattle.image_laws.specs.Means.{AreRising}
+use Rattle.image_laws.proofs.Complete.{stand_from}
 use Rattle.link_files.proofs.Lists.{some_is}
-use Rattle.loader_laws.proofs.Loading.{from_all}
+use Rattle.image_laws.proofs.Loading.{from_all}
 use Rattle.image_make.proofs.LowLemmas.{in_layout, placed_found}
-use Rattle.loader_laws.proofs.Rowed.{find_mapped, row_in}
-use Rattle.loader_laws.proofs.Spots.{spot}
+use Rattle.image_laws.proofs.Rowed.{find_mapped, row_in}
+use Rattle.image_laws.proofs.Spots.{spot}
 
 -- ---- members of a list whose elements stand in pairs
 
@@ -134,11 +136,16 @@ stand_apart m a b one other x y first second differ =
     by (inl before) = inl (omega (arith, before, first.at, second.at, first.room))
     by (inr behind) = inr (omega (arith, behind, first.at, second.at, second.room))
 
--- a multiple of its alignment
-pub stands_aligned : (m : ImageInputs) (key : AtomKey) (kept : Atom) (address : ℕ) → IsSpread m key kept address → (count : ℕ) × (address ≡ count * 2 ^ kept.align)
-stands_aligned m key kept address is =
+-- a multiple of its alignment, and of any less
+multiple : (address count align less : ℕ) → less ≤ align → address ≡ count * 2 ^ align → (n : ℕ) × (address ≡ n * 2 ^ less)
+multiple address count align less below is =
+    let parts : 2 ^ (align - less) * 2 ^ less ≡ 2 ^ align = sym (pow-add 2 (align - less) less) ∙ ap (λ (n : ℕ). 2 ^ n) (let e : align - less + less ≡ align = omega (arith, below) in e) in
+    (count * 2 ^ (align - less), is ∙ ap (λ (n : ℕ). count * n) (sym parts) ∙ sym (mul_assoc count (2 ^ (align - less)) (2 ^ less)))
+
+pub stands_aligned : (m : ImageInputs) (key : AtomKey) (kept : Atom) (address align : ℕ) → IsSpread m key kept address → align ≤ kept.align → (count : ℕ) × (address ≡ count * 2 ^ align)
+stands_aligned m key kept address align is below =
     let even = from_all (λ (p : Atom × ℕ). (count : ℕ) × (p.1 ≡ count * 2 ^ p.0.align)) (image_stand (plan_for m)) is.place (image_multiples (plan_for m)) is.among in
-    (even.0, sym is.at ∙ even.1 ∙ ap (λ (n : ℕ). even.0 * 2 ^ n) (sym is.align))
+    multiple address even.0 kept.align align below (sym is.at ∙ even.1 ∙ ap (λ (n : ℕ). even.0 * 2 ^ n) (sym is.align))
 
 -- a row's atom
 pub row_spread : (m : ImageInputs) (layout : Layout) (row : PlacedWork) → AreRising m → IsLaid m layout → In row (rows_of m layout) → IsSpread m row.atom.key row.atom row.address

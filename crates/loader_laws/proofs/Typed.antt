@@ -32,8 +32,8 @@ use Rattle.image_make.specs.Atoms.{atom_of}
 use Rattle.image_make.specs.Made.{IsLaid, ImageInputs, kept_of, plan_for, plan_with, sizes_of}
 use Rattle.link_files.proofs.Cuts.{at_place}
 use Rattle.link_files.proofs.Lists.{from_mapped, some_is}
-use Rattle.loader_laws.proofs.Standing.{file_found}
-use Rattle.loader_laws.proofs.Turned.{appended}
+use Rattle.loader_laws.proofs.Finding.{file_found}
+use Rattle.image_laws.proofs.Turned.{appended}
 use Rattle.link_files.specs.Linked.{AreOrdered}
 
 -- ---- the sections with atoms

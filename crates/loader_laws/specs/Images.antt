@@ -1,19 +1,20 @@
 -- The image to which files link (`loader.h`).
 use Rattle.std.specs.Prelude.{ℕ, List}
-use Rattle.loader_laws.specs.Means.{AreRising, IsImage}
+use Rattle.command_line.specs.declared.command.Command.{Command}
+use Rattle.image_laws.specs.Means.{AreRising, Imaged}
 use Rattle.lib_bind.specs.declared.library.LibraryGraph.{LibraryGraph}
 use Rattle.link_files.specs.Causes.{AreInside}
 use Rattle.link_files.specs.Linked.{making}
-use Rattle.command_line.specs.declared.command.Command.{Command}
 use Rattle.mo_types.specs.declared.key.AtomKey.{AtomKey}
 use Rattle.mo_types.specs.declared.loaded.LoadedFile.{LoadedFile}
-use Rattle.sect_place.specs.declared.layout.Layout.{Layout}
+use Rattle.slot_plan.specs.declared.list.Slots.{Slots}
+use Rattle.symbol_winners.specs.SymbolTable.{SymbolTable}
 
--- An image of the atoms of files that are kept, with these flags in its header: all to which they refer is inside it.
+-- An image of the atoms of files that are kept, with the slots and stubs that they need: nothing of them is refused.
 pub record IsImageOf (command : Command) (libs : LibraryGraph) (files : List LoadedFile) (image : List ℕ) : Type 0 where
-  pub flags : ℕ
+  pub symbols : SymbolTable
   pub keys : List AtomKey
-  pub layout : Layout
-  pub inside : AreInside command libs files flags keys
-  pub rising : AreRising (making command libs files flags keys)
-  pub is_image : IsImage (making command libs files flags keys) layout image
+  pub slots : Slots
+  pub inside : AreInside command libs files symbols keys slots
+  pub rising : AreRising (making command libs files symbols keys slots)
+  pub imaged : Imaged (making command libs files symbols keys slots) image

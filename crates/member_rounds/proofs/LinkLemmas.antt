@@ -25,7 +25,7 @@ use Rattle.symbol_winners.proofs.NamedLemmas.{named_by, names_named}
 use Rattle.name_offers.specs.Offers.{bids_of}
 use Rattle.name_offers.proofs.LeastLemmas.{least_after}
 use Rattle.member_rounds.specs.Growth.{after, is_in}
-use Rattle.input_files.specs.Files.{HasLowAtoms, all_ids, file_of, is_first}
+use Rattle.input_files.specs.Files.{IsLow, all_ids, file_of, is_first}
 use Rattle.member_rounds.specs.Rounds.{asked_by, asks, has_candidate, loaded_ids, loaded_of, names_fault, new_ids, undefined_in}
 use Rattle.input_files.specs.Sources.{AreInOrder, inputs_of}
 use Rattle.input_files.specs.declared.fault.LoadFault.{LoadFault}
@@ -296,8 +296,8 @@ module _ (rules : RoundRules) (link : Link) (named : NamedFiles) (done : IsDoneB
     files = All-permutation IsWholeFile link.kept.files named.loaded.files moved done.link_is.whole;
   }
 
-  pub done_low : All HasLowAtoms named.loaded.files
-  done_low = All-permutation HasLowAtoms link.kept.files named.loaded.files moved (all_from HasLowAtoms link.kept.files (λ file there. low_at rules.offers file.id file (all_has (λ (f : LoadedFile). file_of rules.offers f.id ≡ Ok f) link.kept.files file done.kept.read there)))
+  pub done_low : All IsLow named.loaded.files
+  done_low = All-permutation IsLow link.kept.files named.loaded.files moved (all_from IsLow link.kept.files (λ file there. low_at rules.offers file.id file (all_has (λ (f : LoadedFile). file_of rules.offers f.id ≡ Ok f) link.kept.files file done.kept.read there)))
 
   all_wanted : AreNames link.kept.files rules.wanted.now link.numbered.names
   all_wanted = by link.rounds refl

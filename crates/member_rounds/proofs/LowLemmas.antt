@@ -1,7 +1,8 @@
 -- What a file is read as: a Mach-O file's object, with atoms of low alignment.
-use Rattle.std.proofs.Common.{◌≡◌, ℕ, ◌+◌, ◌≤◌, ◌^◌, ◌==◌, ◌&&◌, ◌||◌, Bool, true, false, not, nat_lt, List, [], ◌∷◌, All, Option, Some, None, Result, Ok, Err, length, min, inl, inr, refl, sym, ap, subst, ◌∙◌, arith, if◌then◌else◌}
+use Rattle.std.proofs.Common.{◌≡◌, ℕ, ◌+◌, ◌≤◌, ◌^◌, ◌==◌, ◌&&◌, ◌||◌, Bool, true, false, not, nat_lt, List, [], ◌∷◌, All, Option, Some, None, Result, Ok, Err, IfOk, length, min, inl, inr, refl, sym, ap, subst, ◌∙◌, arith, if◌then◌else◌}
 use Rattle.std.specs.Int.{w64, trailing_zeros}
 use Rattle.std.proofs.lemmas.Bool.{cases_Bool, false≢true, ltb-false}
+use Rattle.std.proofs.lemmas.Result.{IfOk-at_ok}
 use Rattle.list_lemmas.proofs.Members.{In, any_from_in, in_either}
 use Rattle.mo_types.specs.Atoms.{align_at, atoms_from, atoms_of, cuts, piece, pieces, section_atoms}
 use Rattle.mo_types.specs.Gives.{◌>>=◌, guarded}
@@ -11,6 +12,7 @@ use Rattle.mo_types.specs.declared.atom.Atom.{Atom}
 use Rattle.mo_types.specs.declared.cause.Feature.{Feature}
 use Rattle.mo_types.specs.declared.cause.Feature.TheVariants as feature
 use Rattle.mo_types.specs.declared.cause.Feature.TheVariants.{Bitcode}
+use Rattle.mo_types.specs.declared.cause.Rule.TheVariants as rule
 use Rattle.mo_types.specs.declared.cause.Which.TheVariants.{Symbols}
 use Rattle.mo_types.specs.declared.key.FileId.{FileId}
 use Rattle.mo_types.specs.declared.kind.Kind.{Kind}
@@ -21,14 +23,22 @@ use Rattle.mo_types.specs.declared.object.Section.{Section}
 use Rattle.mo_types.specs.declared.object_fault.ObjFault.{ObjFault}
 use Rattle.mo_types.specs.declared.object_fault.ObjFault.TheVariants.{Limit, Unsupported}
 use Rattle.mo_obj.specs.Features.{any_kept, any_overaligned, first_feature, is_overaligned, or_else}
+use Rattle.mo_obj.specs.Commands.{commands_of, frame_of}
 use Rattle.mo_obj.specs.Entries.{entries_of}
-use Rattle.mo_obj.specs.Object.{accepted, described, lacks, object_of}
+use Rattle.mo_obj.specs.Header.{header_of}
+use Rattle.mo_obj.specs.Object.{accepted, checked_sections, described, lacks, object_of}
+use Rattle.mo_obj.specs.Sections.{each_keeps, has_broken_literals, has_relocs_outside, headers_of, is_outside, sections_of}
+use Rattle.mo_obj.specs.Symbols.{symbols_of, symtab_of}
+use Rattle.mo_obj.specs.declared.commands.Frame.{Frame}
+use Rattle.mo_obj.proofs.ReadLemmas.{count_sections, few_sections}
+use Rattle.lib_bind.proofs.TextLemmas.{then_holds}
 use Rattle.mo_obj.specs.Relocations.{relocations_of}
-use Rattle.input_files.specs.Files.{HasLowAtoms, content_of, fault_of, file_of, file_with, object_read, read_as, read_by}
-use Rattle.input_files.specs.Form.{is_later}
+use Rattle.input_files.specs.Files.{IsLow, content_of, fault_of, file_of, file_with, object_read, read_as, read_by}
 use Rattle.input_files.specs.declared.input.Input.{Input}
 use Rattle.input_files.proofs.FileLemmas.{read_formed}
 use Rattle.input_files.proofs.EachLemmas.{all_from}
+use Rattle.reader_laws.proofs.Commons.{low_commons}
+use Rattle.reader_laws.proofs.Steps.{passed}
 
 -- ---- an object's sections
 
@@ -76,6 +86,46 @@ low_section sections none section there kept = elim (cases_Bool (nat_lt 14 secti
   | inl over ↦ absurd (false≢true (sym none ∙ any_from_in (λ (s : Section). not (is_dropped s) && is_overaligned s) sections section there (rw (kept, over) refl)))
   | inr low ↦ ltb-false 14 section.align low
 ]
+
+-- there are few of them
+
+frame_few : (bytes commands : List ℕ) → IfOk (frame_of bytes commands) (λ frame. frame.count ≤ 255)
+frame_few bytes commands = by (frame_of bytes commands) refl
+  where
+    by : (r : Result Frame ObjFault) → frame_of bytes commands ≡ r → IfOk r (λ frame. frame.count ≤ 255)
+    by (Ok frame) is = few_sections bytes commands frame is
+    by (Err e) is = tt
+
+AreFew : List Section → Type 0
+AreFew sections = length sections ≤ 255
+
+checked_few : (bytes : List ℕ) (frame : Frame) → frame.count ≤ 255 → IfOk (checked_sections bytes frame) AreFew
+unfolding checked_sections AreFew
+checked_few bytes frame few =
+    passed AreFew (each_keeps rule.Section frame (is_outside (length bytes)) (headers_of bytes frame)) _ λ section.
+    passed AreFew (each_keeps rule.Relocations frame (has_relocs_outside (length bytes)) (headers_of bytes frame)) _ λ relocations.
+    subst (λ (n : ℕ). n ≤ 255) (sym (count_sections bytes frame)) few
+
+described_few : (bytes : List ℕ) → IfOk (described bytes) (λ read. AreFew read.object.sections)
+unfolding described
+described_few bytes =
+    passed _ (header_of bytes) _ λ header.
+    passed _ (commands_of bytes header) _ λ commands.
+    then_holds (λ frame. frame.count ≤ 255) _ (frame_of bytes commands) _ (frame_few bytes commands) λ frame few.
+    then_holds AreFew _ (checked_sections bytes frame) _ (checked_few bytes frame few) λ sections are.
+    passed _ (symtab_of bytes frame) _ λ symtab.
+    passed _ (symbols_of bytes symtab sections) _ λ symbols.
+    passed _ (each_keeps rule.Literals frame has_broken_literals sections) _ λ literals. are
+
+object_few : (bytes : List ℕ) → IfOk (object_of bytes) (λ object. AreFew object.sections)
+unfolding object_of
+object_few bytes =
+    then_holds (λ read. AreFew read.object.sections) _ (described bytes) _ (described_few bytes) λ read are.
+    passed _ (accepted read.object read.foreign) _ λ done. are
+
+few_in : (bytes : List ℕ) (object : Object) → object_of bytes ≡ Ok object → length object.sections ≤ 255
+unfolding AreFew
+few_in bytes object is = IfOk-at_ok (λ (o : Object). AreFew o.sections) is (object_few bytes)
 
 -- ---- their atoms
 
@@ -133,15 +183,12 @@ module _ (id : FileId) (label bytes : List ℕ) (file : LoadedFile) where
   pub from_read : read_as id label bytes ≡ Ok file → IsObjectOf id label bytes file
   from_read is = from_kind (kind_of bytes) (read_formed id label bytes file is).0
 
-  pub form_is : read_as id label bytes ≡ Ok file → is_later file ≡ false
-  form_is is = (read_formed id label bytes file is).1
-
-  pub low_file : read_as id label bytes ≡ Ok file → HasLowAtoms file
+  pub low_file : read_as id label bytes ≡ Ok file → IsLow file
   low_file is =
       let so = from_read is in
-      subst HasLowAtoms (sym so.is) (low_atoms bytes so.object id so.read)
+      subst IsLow (sym so.is) (record { sections = few_in bytes so.object so.read; atoms = low_atoms bytes so.object id so.read; commons = low_commons bytes so.object so.read })
 
-pub low_at : (inputs : List Input) (id : FileId) (file : LoadedFile) → file_of inputs id ≡ Ok file → HasLowAtoms file
+pub low_at : (inputs : List Input) (id : FileId) (file : LoadedFile) → file_of inputs id ≡ Ok file → IsLow file
 unfolding file_of
 low_at inputs id file is = low_file id (content_of inputs id).label (content_of inputs id).bytes file is
 

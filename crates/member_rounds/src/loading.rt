@@ -8,7 +8,7 @@ ghost use Rattle.name_ids.specs.Names.{AreNames, numbers_of};
 ghost use Rattle.symbol_winners.specs.Found.{AreNamed};
 ghost use Rattle.lib_bind.specs.declared.library.LibraryGraph.{LibraryGraph};
 ghost use Rattle.input_files.specs.Files as files;
-ghost use Rattle.input_files.specs.Files.{HasLowAtoms, IsLoadFault};
+ghost use Rattle.input_files.specs.Files.{IsLow, IsLoadFault};
 ghost use Rattle.input_files.specs.Sources.{AreInOrder, AreObjects, inputs_of};
 ghost use Rattle.member_rounds.specs.Growth.{is_in};
 ghost use Rattle.member_rounds.specs.Rounds.{loaded_of};
@@ -336,7 +336,7 @@ pub fn load<R: Threads + Sync, G: Gate + Sync>(
     ensures files { IfOk result (λ named. loaded_of inputs.inputs libs.now wanted.now ≡ Ok named.loaded) }
     ensures fault { IfErr result (λ fault. IsLoadFault fault → loaded_of inputs.inputs libs.now wanted.now ≡ Err fault) }
     ensures whole { IfOk result (λ named. IsWholeLoaded named.loaded) }
-    ensures low { IfOk result (λ named. All HasLowAtoms named.loaded.files) }
+    ensures low { IfOk result (λ named. All IsLow named.loaded.files) }
     ensures names { IfOk result (λ named. AreNames named.loaded.files wanted.now named.numbered.names) }
     ensures numbers { IfOk result (λ named. named.numbered.numbers ≡ numbers_of named.numbered.names named.loaded.files) }
 {

@@ -132,34 +132,34 @@ const FILES: [File; 20] = [
     File {
         label: b"pointer",
         bytes: forms::POINTER,
-        fault: b"later",
+        fault: b"",
     },
     File {
         label: b"got",
         bytes: forms::GOT,
-        fault: b"later",
+        fault: b"",
     },
     File {
         label: b"common",
         bytes: forms::COMMON,
-        fault: b"later",
+        fault: b"",
     },
     File {
         label: b"strings",
         bytes: forms::STRINGS,
-        fault: b"later",
+        fault: b"",
     },
     File {
         label: b"literals",
         bytes: forms::LITERALS,
-        fault: b"later",
+        fault: b"",
     },
     File {
         label: b"threads",
         bytes: forms::THREAD_LOCAL,
-        fault: b"later",
+        fault: b"",
     },
-    // a rule that is broken is told before a form, and so is a feature that the linker doesn't have
+    // a rule that is broken, and a feature that the linker doesn't have
     File {
         label: b"open",
         bytes: forms::OPEN_STRINGS,
@@ -232,7 +232,7 @@ fn many(alloc: Global, count: u16, first: u16, second: u16) -> Result<Vec<Input>
         let file = if position == first {
             &FILES[16]
         } else if position == second {
-            &FILES[4]
+            &FILES[11]
         } else {
             &FILES[0]
         };
@@ -247,7 +247,7 @@ fn thousands_of_files(rt: HostRuntime) -> Result<(), Fail> {
     for (first, second, length, end) in [
         (5000, 5000, 18_000, b"calls ".as_slice()),
         (2999, 5000, 15, b"notaninput".as_slice()),
-        (2000, 1000, 13, b"later".as_slice()),
+        (2000, 1000, 17, b"alignment".as_slice()),
         (1000, 2000, 15, b"notaninput".as_slice()),
     ] {
         let inputs = many(alloc, 3000, first, second)?;

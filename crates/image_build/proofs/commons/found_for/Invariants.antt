@@ -1,6 +1,0 @@
-use Rattle.std.proofs.Common.{◌≡◌, map, take}
-use Rattle.image_build.specs.Atoms.{common_at}
-use Rattle.image_build.proofs.commons.found_for.Given as goal
-
-abbrev pub invariant-loop-winner : goal.invariant-loop-winner
-invariant-loop-winner l = l.found.items ≡ map (common_at (take l.winner-index l.winners)) l.keys

@@ -1,6 +1,0 @@
-use Rattle.std.proofs.Common.{◌∙◌}
-use Rattle.image_make.proofs.ToldLemmas.{exact}
-use Rattle.image_make.proofs.addresses.goal_address.Goals as goal
-
-pub returns : goal.returns
-returns c = c.told_address.ensures ∙ exact c.args.base c.args.layout.now.placed c.args.goal.now c.ranges.base.fits c.requires.low c.requires.near

@@ -1,5 +1,0 @@
-use Rattle.image_make.proofs.OrderLemmas.{AreSoFar}
-use Rattle.image_make.proofs.orders.orders_of.Given as goal
-
-abbrev pub invariant-loop-file : goal.invariant-loop-file
-invariant-loop-file l = AreSoFar l.files l.file-index l.orders
