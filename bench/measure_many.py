@@ -1,13 +1,15 @@
 #!/usr/bin/env python3
 """Times the link of a folder's objects by atomld and by ld64.lld: `measure_many.py ATOMLD FOLDER RUNS`.
 
-The objects are those of make_many_objects.py. Both linkers are first run once, and their images compared: the same code
-with the same calls, and each address that is taken at the same place of its section. Then each is run once in each of
-RUNS rounds, with one worker and with four (ld64.lld: with as many as it takes by itself), ld64.lld with and without a
-signature, and beside them the objects are copied by cp. Each round has an order of its own, so that none always follows
-the same one. Prints the least and the median of seconds and of the processor's, the peak memory, and the seconds as
-parts of those of ld64.lld with as many workers and no signature: of the least, of the median, and the median of the
-parts of each round, which a machine whose speed drifts disturbs least.
+The objects are those of make_many_objects.py or, where a stub library stands beside them, of make_mixed_objects.py. Both
+linkers are first run once, and their images compared: the same code with the same calls, and each address that is taken at
+the same place of its section; of mixed objects, that each reference and pointer leads to the same, be it by a stub or a
+slot, where ld64.lld has chained fixups (LLVM 15 or later). Then each is run once in each of RUNS rounds, with one worker and
+with four (ld64.lld: with as many as it takes by itself), ld64.lld with and without a signature, and beside them the objects
+are copied by cp. Each round has an order of its own, so that none always follows the same one. Prints the least and the
+median of seconds and of the processor's, the peak memory, and the seconds as parts of those of ld64.lld with as many workers
+and no signature: of the least, of the median, and the median of the parts of each round, which a machine whose speed drifts
+disturbs least; and how much memory atomld needs at most beyond the inputs and the image, in bytes a relocation.
 """
 import glob
 import os
@@ -16,6 +18,7 @@ import re
 import shutil
 import statistics
 import struct
+import subprocess
 import sys
 import tempfile
 from array import array
@@ -23,6 +26,7 @@ from pathlib import Path
 
 from make_many_objects import FUNCTION, OTHER_OFFSET, OTHER_PAGE, OWN_OFFSET, OWN_PAGE
 from measure import LLD_WORDS, find_lld, run
+from mixed_image import commands_of, meanings_of
 
 LLD_FORMS = {
     "ld64.lld, 1": ["--threads=1"],
@@ -36,15 +40,23 @@ ATOMLD_FORMS = {"atomld, 1": (1, "ld64.lld, 1, no signature"), "atomld, 4": (4, 
 def sections_of(path):
     """The address and the bytes of each section of an image, by name."""
     image = Path(path).read_bytes()
-    found, at = {}, 32
-    for _ in range(struct.unpack_from("<I", image, 16)[0]):
-        command, size = struct.unpack_from("<II", image, at)
-        if command == 0x19:
-            for section in range(at + 72, at + 72 + 80 * struct.unpack_from("<I", image, at + 64)[0], 80):
-                address, length, offset = struct.unpack_from("<QQI", image, section + 32)
-                found[image[section : section + 16].rstrip(b"\0")] = (address, image[offset : offset + length])
-        at += size
+    found = {}
+    for section in headers_of(image):
+        address, length, offset = struct.unpack_from("<QQI", image, section + 32)
+        found[image[section : section + 16].rstrip(b"\0")] = (address, image[offset : offset + length])
     return found
+
+
+def headers_of(file):
+    """Where the headers of sections stand in an object or image."""
+    for command, at in commands_of(file):
+        if command == 0x19:
+            yield from range(at + 72, at + 72 + 80 * struct.unpack_from("<I", file, at + 64)[0], 80)
+
+
+def relocations_of(path):
+    file = Path(path).read_bytes()
+    return sum(struct.unpack_from("<I", file, section + 60)[0] for section in headers_of(file))
 
 
 def code_of(path):
@@ -66,11 +78,11 @@ def code_of(path):
     return words, taken, data
 
 
-def same_code(one, other):
-    """Compares two images in a process of its own: a child begins with the peak memory of its parent."""
+def same_code(read, one, other):
+    """Compares what is read of two images in a process of its own: a child begins with the peak memory of its parent."""
     child = os.fork()
     if child == 0:
-        os._exit(0 if code_of(one) == code_of(other) else 1)
+        os._exit(0 if read(one) == read(other) else 1)
     return os.waitstatus_to_exitcode(os.waitpid(child, 0)[1]) == 0
 
 
@@ -80,43 +92,41 @@ def lld_path():
     return find_lld() or max(found, key=lambda path: int(re.search(r"llvm-(\d+)", path).group(1)), default=None)
 
 
-def main(program, folder, runs):
-    objects = sorted(glob.glob(f"{folder}/*.o"))
-    size = sum(map(os.path.getsize, objects))
-    lld = lld_path()
-    with tempfile.TemporaryDirectory() as out_folder:
-        image, other = f"{out_folder}/atomld", f"{out_folder}/lld"
-        commands = {
-            name: [program, "-threads", str(threads), "-o", image, *objects]
-            for name, (threads, _) in ATOMLD_FORMS.items()
-        }
-        if lld:
-            for name, words in LLD_FORMS.items():
-                commands[name] = [lld, *words, *LLD_WORDS, "-o", other, *objects]
-        else:
-            print("ld64.lld isn't there: skipped")
-        copies = f"{out_folder}/copies"
-        os.mkdir(copies)
-        commands["cp"] = ["cp", "-t", copies, *objects]
-        measured = {name: [] for name in commands}
-        if lld:
-            run(commands["ld64.lld, all"])
-        for name in ATOMLD_FORMS:
-            run(commands[name])
-            if lld and not same_code(image, other):
-                sys.exit(f"{name}: other code than that of ld64.lld")
-            shutil.copy(image, f"{out_folder}/{name}")
-        if len({Path(f"{out_folder}/{name}").read_bytes() for name in ATOMLD_FORMS}) != 1:
-            sys.exit("the images of atomld differ by the number of workers")
-        order = random.Random(0)
-        for _ in range(runs):
-            # in turn, so that a busy moment of the machine meets all of them
-            for name, words in order.sample(list(commands.items()), len(commands)):
-                for path in (image, other):
-                    if os.path.exists(path):
-                        os.remove(path)
-                measured[name].append(run(words))
-    print(f"{len(objects)} objects, {size} bytes, {runs} runs, load {os.getloadavg()[0]:.1f} at the end")
+def chains_of(lld):
+    """The words for chained fixups, where ld64.lld has any."""
+    told = subprocess.run([lld, "--help"], capture_output=True, text=True, check=True).stdout
+    return ["-fixup_chains"] if "-fixup_chains" in told else []
+
+
+def commands_for(program, lld, inputs, mixed, image, other):
+    """The command of each form of both linkers, by its name."""
+    commands = {
+        name: [program, "-threads", str(threads), "-o", image, *inputs] for name, (threads, _) in ATOMLD_FORMS.items()}
+    if lld:
+        chains = chains_of(lld) if mixed else []
+        for name, words in LLD_FORMS.items():
+            commands[name] = [lld, *words, *chains, *LLD_WORDS, "-o", other, *inputs]
+    else:
+        print("ld64.lld isn't there: skipped")
+    return commands
+
+
+def check(commands, read, image, other, out_folder):
+    """Links once by each form, and compares the images where `read` says what of them."""
+    if read:
+        run(commands["ld64.lld, all"])
+    for name in ATOMLD_FORMS:
+        run(commands[name])
+        if read and not same_code(read, image, other):
+            sys.exit(f"{name}: other code than that of ld64.lld")
+        shutil.copy(image, f"{out_folder}/{name}")
+    if len({Path(f"{out_folder}/{name}").read_bytes() for name in ATOMLD_FORMS}) != 1:
+        sys.exit("the images of atomld differ by the number of workers")
+
+
+def report(measured, lld, objects, beyond):
+    """Prints what was measured; `beyond` are the bytes of the inputs and of the image."""
+    relocations = sum(map(relocations_of, objects))
     print(f"{'':28}{'seconds':>9}{'median':>9}{'processor':>11}{'median':>9}{'peak MiB':>10}{'of lld':>8}{'median':>8}{'rounds':>8}")
     base = {name: [seconds for seconds, _, _ in results] for name, results in measured.items()}
     for name, results in measured.items():
@@ -128,8 +138,47 @@ def main(program, folder, runs):
             row += f"{min(seconds) / min(against):8.2f}{statistics.median(seconds) / statistics.median(against):8.2f}"
             row += f"{statistics.median(one / of for one, of in zip(seconds, against)):8.2f}"
         print(row)
-    if lld:
-        print("the code of both linkers is the same, and the image of atomld is one for all numbers of workers")
+    for name in ATOMLD_FORMS:
+        peak = statistics.median(peak for _, _, peak in measured[name]) * 2**20
+        more = (peak - beyond) / relocations
+        print(f"{name}: {more:.0f} bytes for each of {relocations} relocations, beyond inputs and image")
+
+
+def main(program, folder, runs):
+    objects, libraries = (sorted(glob.glob(f"{folder}/*.{kind}")) for kind in ("o", "tbd"))
+    inputs = [*objects, *libraries]
+    size = sum(map(os.path.getsize, inputs))
+    lld = lld_path()
+    with tempfile.TemporaryDirectory() as out_folder:
+        image, other = f"{out_folder}/atomld", f"{out_folder}/lld"
+        commands = commands_for(program, lld, inputs, libraries, image, other)
+        read = None
+        if lld and not libraries:
+            read = code_of
+        elif lld and chains_of(lld):
+            read = meanings_of
+        copies = f"{out_folder}/copies"
+        os.mkdir(copies)
+        commands["cp"] = ["cp", "-t", copies, *inputs]
+        measured = {name: [] for name in commands}
+        check(commands, read, image, other, out_folder)
+        beyond = size + os.path.getsize(image)
+        order = random.Random(0)
+        for _ in range(runs):
+            # in turn, so that a busy moment of the machine meets all of them
+            for name, words in order.sample(list(commands.items()), len(commands)):
+                for path in (image, other):
+                    if os.path.exists(path):
+                        os.remove(path)
+                measured[name].append(run(words))
+    kind = "mixed objects" if libraries else "objects"
+    print(f"{len(objects)} {kind}, {size} bytes, {runs} runs, load {os.getloadavg()[0]:.1f} at the end")
+    report(measured, lld, objects, beyond)
+    if read:
+        what = "where references lead" if libraries else "the code"
+        print(f"{what} is the same for both linkers, and the image of atomld is one for all numbers of workers")
+    elif lld:
+        print("this ld64.lld has no chained fixups: images weren't compared")
     return 0
 
 
