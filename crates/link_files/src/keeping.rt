@@ -6,14 +6,20 @@ ghost use Rattle.link_files.specs.Resolved.{AreKept, IsResolved, files_of, table
 
 use crate::resolved::Resolved;
 use liveness::{edges, roots};
-use mark_core::{KeySet, kept_from};
+use mark_core::KeySet;
+use mark_race::kept_by;
+use mo_outside::Gate;
 use mo_types::{Items, KeyList, OutOfMemory};
 use name_ids::NumberList;
 use std::alloc::Global;
+use std::thread::Threads;
 
-/// The keys of the atoms that are kept, in order: those that are reached from the roots.
-pub(crate) fn kept_keys(
+/// The keys of the atoms that are kept, in order: those that are reached from the roots, as so many workers mark them.
+pub(crate) fn kept_keys<R: Threads + Sync, G: Gate + Sync>(
+    rt: &R,
     alloc: Global,
+    gate: &G,
+    threads: u32,
     resolved: &Resolved,
     numbers: &Items<NumberList>,
 ) -> Result<KeyList, OutOfMemory>
@@ -32,5 +38,5 @@ pub(crate) fn kept_keys(
     let roots = roots(alloc, loaded, symbols, numbers, command)?;
     let roots = KeySet::from_vec(alloc, roots.into_vec())?;
     let (edges, supports) = edges(alloc, loaded, symbols, goals, &roots)?;
-    kept_from(alloc, edges, &supports, roots)
+    kept_by(rt, alloc, gate, threads, edges, &supports, roots)
 }

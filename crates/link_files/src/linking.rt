@@ -96,7 +96,7 @@ fn link_winners<R: Threads + Sync, G: Gate + Sync>(
         goals: &goals,
         entry: &entry,
     };
-    let keys = kept_keys(alloc, &resolved, numbers)?;
+    let keys = kept_keys(rt, alloc, gate, threads, &resolved, numbers)?;
     all_defined(alloc, &resolved, &keys)?;
     let referring = resolved.referring(&keys);
     let slots = needed_slots(alloc, &referring)?;
