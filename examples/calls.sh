@@ -2,13 +2,7 @@
 # Has clang assemble calls.s, links the object by the built program, and checks the image: llvm-objdump reads it, and
 # its code is what clang's assembler makes of the same functions for ELF, where it puts the distances itself.
 set -euo pipefail
-examples=$(cd "$(dirname "$0")" && pwd)
-program=$examples/../crates/atomld/out/atomld
-[ -x "$program" ] || { echo "build the program first: (cd crates/atomld && rt run)"; exit 1; }
-
-tool() {
-    compgen -c "$1" | grep -E "^$1(-[0-9]+)?$" | sort -Vu | head -n 1 || true
-}
+. "$(dirname "$0")/tools.sh"
 clang=$(tool clang)
 objdump=$(tool llvm-objdump)
 objcopy=$(tool llvm-objcopy)

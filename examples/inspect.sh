@@ -1,11 +1,9 @@
 #!/usr/bin/env bash
 # Links main.o by the built program and has llvm-objdump read the image: where it is entered, and what it calls.
 set -euo pipefail
-examples=$(cd "$(dirname "$0")" && pwd)
-program=$examples/../crates/atomld/out/atomld
-[ -x "$program" ] || { echo "build the program first: (cd crates/atomld && rt run)"; exit 1; }
+. "$(dirname "$0")/tools.sh"
 
-objdump=$(compgen -c llvm-objdump | sort -Vu | head -n 1 || true)
+objdump=$(tool llvm-objdump)
 [ -n "$objdump" ] || { echo "skipped: llvm-objdump isn't there"; exit 0; }
 
 folder=$(mktemp -d)

@@ -5,16 +5,8 @@
 # for both images that each pointer and each reference leads where the objects say, and that both linkers have the same:
 # the same symbol and offset, or the same name, library and addend for the loader to bind. Fixups are read by llvm-objdump.
 set -euo pipefail
-examples=$(cd "$(dirname "$0")" && pwd)
-program=${1:-$examples/../crates/atomld/out/atomld}
-[ -x "$program" ] || { echo "build the program first: (cd crates/atomld && rt run)"; exit 1; }
-program=$(realpath "$program")
-
-# the newest one
-tool() {
-    compgen -c "$1" | grep -E "^$1(-[0-9]+)?$" | sort -Vu | tail -n 1 || true
-}
-clang=$(tool clang) lld=$(tool ld64.lld) objdump=$(tool llvm-objdump) nm=$(tool llvm-nm)
+. "$(dirname "$0")/tools.sh"
+clang=$(newest clang) lld=$(newest ld64.lld) objdump=$(newest llvm-objdump) nm=$(newest llvm-nm)
 [ -n "$clang" ] || { echo "skipped: clang isn't there"; exit 0; }
 [[ -n $objdump && $("$objdump" --help) == *--chained-fixups* ]] ||
     { echo "skipped: an llvm-objdump that reads chained fixups isn't there (LLVM 16 or later)"; exit 0; }

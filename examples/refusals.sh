@@ -2,9 +2,7 @@
 # Runs the built program where files can't be read or written and where words aren't good, and compares the exit
 # status and the line on standard error with those that it promises. Standard output stays empty.
 set -euo pipefail
-examples=$(cd "$(dirname "$0")" && pwd)
-program=$(cd "$examples/.." && pwd)/crates/atomld/out/atomld
-[ -x "$program" ] || { echo "build the program first: (cd crates/atomld && rt run)"; exit 1; }
+. "$(dirname "$0")/tools.sh"
 
 folder=$(mktemp -d)
 trap 'rm -rf "$folder"' EXIT

@@ -4,14 +4,7 @@
 # the symbol that its relocation names, and each entry of the switch's table to the instruction at its label in clang's
 # own assembly. Where ld64.lld is there, its image of the same objects is checked so too, and has the same code.
 set -euo pipefail
-examples=$(cd "$(dirname "$0")" && pwd)
-program=${1:-$examples/../crates/atomld/out/atomld}
-[ -x "$program" ] || { echo "build the program first: (cd crates/atomld && rt run)"; exit 1; }
-program=$(realpath "$program")
-
-tool() {
-    compgen -c "$1" | grep -E "^$1(-[0-9]+)?$" | sort -Vu | head -n 1 || true
-}
+. "$(dirname "$0")/tools.sh"
 clang=$(tool clang)
 objdump=$(tool llvm-objdump)
 [ -n "$clang" ] && [ -n "$objdump" ] || { echo "skipped: clang or llvm-objdump isn't there"; exit 0; }

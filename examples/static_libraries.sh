@@ -4,14 +4,7 @@
 # with clang as the driver. Each image is to be that of the objects by themselves which ld64.lld says that it loads of the
 # same words, in the order of the inputs and their members, where ld64.lld is there.
 set -euo pipefail
-examples=$(cd "$(dirname "$0")" && pwd)
-program=${1:-$examples/../crates/atomld/out/atomld}
-[ -x "$program" ] || { echo "build the program first: (cd crates/atomld && rt run)"; exit 1; }
-program=$(realpath "$program")
-
-tool() {
-    compgen -c "$1" | grep -E "^$1(-[0-9]+)?$" | sort -Vu | head -n 1 || true
-}
+. "$(dirname "$0")/tools.sh"
 clang=$(tool clang) archive=$(tool llvm-ar) libtool=$(tool llvm-libtool-darwin) lipo=$(tool llvm-lipo)
 for name in "$clang" "$archive" "$libtool" "$lipo"; do
     [ -n "$name" ] || { echo "skipped: clang, llvm-ar, llvm-libtool-darwin or llvm-lipo isn't there"; exit 0; }

@@ -1,6 +1,6 @@
 -- No section of an image has an atom with a greater alignment than its own.
 use Rattle.std.proofs.Common.{◌≡◌, ℕ, ◌+◌, ◌-◌, ◌*◌, ◌^◌, ◌≤◌, ◌⊎◌, true, false, max, List, [], ◌∷◌, map, Option, Some, None, refl, sym, ap, subst, ◌∙◌, inl, inr, arith}
-use Rattle.std.specs.List.{filter, fold, AllByRecursion}
+use Rattle.std.specs.List.{filter, AllByRecursion}
 use Rattle.std.specs.List.Sorted.{IsStrictlySortedBy}
 use Rattle.std.specs.Ordering.{is_eq, on}
 use Rattle.std.proofs.lemmas.Bool.{cases_Bool, false≢true}
@@ -18,17 +18,9 @@ use Rattle.sect_list.specs.OutSections.{Home, Row, going_to, home_of, in_order, 
 use Rattle.sect_list.proofs.Once.{Apart, keys_apart, one_by_map, order_members, section_behind}
 use Rattle.sect_place.proofs.Positions.{finds, found_atom, keys_listed}
 use Rattle.loader_laws.proofs.Finding.{key_itself}
+use Rattle.loader_laws.proofs.Raising.{greatest}
 
--- ---- the greatest of some numbers
-
-max_above : (n : ℕ) (xs : List ℕ) → n ≤ fold max n xs
-max_above n [] = omega arith
-max_above n (x ∷ xs) = let rest = max_above (max n x) xs in omega (arith, rest)
-
-max_of : (n : ℕ) (xs : List ℕ) (x : ℕ) → In x xs → x ≤ fold max n xs
-max_of n [] x h = absurd h
-max_of n (y ∷ xs) x (inl e) = let rest = max_above (max n y) xs in omega (arith, rest, e)
-max_of n (y ∷ xs) x (inr h) = max_of (max n y) xs x h
+-- ---- the greatest of some alignments
 
 greatest_above : (sections : List OutSection) (section : OutSection) → In section sections → section.align ≤ greatest_align sections
 unfolding greatest_align
@@ -78,7 +70,7 @@ section_aligned files kept apart section h =
     let keyed : (row : Row) × In row (going_to all found.0) × (row.atom.key ≡ atom.key) = from_map (λ (row : Row). row.atom.key) (going_to all found.0) atom.key (keys_listed kept (section_with found.0 (going_to all found.0)).atoms atom there) in
     let row_there : In keyed.0 all = (from_filter (λ (row : Row). same_destination row.home.to found.0) all keyed.0 keyed.1).0 in
     let same : keyed.0.atom ≡ atom = one_by_map (λ (a : Atom). a.key) kept apart keyed.0.atom atom (row_kept files kept keyed.0 row_there) (in_kept kept (section_with found.0 (going_to all found.0)).atoms atom there) keyed.2 in
-    max_of 0 (map (λ (row : Row). row.atom.align) (going_to all found.0)) atom.align (subst (λ (a : Atom). In a.align (map (λ (row : Row). row.atom.align) (going_to all found.0))) same (in_map (λ (row : Row). row.atom.align) (going_to all found.0) keyed.0 keyed.1))))
+    greatest 0 (map (λ (row : Row). row.atom.align) (going_to all found.0)) atom.align (subst (λ (a : Atom). In a.align (map (λ (row : Row). row.atom.align) (going_to all found.0))) same (in_map (λ (row : Row). row.atom.align) (going_to all found.0) keyed.0 keyed.1))))
 
 -- ---- the first section of the template
 

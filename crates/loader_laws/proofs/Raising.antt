@@ -22,7 +22,7 @@ above : (n : ℕ) (xs : List ℕ) → n ≤ fold max n xs
 above n [] = omega arith
 above n (x ∷ xs) = let rest = above (max n x) xs in omega (arith, rest)
 
-greatest : (n : ℕ) (xs : List ℕ) (x : ℕ) → In x xs → x ≤ fold max n xs
+pub greatest : (n : ℕ) (xs : List ℕ) (x : ℕ) → In x xs → x ≤ fold max n xs
 greatest n [] x h = absurd h
 greatest n (y ∷ ys) x (inl e) = let rest = above (max n y) ys in omega (arith, rest, e)
 greatest n (y ∷ ys) x (inr h) = greatest (max n y) ys x h
