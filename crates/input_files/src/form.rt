@@ -1,13 +1,12 @@
 //! The form of the objects that are linked: what here is of another form comes with a later version.
 ghost use Rattle.std.specs.Prelude.{◌≡◌};
-ghost use Rattle.mo_obj.specs.Features.{is_unwind};
 ghost use Rattle.input_files.specs.Form as form;
 
 use mo_types::{LoadedFile, Section};
 
 // Whether a section has frames of functions in their compact form.
 fn has_unwind(section: &Section) -> bool
-    ensures { result ≡ is_unwind section.now }
+    ensures { result ≡ form.is_unwind section.now }
 {
     section.segment.as_slice() == b"__LD".as_slice()
         && section.name.as_slice() == b"__compact_unwind".as_slice()

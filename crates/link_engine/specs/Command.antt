@@ -17,7 +17,7 @@ use Rattle.link_engine.specs.declared.stop.Stop.TheVariants.{Refused}
 
 -- WHAT THE LINK HAS YET: the options of other forms count as unknown
 abbrev pub linked_rows : Rows
-linked_rows = rows.Libraries
+linked_rows = rows.Stripping
 
 -- the command of the words, or the fault of the least word that has one
 abbrev pub commanded : List (List ℕ) → Result Command (StepFault Stop)

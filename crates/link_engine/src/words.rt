@@ -12,7 +12,7 @@ use mo_types::{ArgList, Refusal, Which};
 use std::alloc::Global;
 
 // What the link has yet: the options of other forms count as unknown.
-const LINKED: Rows = Rows::Libraries;
+const LINKED: Rows = Rows::Stripping;
 
 // Each input has a position, a number of 16 bits.
 const INPUTS: usize = 1 << 16;

@@ -12,33 +12,28 @@ use Rattle.mo_types.specs.declared.object.Object.{Object}
 use Rattle.mo_types.specs.declared.object.Section.{Section}
 use Rattle.mo_types.specs.declared.object.Symbol.{Symbol}
 use Rattle.mo_obj.specs.Each.{Each}
-use Rattle.mo_obj.specs.Features.{first_feature, or_else, or_that, any_kept, any_overaligned, has_other_type, is_objc, is_odd_code, has_odd_segment, is_text_zerofill, is_external_absolute, is_unwind}
+use Rattle.mo_obj.specs.Features.{first_feature, or_else, any_kept, any_overaligned, has_other_type, is_objc, is_odd_code, has_odd_segment, is_text_zerofill, is_external_absolute}
 use Rattle.mo_obj.specs.Relocations.{relocations_of}
 use Rattle.mo_obj.specs.Sections.{IsRoomy, has_broken_literals}
 use Rattle.mo_obj.specs.Symbols.{IsInPlace}
 use Rattle.mo_obj.proofs.RelocationLemmas.{read_where_nothing}
 
-past_that : (relocs others : Option Feature) → or_that relocs others ≡ None → relocs ≡ None
-past_that None others none = refl
-past_that (Some f) others none = none
-
 -- where no feature stands, none of those that follow does
-past_all : (a b c d e f g h : Bool) (relocs others : Option Feature) → or_else a feature.SectionType (or_else b feature.ObjcSection (or_else c feature.Alignment (or_else d feature.CodeSegment (or_else e feature.SegmentName (or_else f feature.TextZerofill (or_else g feature.SymbolKind (or_else h feature.Absolute (or_that relocs others)))))))) ≡ None → relocs ≡ None
-past_all true b c d e f g h relocs others none = cc
-past_all false true c d e f g h relocs others none = cc
-past_all false false true d e f g h relocs others none = cc
-past_all false false false true e f g h relocs others none = cc
-past_all false false false false true f g h relocs others none = cc
-past_all false false false false false true g h relocs others none = cc
-past_all false false false false false false true h relocs others none = cc
-past_all false false false false false false false true relocs others none = cc
-past_all false false false false false false false false relocs others none = past_that relocs others none
+past_all : (a b c d e f g h : Bool) (relocs : Option Feature) → or_else a feature.SectionType (or_else b feature.ObjcSection (or_else c feature.Alignment (or_else d feature.CodeSegment (or_else e feature.SegmentName (or_else f feature.TextZerofill (or_else g feature.SymbolKind (or_else h feature.Absolute relocs))))))) ≡ None → relocs ≡ None
+past_all true b c d e f g h relocs none = cc
+past_all false true c d e f g h relocs none = cc
+past_all false false true d e f g h relocs none = cc
+past_all false false false true e f g h relocs none = cc
+past_all false false false false true f g h relocs none = cc
+past_all false false false false false true g h relocs none = cc
+past_all false false false false false false true h relocs none = cc
+past_all false false false false false false false true relocs none = cc
+past_all false false false false false false false false relocs none = none
 
 no_reloc_feature : (object : Object) (foreign : Bool) (relocs : Option Feature) → first_feature object foreign relocs ≡ None → relocs ≡ None
 unfolding first_feature
 no_reloc_feature object foreign relocs none =
-    past_all (any_kept has_other_type object.sections) (any_kept is_objc object.sections) (any_overaligned object) (any_kept is_odd_code object.sections) (any_kept has_odd_segment object.sections) (any_kept is_text_zerofill object.sections) foreign (list_any is_external_absolute object.symbols) relocs
-    (or_else (list_any is_unwind object.sections) feature.Later None) none
+    past_all (any_kept has_other_type object.sections) (any_kept is_objc object.sections) (any_overaligned object) (any_kept is_odd_code object.sections) (any_kept has_odd_segment object.sections) (any_kept is_text_zerofill object.sections) foreign (list_any is_external_absolute object.symbols) relocs none
 
 pub references_read : (object : Object) (foreign : Bool) (relocs : Option Feature) → relocations_of object ≡ Ok relocs → None ≡ first_feature object foreign relocs → (file : FileId) → refs_of object file ≡ Ok (refs_from object file 1 object.sections)
 references_read object foreign relocs keeps none file =

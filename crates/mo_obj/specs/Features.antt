@@ -60,11 +60,6 @@ is_text_zerofill section = is_zerofill section.kind && is_in (codes "__TEXT") se
 abbrev pub is_external_absolute : Symbol → Bool
 is_external_absolute symbol = symbol.external && is_absolute symbol.kind
 
--- the frames of functions in their compact form, which come with a later version (`compact_unwind_encoding.h`)
-abbrev pub is_unwind : Section → Bool
-is_unwind section =
-    is_in (codes "__LD") section && bytes_eq section.name (codes "__compact_unwind") && nat_lt 0 section.size
-
 -- a linked section passes a test
 abbrev pub any_kept : (Section → Bool) → List Section → Bool
 any_kept test sections = list_any (λ section. not (is_dropped section) && test section) sections
@@ -76,17 +71,10 @@ any_overaligned object =
 abbrev pub or_else : Bool → Feature → Option Feature → Option Feature
 or_else test feature others = if test then Some feature else others
 
--- what a relocation has, or what follows
-abbrev pub or_that : Option Feature → Option Feature → Option Feature
-or_that None others = others
-or_that (Some feature) others = Some feature
-
 -- Absolute also stands where a relocation names an absolute symbol; PointerAuth is of relocations alone
 abbrev pub last_feature : Object → Option Feature → Option Feature
 last_feature object relocs =
-    or_else (list_any is_external_absolute object.symbols) feature.Absolute
-    (or_that relocs
-    (or_else (list_any is_unwind object.sections) feature.Later None))
+    or_else (list_any is_external_absolute object.symbols) feature.Absolute relocs
 
 -- The first of the features that stands, where `foreign` says that a symbol is of a kind that isn't linked, and
 -- `relocs` what a relocation has: an absolute symbol's name, or an authenticated pointer.

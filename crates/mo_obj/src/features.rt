@@ -87,14 +87,6 @@ fn is_external_absolute(symbol: &Symbol) -> bool
     symbol.external && matches!(symbol.kind, SymbolKind::Absolute)
 }
 
-fn is_unwind(section: &Section) -> bool
-    ensures { result ≡ features.is_unwind section.now }
-{
-    is_in(b"__LD", section)
-        && section.name.as_slice() == b"__compact_unwind".as_slice()
-        && section.size > 0
-}
-
 fn any_other_type(sections: &[Section]) -> bool
     ensures { result ≡ features.any_kept features.has_other_type sections.now }
 {
@@ -158,26 +150,15 @@ fn any_external_absolute(symbols: &[Symbol]) -> bool
     symbols.iter().any(is_external_absolute)
 }
 
-fn any_unwind(sections: &[Section]) -> bool
-    ensures { result ≡ list_any features.is_unwind sections.now }
-{
-    sections.iter().any(is_unwind)
-}
-
 // A feature of relocations or of absolute symbols.
 fn last_feature(object: &Object, relocs: Option<Feature>) -> Option<Feature>
     ensures { result ≡ features.last_feature object.now relocs }
 {
     if any_external_absolute(object.symbols.as_slice()) {
-        return Some(Feature::Absolute);
+        Some(Feature::Absolute)
+    } else {
+        relocs
     }
-    if relocs.is_some() {
-        return relocs;
-    }
-    if any_unwind(object.sections.as_slice()) {
-        return Some(Feature::Later);
-    }
-    None
 }
 
 /// The first of the features that stands, where `foreign` says that a symbol is of a kind that isn't linked,

@@ -1,7 +1,5 @@
 //! Objects of clang and of LLVM's assembler.
 use super::described::{SectionRow, SymbolRow, is_object};
-use super::sample::tells;
-use mo_types::OutOfMemory;
 use std::alloc::Global;
 
 // What `llvm-mc -triple=arm64-apple-macos11 -filetype=obj` (LLVM 14) makes of
@@ -347,14 +345,37 @@ fn debugged_symbols() -> &'static [SymbolRow] {
     ]
 }
 
+fn framed_sections() -> &'static [SectionRow] {
+    &[
+        ("__TEXT", "__text", [0x0, 0xc, 2, 0x80000400, 488, 0x218, 2]),
+        ("__DATA", "__data", [0xc, 0x4, 2, 0x0, 500, 0, 0]),
+        (
+            "__LD",
+            "__compact_unwind",
+            [0x10, 0x20, 3, 0x2000000, 504, 0x228, 1],
+        ),
+    ]
+}
+
+fn framed_symbols() -> &'static [SymbolRow] {
+    &[
+        ("ltmp0", "defined", [1, 0x0], ""),
+        ("ltmp1", "defined", [2, 0xc], ""),
+        ("ltmp2", "defined", [3, 0x10], ""),
+        ("_main", "defined", [1, 0x0], "external"),
+        ("_word", "defined", [2, 0xc], "external"),
+    ]
+}
+
 /// Whether the objects of tools are read with what stands in them.
-pub fn objects_of_tools(alloc: Global) -> Result<bool, OutOfMemory> {
-    let read = is_object(
+pub fn objects_of_tools(alloc: Global) -> bool {
+    let whole = is_object(
         alloc,
         assembled(),
         assembled_sections(),
         assembled_symbols(),
-    ) && is_object(alloc, debugged(), debugged_sections(), debugged_symbols());
-    // the frames of the third come later
-    Ok(read && tells(alloc, framed(), "unsupported: later")?)
+    );
+    whole
+        && is_object(alloc, debugged(), debugged_sections(), debugged_symbols())
+        && is_object(alloc, framed(), framed_sections(), framed_symbols())
 }

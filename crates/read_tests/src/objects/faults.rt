@@ -119,9 +119,7 @@ fn cases() -> &'static str {
 748=03: unsupported: absolute
 620=05: unsupported: absolute
 636=05: unsupported: absolute
-655=b6: unsupported: pointerauth
-# one whole frame, whose function a pointer to `_main` tells
-424=5f5f636f6d706163745f756e77696e64 440=5f5f4c44000000 464=20 472=4802 480=8002: unsupported: later"
+655=b6: unsupported: pointerauth"
 }
 
 // Bytes at the edge of a rule, or that no rule looks at.
@@ -146,6 +144,8 @@ fn accepted() -> &'static str {
 440=5f5f4c4c564d00
 # no frames in their compact form, and no relocations of theirs
 424=5f5f636f6d706163745f756e77696e64 440=5f5f4c44000000 464=00 484=00
+# one whole frame, whose function a pointer to `_main` tells
+424=5f5f636f6d706163745f756e77696e64 440=5f5f4c44000000 464=20 472=4802 480=8002
 # a command of no known kind, a minimal version's number
 528=ffffffff
 540=ffffffff"
