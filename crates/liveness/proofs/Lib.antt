@@ -10,6 +10,7 @@ pub mod LostLemmas
 pub mod NobodyLemmas
 pub mod PlacedLemmas
 pub mod RunLemmas
+pub mod RunsLemmas
 pub mod StableLemmas
 pub mod StandingLemmas
 pub mod TurnLemmas

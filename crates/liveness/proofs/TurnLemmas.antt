@@ -1,5 +1,5 @@
 -- Where the atoms of references never rise, the runs of one atom, taken from last to first, are in the order of atoms.
-use Rattle.std.proofs.Common.{◌≡◌, ℕ, zero, suc, ◌+◌, ◌-◌, ◌<◌, ◌≤◌, ◌⊎◌, inl, inr, Bool, true, false, cond, All, List, [], ◌∷◌, ◌++◌, length, take, drop, get_or, refl, sym, ap, ◌∙◌, subst, arith, append-nil, not, length-append, length-take, length-drop}
+use Rattle.std.proofs.Common.{◌≡◌, ℕ, zero, suc, ◌+◌, ◌-◌, ◌<◌, ◌≤◌, ◌⊎◌, inl, inr, Bool, true, false, cond, All, List, [], ◌∷◌, ◌++◌, length, take, drop, get_or, refl, sym, ap, ◌∙◌, subst, arith, append_assoc, append-nil, not, length-append, length-take, length-drop}
 use Rattle.std.specs.Prelude.{IsPermutation, IsTrue}
 use Rattle.std.specs.List.{IsAllAdjacentAnswer, filter}
 use Rattle.std.specs.List.Sorted.{IsNonDecreasingBy, IsSorted}
@@ -15,7 +15,7 @@ use Rattle.liveness.specs.declared.order.Spot.{Spot}
 use Rattle.liveness.specs.Order.{place_of}
 use Rattle.liveness.specs.inner.Spots.{compare_spots, is_of, place}
 use Rattle.liveness.proofs.RunLemmas.{same_element}
-use Rattle.liveness.specs.inner.Turned.{AreTurned, Begins, GoesOn, IsFalling}
+use Rattle.liveness.specs.inner.Turned.{AreTurned, Begins, GoesOn, IsFalling, IsWithShuffled}
 
 -- ---- by place
 
@@ -108,15 +108,11 @@ pub rising_of : (spots : List Spot) (r : Bool) → IsAllAdjacentAnswer (λ x y b
 rising_of spots true h holds k d low high = tested (is_lt (compare_spots (get_or spots (k + 1) d) (get_or spots k d))) (h k d high)
 rising_of spots false h holds k d low high = absurd (false≢true holds)
 
-at_least : (p q : ℕ) → is_lt (nat_cmp p q) ≡ false → q ≤ p
+pub at_least : (p q : ℕ) → is_lt (nat_cmp p q) ≡ false → q ≤ p
 at_least p q e = elim (cases_lt p q) [
   | inl less ↦ absurd (false≢true (sym e ∙ ap is_lt (sym (nat_cmp_is p q Less less))))
   | inr up ↦ up
 ]
-
-pub falling_of : (spots : List Spot) (r : Bool) → IsAllAdjacentAnswer (λ x y b. b ≡ not (is_lt (compare_spots x y))) spots r → IsTrue r → IsFalling spots
-falling_of spots true h holds k d low = at_least (place (get_or spots k d)) (place (get_or spots (k + 1) d)) (tested (is_lt (compare_spots (get_or spots k d) (get_or spots (k + 1) d))) (h k d low))
-falling_of spots false h holds k d low = absurd (false≢true holds)
 
 -- ---- run by run, from the last one on
 
@@ -234,7 +230,42 @@ turning_end spots new start end turning none =
     let are : AreRising (drop 0 spots) new = subst (λ n. AreRising (drop n spots) new) (turning.last none) turning.are in
     record { all = are.all; sorted = sorted_from_rising new are.rises; listed = are.listed }
 
+-- ---- the same behind other references
+
+pub record IsTurningBehind (before spots : List Spot) (start end : ℕ) (new : List Spot) : Type 0 where
+  pub part : List Spot
+  pub behind : new ≡ before ++ part
+  pub turning : IsTurning spots start end part
+
+pub behind_start : (before spots new : List Spot) (start end : ℕ) → start ≡ length spots → end ≡ length spots → new ≡ before → IsTurningBehind before spots start end new
+behind_start before spots new start end a b same = record {
+  part = [];
+  behind = same ∙ sym (append-nil before);
+  turning = turning_start spots [] start end a b refl;
+}
+
+pub behind_goes_on : (before spots new : List Spot) (start end next to : ℕ) → IsTurningBehind before spots start end new → next + 1 ≡ start → to ≡ next → GoesOn spots next → IsTurningBehind before spots to end new
+behind_goes_on before spots new start end next to are e same on = record {
+  part = are.part;
+  behind = are.behind;
+  turning = turning_goes_on spots are.part start end next to are.turning e same on;
+}
+
+pub behind_begins : (before spots new more : List Spot) (start end next to : ℕ) → IsFalling spots → IsTurningBehind before spots start end new → next + 1 ≡ start → to ≡ next → Begins spots next → more ≡ new ++ take (end - next) (drop next spots) → IsTurningBehind before spots to next more
+behind_begins before spots new more start end next to falls are e same begins grown =
+    let run : List Spot = take (end - next) (drop next spots) in
+    record {
+      part = are.part ++ run;
+      behind = grown ∙ ap (λ ys. ys ++ run) are.behind ∙ append_assoc before are.part run;
+      turning = turning_begins spots are.part (are.part ++ run) start end next to falls are.turning e same begins refl;
+    }
+
+pub behind_end : (before spots new : List Spot) (start end : ℕ) → IsTurningBehind before spots start end new → start ≡ 0 → IsWithShuffled before spots new
+behind_end before spots new start end are none =
+    let turned : AreTurned spots are.part = turning_end spots are.part start end are.turning none in
+    record { part = are.part; behind = are.behind; shuffled = record { all = turned.all; listed = turned.listed } }
+
 pub turned_none : (spots : List Spot) → IsSorted compare_spots spots → AreTurned spots spots
 turned_none spots sorted = record { all = IsPermutation-refl spots; sorted = sorted; listed = λ section offset. refl }
 
-pub ruleset turns = (turning_start, turning_goes_on, turning_begins, turning_end)
+pub ruleset turns = (behind_start, behind_end)

@@ -5,7 +5,7 @@ ghost use Rattle.std.specs.List.{enumerate_from, filter, range_with_len};
 ghost use Rattle.std.specs.List.Sorted.{IsSorted};
 ghost use Rattle.liveness.specs.Order.{AreInOrder, place_of};
 ghost use Rattle.liveness.specs.inner.Spots as spec;
-ghost use Rattle.liveness.specs.inner.Turned.{AreTurned, Begins, GoesOn, IsFalling};
+ghost use Rattle.liveness.specs.inner.Turned.{AreShuffled, AreTurned, Begins, FallsTo, GoesOn, IsFalling, IsWithShuffled};
 
 use mo_types::{Items, OutOfMemory, RefList};
 use std::alloc::Global;
@@ -83,13 +83,6 @@ fn never_fall(spots: &[Spot]) -> bool
     spots.is_sorted_by(|a, b| !compare(b, a).is_lt())
 }
 
-// Whether no reference has an atom behind that of the one listed before it.
-fn never_rise(spots: &[Spot]) -> bool
-    ensures { IsTrue result → IsFalling spots.now }
-{
-    spots.is_sorted_by(|a, b| !compare(a, b).is_lt())
-}
-
 // Whether the reference at a place has another atom than the one listed before it, or is the first.
 fn begins(spots: &[Spot], at: usize) -> bool
     requires { at < length spots.now }
@@ -102,14 +95,14 @@ fn begins(spots: &[Spot], at: usize) -> bool
     compare(&spots[at - 1], &spots[at]) != Ordering::Equal
 }
 
-// References whose atoms never rise, by atom: those of each atom stand together, and are taken from last to first, each as
-// they are listed.
+// Behind others, references whose atoms never rise, by atom: those of each atom stand together, and are taken from last to
+// first, each as they are listed.
 #[tactic(auto, using(crate::proofs::TurnLemmas::turns))]
-fn turned(alloc: Global, spots: &[Spot]) -> Result<Vec<Spot>, OutOfMemory>
+fn with_turned(before: Vec<Spot>, spots: &[Spot]) -> Result<Vec<Spot>, OutOfMemory>
     requires { IsFalling spots.now }
-    ensures { IfOk result (λ new. AreTurned spots.now new.items) }
+    ensures { IfOk result (λ new. IsWithShuffled before.items spots.now new.items) }
 {
-    let mut new = Vec::with_capacity(alloc, spots.len())?;
+    let mut new = before;
     let mut end = spots.len();
     for step in 0..spots.len() {
         let start = spots.len() - 1 - step;
@@ -121,19 +114,49 @@ fn turned(alloc: Global, spots: &[Spot]) -> Result<Vec<Spot>, OutOfMemory>
     Ok(new)
 }
 
-// References in the order of their atoms; those of one atom stay as they are listed. Relocations are listed mostly by
-// falling place, so most lists need no sort.
+// Whether the list ends at a place, or the reference there has an atom behind that of the one listed before it.
+fn ends_run(spots: &[Spot], at: usize) -> bool
+    requires behind { 0 < at }
+    requires within { at ≤ length spots.now }
+    ensures end { at ≡ length spots.now → IsTrue result }
+    ensures falls { result ≡ false → FallsTo spots.now at }
+{
+    match spots.get(at) {
+        Some(spot) => compare(&spots[at - 1], spot).is_lt(),
+        None => true,
+    }
+}
+
+// References, of which each run whose atoms never rise is put in the order of its atoms.
+#[tactic(auto, using(crate::proofs::RunsLemmas::turns_runs))]
+fn turned(alloc: Global, spots: &[Spot]) -> Result<Vec<Spot>, OutOfMemory>
+    ensures { IfOk result (λ new. AreShuffled spots.now new.items) }
+{
+    let mut new = Vec::with_capacity(alloc, spots.len())?;
+    let mut start = 0;
+    for last in 0..spots.len() {
+        let end = last + 1;
+        if ends_run(spots, end) {
+            new = with_turned(new, &spots[start..end])?;
+            start = end;
+        }
+    }
+    Ok(new)
+}
+
+// References in the order of their atoms; those of one atom stay as they are listed. Relocations are listed mostly section
+// by section, and in a section by falling place, so most lists need no sort.
+#[tactic(auto, using(crate::proofs::RunsLemmas::orders))]
 fn ordered(alloc: Global, spots: Vec<Spot>) -> Result<Vec<Spot>, OutOfMemory>
     ensures { IfOk result (λ new. AreTurned spots.items new.items) }
 {
     if never_fall(spots.as_slice()) {
         return Ok(spots);
     }
-    if never_rise(spots.as_slice()) {
-        return turned(alloc, spots.as_slice());
+    let mut spots = turned(alloc, spots.as_slice())?;
+    if !never_fall(spots.as_slice()) {
+        put_in_order(&mut spots)?;
     }
-    let mut spots = spots;
-    put_in_order(&mut spots)?;
     Ok(spots)
 }
 

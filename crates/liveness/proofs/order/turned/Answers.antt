@@ -1,17 +1,15 @@
-use Rattle.std.proofs.Common.{arith, length, ◌-◌, ◌+◌}
-use Rattle.liveness.proofs.TurnLemmas.{turning_begins, turning_goes_on}
+use Rattle.std.proofs.Common.{rules, refl, ◌+◌}
+use Rattle.liveness.proofs.RunsLemmas.{run_ends, run_goes_on}
 use Rattle.liveness.proofs.order.turned.Goals as goal
-use Rattle.liveness.proofs.order.turned.Goals.{then-begins+in_ok-extend_from_slice, else-begins}
+use Rattle.liveness.proofs.order.turned.Goals.{then-ends_run+in_ok-new-2, else-ends_run}
 
-pub loop-step-preserved : goal.loop-step-preserved
-loop-step-preserved c =
-    elim c.if-begins.branch [
-      | then-begins+in_ok-extend_from_slice w ↦
-          rw (w.new-is, w.end-is)
-          (turning_begins c.args.spots.now c.loop-step.new.items _ (length c.args.spots.now - c.loop-step.step) c.loop-step.end (length c.args.spots.now - 1 - c.loop-step.step) (length c.args.spots.now - (c.loop-step.step + 1))
-          c.requires c.loop-step.invariant (omega (arith, c.loop-step-test.true)) (omega arith) (c.begins.ensures.other w.if-begins.true) w.in_ok-extend_from_slice.ensures.items)
-      | else-begins w ↦
-          rw (w.new-is, w.end-is)
-          (turning_goes_on c.args.spots.now c.loop-step.new.items (length c.args.spots.now - c.loop-step.step) c.loop-step.end (length c.args.spots.now - 1 - c.loop-step.step) (length c.args.spots.now - (c.loop-step.step + 1))
-          c.loop-step.invariant (omega (arith, c.loop-step-test.true)) (omega arith) (c.begins.ensures.same w.if-begins.false))
+pub loop-last-preserved : goal.loop-last-preserved
+loop-last-preserved c =
+    elim c.if-ends_run.branch [
+      | then-ends_run+in_ok-new-2 w ↦
+          rw (w.new-is, w.start-is)
+          (run_ends c.args.spots.now c.loop-last.new.items w.in_ok-new-2.new.items c.loop-last.last c.loop-last.start (c.loop-last.last + 1) c.loop-last.invariant refl (search rules))
+      | else-ends_run w ↦
+          rw (w.new-is, w.start-is)
+          (run_goes_on c.args.spots.now c.loop-last.new.items c.loop-last.last c.loop-last.start c.loop-last.invariant (c.ends_run.ensures.falls w.if-ends_run.false) (search rules))
     ]

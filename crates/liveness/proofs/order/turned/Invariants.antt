@@ -1,6 +1,5 @@
-use Rattle.std.proofs.Common.{◌-◌, length}
-use Rattle.liveness.proofs.TurnLemmas.{IsTurning}
+use Rattle.liveness.proofs.RunsLemmas.{AreRuns}
 use Rattle.liveness.proofs.order.turned.Given as goal
 
-abbrev pub invariant-loop-step : goal.invariant-loop-step
-invariant-loop-step l = IsTurning l.spots (length l.spots - l.step) l.end l.new.items
+abbrev pub invariant-loop-last : goal.invariant-loop-last
+invariant-loop-last l = AreRuns l.spots l.last l.start l.new.items
