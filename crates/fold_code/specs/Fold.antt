@@ -1,5 +1,6 @@
 -- Which functions of an image may be one: those that are in one class of the coarsest partition into alike ones.
-use Rattle.std.specs.Prelude.{◌≡◌, ℕ, ◌<◌, ◌≤◌, ℤ, List, [], ◌∷◌, All, length, slice_get, slice_index, Option, Some, None}
+use Rattle.std.specs.Prelude.{◌≡◌, ℕ, ◌<◌, ◌≤◌, List, All, length, slice_get, slice_index, Option, Some, None}
+use Rattle.std.specs.List.{AllZip}
 use Rattle.std.specs.List.Sorted.{IsStrictlySortedBy}
 use Rattle.std.specs.Ordering.{on}
 use Rattle.mo_types.specs.Keys.{compare_keys}
@@ -73,18 +74,11 @@ pub record IsSameUnwind (class : Partition) (a b : FoldUnwind) : Type 0 where
   pub personality : IsSame class a.personality b.personality
   pub lsda : a.lsda ≡ b.lsda
 
--- two lists are as long, and what stands at one place of them is the same
-abbrev pub ArePairwise : {X : Type 0} → (X → X → Type 0) → List X → List X → Type 0
-ArePairwise P [] [] = Unit {0}
-ArePairwise P [] (y ∷ ys) = ⊥
-ArePairwise P (x ∷ xs) [] = ⊥
-ArePairwise P (x ∷ xs) (y ∷ ys) = P x y × ArePairwise P xs ys
-
 -- two nodes are alike: equal bytes outside of references, the same references and the same unwind entries
 pub record AreAlike (class : Partition) (a b : FoldNode) : Type 0 where
   pub bytes : a.bytes ≡ b.bytes
-  pub links : ArePairwise (IsSameLink class) a.links b.links
-  pub unwinds : ArePairwise (IsSameUnwind class) a.unwinds b.unwinds
+  pub links : AllZip (IsSameLink class) a.links b.links
+  pub unwinds : AllZip (IsSameUnwind class) a.unwinds b.unwinds
 
 -- a partition all of whose classes have alike nodes alone
 pub record IsAlike (nodes : List FoldNode) (class : Partition) : Type 0 where

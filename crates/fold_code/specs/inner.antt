@@ -1,2 +1,4 @@
+pub mod Firsts
+pub mod Rounds
 pub mod Shapes
 pub mod ShapeLaws

@@ -3,7 +3,19 @@ ghost use Rattle.std.specs.Prelude.{◌≡◌, fold};
 ghost use Rattle.std.specs.List.{flat_map};
 ghost use Rattle.std.specs.Cmp.Lexicographic.{pointwise};
 ghost use Rattle.fold_code.specs.inner.Shapes.{
-    feed_goal, feed_key, feed_link, feed_lsda, feed_optional, feed_unwind, kind_number, same_goal, same_key, same_link, same_lsda, same_optional, same_unwind,
+  feed_goal,
+  feed_key,
+  feed_link,
+  feed_lsda,
+  feed_optional,
+  feed_unwind,
+  kind_number,
+  same_goal,
+  same_key,
+  same_link,
+  same_lsda,
+  same_optional,
+  same_unwind,
 };
 
 use crate::node::{FoldGoal, FoldNode, FoldUnwind, Link};

@@ -100,14 +100,14 @@ links_equal : IsEquivalence same_link
 links_equal =
     and_equiv
     (and_equiv (and_equiv (and_equiv (on_equiv (λ (l : Link). l.place) nat_eq_equiv) (on_equiv (λ (l : Link). kind_number l.kind) nat_eq_equiv)) (on_equiv (λ (l : Link). l.addend) int_eq_equiv))
-        (on_equiv (λ (l : Link). l.goal) goals_equal))
+    (on_equiv (λ (l : Link). l.goal) goals_equal))
     (on_equiv (λ (l : Link). l.minus) optionals_equal)
 
 unwinds_equal : IsEquivalence same_unwind
 unwinds_equal =
     and_equiv
     (and_equiv (and_equiv (and_equiv (on_equiv (λ (u : FoldUnwind). u.offset) nat_eq_equiv) (on_equiv (λ (u : FoldUnwind). u.length) nat_eq_equiv)) (on_equiv (λ (u : FoldUnwind). u.encoding) nat_eq_equiv))
-        (on_equiv (λ (u : FoldUnwind). u.personality) optionals_equal))
+    (on_equiv (λ (u : FoldUnwind). u.personality) optionals_equal))
     (on_equiv (λ (u : FoldUnwind). u.lsda) lsdas_equal)
 
 pub nodes_equal : IsEquivalence same_shape
