@@ -138,7 +138,7 @@ index_map f [] a x e = cc
 index_map f (y ∷ xs) zero x e = let same : y ≡ x = cc in ap f same
 index_map f (y ∷ xs) (suc a) x e = index_map f xs a x e
 
-at_end : {K : Type 0} {E : K → K → Bool} (laws : IsEquivalence E) (keys : List K) → AreFirsts E keys (map (λ k. unwrap_or (place (E k) keys) 0) keys)
+pub at_end : {K : Type 0} {E : K → K → Bool} (laws : IsEquivalence E) (keys : List K) → AreFirsts E keys (map (λ k. unwrap_or (place (E k) keys) 0) keys)
 at_end {K = K} {E = E} laws keys = record {
   each = length-map keys first;
   there = λ a x e.

@@ -1,4 +1,5 @@
 pub mod AlikeLemmas
+pub mod ExistLemmas
 pub mod FirstLemmas
 pub mod KeyLemmas
 pub mod LawLemmas

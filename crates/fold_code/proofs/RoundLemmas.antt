@@ -161,7 +161,7 @@ last_round nodes ends firsts next are is round new same =
 
 -- ---- there is an end
 
-abbrev total : List ℕ → ℕ
+abbrev pub total : List ℕ → ℕ
 total xs = sum_by (λ (x : ℕ). x) xs
 
 step_up : (xs ys : List ℕ) → length xs ≡ length ys → ((a : ℕ) → a < length xs → get_or xs a 0 ≤ get_or ys a 0) → total xs ≤ total ys

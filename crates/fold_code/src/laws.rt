@@ -5,6 +5,11 @@ ghost use Rattle.mo_types.specs.Keys.{compare_keys};
 ghost use Rattle.fold_code.specs.Fold.{AreNodes, IsCoarsest, IsFolded, IsRefined, Partition, partition_of};
 ghost use Rattle.fold_code.specs.declared.node.FoldNode.{FoldNode};
 
+/// For all nodes there are nodes that stand for them, and so there is a coarsest partition into alike ones.
+pub fn folded_nodes_exist()
+    ensures { (nodes : List FoldNode) → AreNodes nodes → (firsts : List ℕ) × IsFolded nodes firsts }
+{}
+
 /// Two coarsest partitions into alike nodes have the same classes.
 pub fn the_coarsest_partition_is_one()
     ensures { (nodes : List FoldNode) (a b : Partition) → IsCoarsest nodes a → IsCoarsest nodes b → IsRefined (length nodes) a b }
