@@ -1,23 +1,20 @@
 -- Nodes are alike where they have one shape and refer to nodes of the same classes.
-use Rattle.std.proofs.Common.{◌≡◌, ℕ, suc, ◌+◌, Bool, true, false, ◌&&◌, ◌==◌, List, [], ◌∷◌, ◌++◌, length, map, refl, sym, ap, ◌∙◌, arith, Option, Some, None}
+use Rattle.std.proofs.Common.{◌≡◌, ℕ, Bool, true, false, ◌&&◌, ◌==◌, List, [], ◌∷◌, ◌++◌, length, map, refl, sym, ap, ◌∙◌, arith, Option, Some, None}
 use Rattle.std.specs.List.{AllZip, flat_map}
 use Rattle.std.specs.Cmp.Lexicographic.{pointwise}
-use Rattle.std.specs.Ordering.{eq_by_cmp, int_eq}
+use Rattle.std.specs.Ordering.{int_eq}
 use Rattle.std.specs.Str.{bytes_eq}
 use Rattle.std.proofs.lemmas.Bool.{and_from, and_parts, eq-eqb, eqb-true}
 use Rattle.std.proofs.lemmas.Bool.Decides.{Decides-int_eq}
 use Rattle.std.proofs.lemmas.List.{length-append, length-map, map-append}
 use Rattle.std.proofs.lemmas.Slice.Eq.{bytes_eq-Decides}
 use Rattle.mo_types.proofs.Goals.{same_goals}
-use Rattle.mo_types.specs.declared.goal.Goal.{Goal}
 use Rattle.mo_types.specs.declared.key.AtomKey.{AtomKey}
 use Rattle.mo_types.specs.declared.reference.RefKind.{RefKind}
 use Rattle.mo_types.specs.declared.reference.RefKind.TheVariants.{Pointer, Diff32, Diff64, Branch, Page, PageOff, GotPage, GotPageOff, GotDelta, GotPointer, TlvPage, TlvPageOff}
 use Rattle.fold_code.specs.declared.node.FoldGoal.{FoldGoal}
 use Rattle.fold_code.specs.declared.node.FoldGoal.TheVariants.{Node, Other}
-use Rattle.fold_code.specs.declared.node.Link.{Link}
 use Rattle.fold_code.specs.declared.node.FoldUnwind.{FoldUnwind}
-use Rattle.fold_code.specs.declared.node.FoldNode.{FoldNode}
 use Rattle.fold_code.specs.Fold.{AreAlike, IsSame, IsSameGoal, IsSameLink, IsSameUnwind, Partition}
 use Rattle.fold_code.specs.inner.Shapes.{ends_of, ends_of_goal, ends_of_link, ends_of_optional, ends_of_unwind, kind_number, same_goal, same_key, same_link, same_lsda, same_optional, same_shape, same_unwind}
 use Rattle.fold_code.specs.inner.ShapeLaws.{five, same_keys, same_others}

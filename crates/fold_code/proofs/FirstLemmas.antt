@@ -5,8 +5,7 @@ use Rattle.std.specs.Option.{unwrap_or}
 use Rattle.std.specs.Cmp.{IsEquivalence}
 use Rattle.std.specs.HashMap.{HashMap, Updates, get}
 use Rattle.std.proofs.lemmas.List.{map-append, take_all, take_more, take-append-drop, drop_more, length-map, length-take}
-use Rattle.std.proofs.lemmas.Option.{get_or_from_slice_get, slice_get_within, slice_get-get_or, slice_get-map}
-use Rattle.fold_code.specs.inner.Firsts.{AreFirsts, IsThere, place, place_behind}
+use Rattle.fold_code.specs.inner.Firsts.{AreFirsts, place, place_behind}
 
 left_step : (b : Bool) (o p : Option ℕ) (n : ℕ) → ((m : ℕ) → o ≡ Some m → p ≡ Some m) → place_behind b o ≡ Some n → place_behind b p ≡ Some n
 left_step true o p n rest e = e

@@ -4,9 +4,9 @@ use Rattle.std.specs.Prelude.{slice_get, slice_index}
 use Rattle.std.specs.Option.{option_map}
 use Rattle.std.specs.Cmp.{IsEquivalence}
 use Rattle.std.proofs.lemmas.List.{length-map}
-use Rattle.std.proofs.lemmas.Option.{slice_get-map, slice_get_within}
+use Rattle.std.proofs.lemmas.Option.{slice_get-map}
 use Rattle.fold_code.specs.Fold.{partition_of}
-use Rattle.fold_code.specs.inner.Firsts.{AreFirsts, IsThere}
+use Rattle.fold_code.specs.inner.Firsts.{AreFirsts}
 use Rattle.fold_code.specs.inner.Rounds.{AreFirstNumbers}
 
 pub at_within : {X : Type 0} (xs : List X) (a : ℕ) → a < length xs → (x : X) × (slice_get xs a ≡ Some x)

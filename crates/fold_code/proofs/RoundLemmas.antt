@@ -1,22 +1,19 @@
 -- The rounds of refining.
-use Rattle.std.proofs.Common.{◌≡◌, ℕ, zero, suc, ◌+◌, ◌-◌, ◌*◌, ◌<◌, ◌≤◌, Bool, true, false, List, [], ◌∷◌, ◌++◌, length, map, get_or, All, refl, sym, ap, subst, ◌∙◌, arith, Option, Some, None, nat_eq, ◌⊎◌, ◌≢◌, inl, inr}
-use Rattle.std.specs.Prelude.{slice_get, slice_index}
+use Rattle.std.proofs.Common.{◌≡◌, ℕ, zero, suc, ◌-◌, ◌*◌, ◌<◌, ◌≤◌, true, false, List, [], ◌∷◌, length, map, get_or, All, refl, sym, ap, subst, ◌∙◌, arith, Option, Some, None, nat_eq, ◌⊎◌, ◌≢◌, inl, inr}
+use Rattle.std.specs.Prelude.{slice_get}
 use Rattle.std.specs.List.{flat_map, sum_by}
 use Rattle.std.specs.Cmp.Lexicographic.{pointwise}
-use Rattle.std.specs.Str.{bytes_eq}
 use Rattle.std.proofs.lemmas.Bool.{cases_eq, eq-eqb}
 use Rattle.std.proofs.lemmas.Cmp.{nat_list_eq_equiv}
 use Rattle.std.proofs.lemmas.List.{length-map}
 use Rattle.std.proofs.lemmas.List.Elements.{All-append, All-cons, All-from_get_or, All-get_or, All-head, All-nil, All-tail}
 use Rattle.std.proofs.lemmas.List.Sums.{sum_by-cons, sum_by-le}
-use Rattle.std.proofs.lemmas.Option.{slice_get-get_or, slice_get_within, get_or_from_slice_get}
+use Rattle.std.proofs.lemmas.Option.{slice_get-get_or, slice_get_within}
 use Rattle.std.proofs.lemmas.Slice.Eq.{bytes_eq-Decides}
 use Rattle.fold_code.specs.declared.node.FoldGoal.{FoldGoal}
 use Rattle.fold_code.specs.declared.node.FoldGoal.TheVariants.{Node, Other}
-use Rattle.fold_code.specs.declared.node.Link.{Link}
-use Rattle.fold_code.specs.declared.node.FoldUnwind.{FoldUnwind}
 use Rattle.fold_code.specs.declared.node.FoldNode.{FoldNode}
-use Rattle.fold_code.specs.Fold.{AreAlike, AreNodes, GoalIsWithin, IsAlike, IsCoarsest, IsFolded, IsRefined, IsWithin, LinkIsWithin, NodeIsWithin, Partition, UnwindIsWithin, partition_of}
+use Rattle.fold_code.specs.Fold.{AreNodes, GoalIsWithin, IsAlike, IsFolded, IsRefined, IsWithin, LinkIsWithin, NodeIsWithin, Partition, UnwindIsWithin, partition_of}
 use Rattle.fold_code.specs.inner.Firsts.{AreFirsts}
 use Rattle.fold_code.specs.inner.Rounds.{AreBelow, AreFirstNumbers, AreRows, IsNext, IsRound, row_of}
 use Rattle.fold_code.specs.inner.Shapes.{ends_of, ends_of_goal, ends_of_link, ends_of_optional, ends_of_unwind, same_shape}

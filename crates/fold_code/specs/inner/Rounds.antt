@@ -1,8 +1,8 @@
 -- How the code refines a partition, round by round.
-use Rattle.std.specs.Prelude.{◌≡◌, ℕ, ◌<◌, ◌≤◌, true, List, [], ◌∷◌, All, length, map, get_or, slice_get, slice_index, Some}
+use Rattle.std.specs.Prelude.{◌≡◌, ℕ, ◌<◌, ◌≤◌, true, List, [], ◌∷◌, All, length, map, get_or, slice_get, Some}
 use Rattle.fold_code.specs.declared.node.FoldNode.{FoldNode}
 use Rattle.fold_code.specs.Fold.{IsAlike, IsRefined, Partition, partition_of}
-use Rattle.fold_code.specs.inner.Shapes.{ends_of, same_shape}
+use Rattle.fold_code.specs.inner.Shapes.{same_shape}
 
 -- the numbers in lists are below a number
 abbrev pub AreBelow : ℕ → List (List ℕ) → Type 0

@@ -1,4 +1,4 @@
-use Rattle.std.proofs.Common.{◌≡◌, List, map, ap, ◌∙◌}
+use Rattle.std.proofs.Common.{◌≡◌, map, ap, ◌∙◌}
 use Rattle.fold_code.specs.declared.node.FoldNode.{FoldNode}
 use Rattle.fold_code.specs.declared.shape.Shape.{Shape}
 use Rattle.fold_code.specs.inner.Shapes.{same_shape}

@@ -1,6 +1,5 @@
 use Rattle.std.proofs.Common.{◌≡◌, List, ℕ, Bor, nat_eq, map, ap, ◌∙◌}
 use Rattle.std.specs.Cmp.Lexicographic.{pointwise}
-use Rattle.fold_code.specs.inner.Rounds.{AreRows}
 use Rattle.fold_code.proofs.KeyLemmas.{held}
 use Rattle.fold_code.proofs.RoundLemmas.{rows_are_next}
 use Rattle.fold_code.proofs.round.next_round.Goals as goal
