@@ -345,6 +345,7 @@ fn debugged_symbols() -> &'static [SymbolRow] {
     ]
 }
 
+// The frames aren't linked as a section, whose alignment counts as 0.
 fn framed_sections() -> &'static [SectionRow] {
     &[
         ("__TEXT", "__text", [0x0, 0xc, 2, 0x80000400, 488, 0x218, 2]),
@@ -352,7 +353,7 @@ fn framed_sections() -> &'static [SectionRow] {
         (
             "__LD",
             "__compact_unwind",
-            [0x10, 0x20, 3, 0x2000000, 504, 0x228, 1],
+            [0x10, 0x20, 0, 0x2000000, 504, 0x228, 1],
         ),
     ]
 }
