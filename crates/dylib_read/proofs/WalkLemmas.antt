@@ -87,4 +87,5 @@ part_same bytes command at is =
     ap (λ n. take n (drop at bytes)) long ∙ take_min (size_at bytes at) (drop at bytes)
 
 pub ruleset parts = (part_fits, part_same, cut_past)
+
 pub ruleset cuts = (cut_there, cut_past)
