@@ -1,0 +1,4 @@
+pub mod GrowLemmas
+pub mod KeptLemmas
+pub mod LeastLemmas
+pub mod TwiceLemmas

@@ -1,0 +1,4 @@
+pub mod Kept
+pub mod Dwarf
+pub mod Twice
+pub mod inner
