@@ -1,1 +1,3 @@
+pub mod Adds
+pub mod Last
 pub mod Least

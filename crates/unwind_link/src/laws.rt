@@ -1,15 +1,28 @@
-//! That `__unwind_info` moves nothing before it, on a call that does nothing.
-ghost use Rattle.std.specs.Prelude.{◌≢◌, ◌<◌, ℕ, List};
+//! That slots of listed personalities serve all entries, and that `__unwind_info` moves nothing before it, on calls that do
+//! nothing.
+ghost use Rattle.std.specs.Prelude.{◌≢◌, ◌<◌, ◌++◌, ℕ, List, map};
 ghost use Rattle.std.specs.List.{AllPairs};
 ghost use Rattle.command_line.specs.declared.command.Command.{Command};
 ghost use Rattle.mo_types.specs.declared.atom.Atom.{Atom};
+ghost use Rattle.mo_types.specs.declared.goal.Goal.{Goal};
 ghost use Rattle.mo_types.specs.declared.key.AtomKey.{AtomKey};
 ghost use Rattle.mo_types.specs.declared.out_section.OutSection.{OutSection};
 ghost use Rattle.sect_place.specs.Layout.{plan_of};
 ghost use Rattle.sect_place.specs.declared.island.IslandPlan.{IslandPlan};
+ghost use Rattle.slot_plan.specs.Slots.{AreSlots, in_got, needed};
 ghost use Rattle.slot_plan.specs.declared.list.Slots.{Slots};
+ghost use Rattle.slot_plan.specs.declared.need.Need.{Need};
 ghost use Rattle.tlv_plan.specs.Template.{keys_of};
+ghost use Rattle.unwind_link.specs.Personalities.{slot_need};
 ghost use Rattle.unwind_link.specs.Twice.{AreAlikeBefore, with_unwind};
+
+/// Slots of the global offset table that serve other needs and the listed personalities serve these needs and those of all
+/// entries, and have no other goal.
+#[tactic(auto, using(crate::proofs::NeedLemmas::serves_all))]
+pub fn slots_serve_all_personalities()
+    ensures { (others : List Need) (goals listed slots : List Goal) → AreSlots goals listed
+        → AreSlots (needed in_got (others ++ map slot_need listed)) slots → AreSlots (needed in_got (others ++ map slot_need goals)) slots }
+{}
 
 /// Where no atom is listed twice, all that stands before `__unwind_info` stands at one place, however many bytes that has.
 #[tactic(auto, using(crate::proofs::TwiceLemmas::alike))]
