@@ -45,4 +45,3 @@ pub grow_end : {X Y : Type 0} (f : X → List Y) (before now : List Y) (xs : Lis
 grow_end {Y = Y} f before now xs at grows past = grows.same ∙ ap (λ (ys : List Y). before ++ ys) (ap (flat_map f) (take_all at xs past))
 
 pub ruleset grows = (grow_start, grow_at, grow_end)
-

@@ -30,5 +30,5 @@ pub fn unwind_info_moves_nothing_before()
     ensures { (kept : List Atom) (sections : List OutSection) (slots : Slots) (islands : IslandPlan) (command : Command) (commands few many : ℕ)
         → AllPairs (λ (a : AtomKey) (b : AtomKey). a ≢ b) (keys_of sections) → 0 < few → 0 < many
         → AreAlikeBefore sections (plan_of kept sections slots islands (with_unwind commands few) command)
-            (plan_of kept sections slots islands (with_unwind commands many) command) few many }
+        (plan_of kept sections slots islands (with_unwind commands many) command) few many }
 {}
