@@ -34,10 +34,16 @@ with_segment table index at = option_map (λ found. decoded (Segment index found
 abbrev pub with_distance : List ℕ → ℕ → Option Decoded
 with_distance table at = option_map (λ found. decoded (Forward found.0) found.1) (uleb_at table at)
 
+-- a name lies within so many bytes
+abbrev pub IsNamed : ℕ → Op → Type 0
+IsNamed end (Name at size optional) = at + size ≤ end
+IsNamed end _ = Unit {0}
+
 -- the bytes from a place to the next opcode lie in the table
 pub record IsWithin (at : ℕ) (table : List ℕ) (found : Decoded) : Type 0 where
   pub from : at ≤ found.next
   pub to : found.next ≤ length table
+  pub name : IsNamed (length table) found.op
 
 -- what a byte at the place before `next` and what follows it mean in the table of rebases
 unfoldable pub rebase_op : List ℕ → ℕ → ℕ → Option Decoded
