@@ -55,7 +55,7 @@ long_small : (image : List ℕ) (v : ℕ) → ((i : ℕ) → get_or image i 0 < 
 unfolding long_at word_at short_at
 long_small image v bytes =
     let short : (u : ℕ) → Below 0x10000 (joined 0x100 (mapped image u) (mapped image (u + 1))) =
-        (λ u. joined_small 0x100 0x100 0x10000 (mapped image u) (mapped image (u + 1)) refl (mapped_small image u bytes) (mapped_small image (u + 1) bytes)) in
+    (λ u. joined_small 0x100 0x100 0x10000 (mapped image u) (mapped image (u + 1)) refl (mapped_small image u bytes) (mapped_small image (u + 1) bytes)) in
     let word : (u : ℕ) → Below 0x100000000 (word_at image u) = (λ u. joined_small 0x10000 0x10000 0x100000000 _ _ refl (short u) (short (u + 2))) in
     joined_small 0x100000000 0x100000000 (2 ^ 64) _ _ refl (word v) (word (v + 4))
 

@@ -7,7 +7,9 @@ use std::alloc::{AllocError, AllocFailed};
 #[derive(Debug, Drop)]
 pub enum OpAct {
     /// An address of the image, by its distance in bytes from the image's header.
-    Rebase { offset: u64 },
+    Rebase {
+        offset: u64,
+    },
     /// The address of a name of another image.
     Bind {
         name: Bytes,

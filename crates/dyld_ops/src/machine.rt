@@ -98,7 +98,12 @@ fn fix(at: usize, address: u64, act: OpAct, machine: &mut Machine) -> Result<(),
 }
 
 // The address of the place, and the word that stands there.
-fn find_place(image: &[u8], layout: &Layout, at: usize, machine: &Machine) -> Result<Place, OpsFault>
+fn find_place(
+    image: &[u8],
+    layout: &Layout,
+    at: usize,
+    machine: &Machine,
+) -> Result<Place, OpsFault>
     requires { IsLayout image.now layout.now }
     ensures { Gives IsFault result (machines.place_of image.now at machine.now) }
 {

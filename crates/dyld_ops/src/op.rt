@@ -15,7 +15,10 @@ pub enum Op {
     /// The fixups that follow are pointers.
     Pointers,
     /// The place is this offset of a segment.
-    Segment { index: u8, offset: u64 },
+    Segment {
+        index: u8,
+        offset: u64,
+    },
     /// The place lies so many bytes behind.
     Forward(u64),
     /// So many pointers, one behind the other, are rebased.
