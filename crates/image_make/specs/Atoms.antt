@@ -1,10 +1,10 @@
 -- The atoms that an image keeps, as they are placed.
-use Rattle.std.specs.Prelude.{ℕ, ◌≤◌, ◌==◌, ◌&&◌, ◌++◌, Bool, All, List, map, Option}
+use Rattle.std.specs.Prelude.{ℕ, ◌≤◌, ◌==◌, ◌&&◌, ◌++◌, Bool, All, List, map, Option, if◌then◌else◌}
 use Rattle.std.specs.List.{enumerate_from, filter, filter_map, find, flat_map}
 use Rattle.std.specs.Option.{option_map, option_map_or}
 use Rattle.std.specs.List.Sorted.{IsStrictlySortedBy}
 use Rattle.std.specs.Ordering.{is_eq, on}
-use Rattle.mark_core.specs.Kept.{has}
+use Rattle.mark_core.specs.Kept.{has, same_atom}
 use Rattle.mo_types.specs.Keys.{compare_files, compare_keys}
 use Rattle.mo_types.specs.declared.atom.Atom.{Atom}
 use Rattle.mo_types.specs.declared.key.AtomKey.{AtomKey}
@@ -16,12 +16,16 @@ use Rattle.literal_merge.specs.declared.representative.Representative.{Represent
 use Rattle.symbol_winners.specs.declared.winner.Winner.{Winner}
 use Rattle.image_make.specs.declared.kept.KeptAtom.{KeptAtom}
 
--- an atom with the alignment with which it is placed: a literal has the greatest of those for which it stands
+-- the alignment of a literal: of one that stands for others the greatest of theirs, and else its own
+abbrev pub literal_align : Atom → Representative → ℕ
+literal_align atom r = if same_atom r.representative atom.key then r.align else atom.align
+
+-- an atom with the alignment with which it is placed
 unfoldable pub raised : List Representative → Atom → Atom
 raised literals atom = record {
   key = atom.key;
   size = atom.size;
-  align = option_map_or (λ r. r.align) (literal_at literals atom.key) atom.align;
+  align = option_map_or (literal_align atom) (literal_at literals atom.key) atom.align;
 }
 
 -- the atom of a winner that is a common symbol, of the greatest size and alignment of its name

@@ -89,8 +89,8 @@ fn raised(symbols: &SymbolTable, atom: Atom) -> Atom
         key: atom.key,
         size: atom.size,
         align: match symbols.literal(atom.key) {
-            Some(literal) => literal.align,
-            None => atom.align,
+            Some(literal) if literal.representative == atom.key => literal.align,
+            _ => atom.align,
         },
     }
 }
@@ -193,7 +193,7 @@ fn kept_of(
 }
 
 /// The atoms of loaded files whose keys are kept, file by file: in each as it is cut, and then those of common symbols, of
-/// the greatest size and alignment of their names. A literal has the greatest alignment of those for which it stands.
+/// the greatest size and alignment of their names. A literal that stands for others has the greatest of their alignments.
 pub fn kept_atoms(
     alloc: Global,
     loaded: &Loaded,

@@ -16,7 +16,7 @@ use Rattle.command_line.specs.declared.command.Command.{Command}
 use Rattle.input_files.proofs.EachLemmas.{all_from, all_has}
 use Rattle.input_files.specs.Files.{IsLow}
 use Rattle.lib_bind.specs.declared.library.LibraryGraph.{LibraryGraph}
-use Rattle.mark_core.specs.Kept.{has}
+use Rattle.mark_core.specs.Kept.{has, same_atom}
 use Rattle.mo_types.specs.declared.atom.Atom.{Atom}
 use Rattle.mo_types.specs.declared.key.AtomKey.{AtomKey}
 use Rattle.mo_types.specs.declared.key.FileId.{FileId}
@@ -35,7 +35,7 @@ use Rattle.mo_types.specs.Loaded.{IsBefore, IsWholeLoaded}
 use Rattle.atom_cut.specs.Laws as cut_laws
 use Rattle.atom_cut.proofs.KeyLemmas.{StandsFrom, atoms_rise, atoms_stand}
 use Rattle.atom_index.proofs.Keys.{is_equal}
-use Rattle.image_make.specs.Atoms.{AreLow, AreRising, common_at, common_of, commons_in, is_common_of, kept_as, kept_atoms, kept_in, raised}
+use Rattle.image_make.specs.Atoms.{AreLow, AreRising, common_at, common_of, commons_in, is_common_of, kept_as, kept_atoms, kept_in, literal_align, raised}
 use Rattle.image_make.specs.Made.{kept_of}
 use Rattle.image_make.specs.declared.kept.KeptAtom.{KeptAtom}
 use Rattle.image_make.proofs.CommonLemmas.{common_key, commons_are, commons_rise}
@@ -251,15 +251,22 @@ low_representative files low l h = by (filter (is_same l) (literals files)) (λ 
         folded 14 (map (λ (x : Literal). x.align) (first ∷ rest)) 0 (omega arith)
         (λ n k. let m = from_map (λ (x : Literal). x.align) (first ∷ rest) n k in subst (λ (n : ℕ). n ≤ 14) m.2 (low_literal files low m.0 (among m.0 m.1)))
 
+low_align : (atom : Atom) (r : Representative) → atom.align ≤ 14 → r.align ≤ 14 → literal_align atom r ≤ 14
+low_align atom r here other = by (same_atom r.representative atom.key)
+  where
+    by : (b : Bool) → (if b then r.align else atom.align) ≤ 14
+    by true = other
+    by false = here
+
 low_raised : (files : List LoadedFile) → All IsLow files → (atom : Atom) → atom.align ≤ 14 → (raised (representatives_of files) atom).align ≤ 14
 unfolding raised representatives_of
 low_raised files low atom here = by (find (λ r. is_eq (compare_keys r.literal atom.key)) (map (representative_of (literals files)) (literals files))) refl
   where
-    by : (o : Option Representative) → find (λ r. is_eq (compare_keys r.literal atom.key)) (map (representative_of (literals files)) (literals files)) ≡ o → option_map_or (λ r. r.align) o atom.align ≤ 14
+    by : (o : Option Representative) → find (λ r. is_eq (compare_keys r.literal atom.key)) (map (representative_of (literals files)) (literals files)) ≡ o → option_map_or (literal_align atom) o atom.align ≤ 14
     by None e = here
     by (Some r) e =
         let m = from_map (representative_of (literals files)) (literals files) r (find_some (λ (x : Representative). is_eq (compare_keys x.literal atom.key)) (map (representative_of (literals files)) (literals files)) r e).0 in
-        subst (λ (x : Representative). x.align ≤ 14) m.2 (low_representative files low m.0 m.1)
+        low_align atom r here (subst (λ (x : Representative). x.align ≤ 14) m.2 (low_representative files low m.0 m.1))
 
 -- the alignment of a common symbol, and none of another one
 low_kind : (kind : SymbolKind) → IsLowCommon kind → align_in kind ≤ 14

@@ -1,11 +1,12 @@
 -- An atom is placed with at least its own alignment.
-use Rattle.std.proofs.Common.{◌≡◌, ℕ, ◌≤◌, true, List, [], ◌∷◌, max, map, Option, Some, None, inl, inr, refl, sym, ap, ◌∙◌, arith}
+use Rattle.std.proofs.Common.{◌≡◌, ℕ, ◌≤◌, Bool, true, false, if◌then◌else◌, List, [], ◌∷◌, max, map, Option, Some, None, inl, inr, refl, sym, ap, ◌∙◌, arith}
 use Rattle.std.specs.List.{filter, fold}
 use Rattle.std.specs.Option.{option_map_or}
 use Rattle.std.specs.Ordering.{is_eq}
 use Rattle.std.proofs.lemmas.Bool.{eq-eqb}
 use Rattle.std.proofs.lemmas.Slice.Eq.{bytes_eq-Decides}
 use Rattle.list_lemmas.proofs.Members.{In, find_some, from_flat, from_map, in_filter, in_map}
+use Rattle.mark_core.specs.Kept.{same_atom}
 use Rattle.mo_types.specs.Keys.{compare_keys}
 use Rattle.mo_types.specs.declared.atom.Atom.{Atom}
 use Rattle.mo_types.specs.declared.loaded.LoadedFile.{LoadedFile}
@@ -13,7 +14,7 @@ use Rattle.literal_merge.specs.Representatives.{Literal, greatest_align, is_same
 use Rattle.literal_merge.specs.Standing.{literal_at}
 use Rattle.literal_merge.specs.declared.representative.Representative.{Representative}
 use Rattle.literal_merge.proofs.RepresentativeLemmas.{literal_of}
-use Rattle.image_make.specs.Atoms.{raised}
+use Rattle.image_make.specs.Atoms.{literal_align, raised}
 use Rattle.loader_laws.proofs.Finding.{key_found}
 
 -- ---- the greatest of some numbers
@@ -70,11 +71,19 @@ representative_key all l = by (filter (is_same l) all)
 
 -- ---- an atom
 
+-- a literal that is placed with its own alignment, or with a greater one
+literal_above : (atom : Atom) (r : Representative) → atom.align ≤ r.align → atom.align ≤ literal_align atom r
+literal_above atom r above = by (same_atom r.representative atom.key)
+  where
+    by : (b : Bool) → atom.align ≤ (if b then r.align else atom.align)
+    by true = above
+    by false = omega arith
+
 pub raised_above : (files : List LoadedFile) (atom : Atom) → ((l : Literal) → In l (literals files) → l.key ≡ atom.key → l.align ≡ atom.align) → atom.align ≤ (raised (representatives_of files) atom).align
 unfolding raised representatives_of
 raised_above files atom own = by (literal_at (map (representative_of (literals files)) (literals files)) atom.key) refl
   where
-    by : (o : Option Representative) → literal_at (map (representative_of (literals files)) (literals files)) atom.key ≡ o → atom.align ≤ option_map_or (λ r. r.align) o atom.align
+    by : (o : Option Representative) → literal_at (map (representative_of (literals files)) (literals files)) atom.key ≡ o → atom.align ≤ option_map_or (literal_align atom) o atom.align
     by None e = omega arith
     by (Some r) e =
         let found = find_some (λ (s : Representative). is_eq (compare_keys s.literal atom.key)) (map (representative_of (literals files)) (literals files)) r e in
@@ -83,4 +92,4 @@ raised_above files atom own = by (literal_at (map (representative_of (literals f
         let above = representative_above (literals files) l.0 l.1 in
         let align : (representative_of (literals files) l.0).align ≡ r.align = ap (λ (s : Representative). s.align) l.2 in
         let mine : l.0.align ≡ atom.align = own l.0 l.1 key in
-        omega (arith, above, align, mine)
+        literal_above atom r (omega (arith, above, align, mine))
