@@ -4,22 +4,17 @@ ghost use Rattle.std.specs.List.{flat_map};
 ghost use Rattle.std.specs.Cmp.Lexicographic.{pointwise};
 ghost use Rattle.fold_code.specs.inner.Shapes.{
   feed_goal,
-  feed_key,
   feed_link,
-  feed_lsda,
   feed_optional,
   feed_unwind,
-  kind_number,
   same_goal,
-  same_key,
   same_link,
-  same_lsda,
   same_optional,
   same_unwind,
 };
 
 use crate::node::{FoldGoal, FoldNode, FoldUnwind, Link};
-use mo_types::{AtomKey, Goal, RefKind};
+use mo_types::Goal;
 use std::hash::{Hash, Hasher};
 
 /// A node as a key of sets: those are the same that differ at most in the nodes to which they refer, and in their keys.
@@ -67,32 +62,6 @@ impl<'a> Hash for Shape<'a> {
     }
 }
 
-fn number(kind: RefKind) -> u8
-    ensures { result ≡ kind_number kind }
-{
-    match kind {
-        RefKind::Pointer => 0,
-        RefKind::Diff32 => 1,
-        RefKind::Diff64 => 2,
-        RefKind::Branch => 3,
-        RefKind::Page => 4,
-        RefKind::PageOff => 5,
-        RefKind::GotPage => 6,
-        RefKind::GotPageOff => 7,
-        RefKind::GotDelta => 8,
-        RefKind::GotPointer => 9,
-        RefKind::TlvPage => 10,
-        RefKind::TlvPageOff => 11,
-    }
-}
-
-fn is_same_key(a: &AtomKey, b: &AtomKey) -> bool
-    ensures { result ≡ same_key a.now b.now }
-{
-    (a.file.position == b.file.position && a.file.member == b.file.member)
-        && (a.section == b.section && a.offset == b.offset)
-}
-
 fn is_same_goal(a: &FoldGoal, b: &FoldGoal) -> bool
     ensures { result ≡ same_goal a.now b.now }
 {
@@ -115,21 +84,11 @@ fn is_same_optional(a: &Option<FoldGoal>, b: &Option<FoldGoal>) -> bool
     }
 }
 
-fn is_same_lsda(a: &Option<(AtomKey, u64)>, b: &Option<(AtomKey, u64)>) -> bool
-    ensures { result ≡ same_lsda a.now b.now }
-{
-    match (a, b) {
-        (None, None) => true,
-        (Some((a, at)), Some((b, to))) => is_same_key(a, b) && at == to,
-        (None, Some(_)) | (Some(_), None) => false,
-    }
-}
-
 fn is_same_link(a: &Link, b: &Link) -> bool
     ensures { result ≡ same_link a.now b.now }
 {
     a.place == b.place
-        && number(a.kind) == number(b.kind)
+        && a.kind == b.kind
         && a.addend == b.addend
         && is_same_goal(&a.goal, &b.goal)
         && is_same_optional(&a.minus, &b.minus)
@@ -142,7 +101,7 @@ fn is_same_unwind(a: &FoldUnwind, b: &FoldUnwind) -> bool
         && a.length == b.length
         && a.encoding == b.encoding
         && is_same_optional(&a.personality, &b.personality)
-        && is_same_lsda(&a.lsda, &b.lsda)
+        && a.lsda == b.lsda
 }
 
 fn are_same_links(a: &[Link], b: &[Link]) -> bool
@@ -173,22 +132,13 @@ fn are_same_unwinds(a: &[FoldUnwind], b: &[FoldUnwind]) -> bool
     true
 }
 
-fn hash_key<H: Hasher>(key: &AtomKey, state: &mut H)
-    ensures { state.new ≡ fold H.write state.old (feed_key key.now) }
-{
-    key.file.position.hash(state);
-    key.file.member.hash(state);
-    key.section.hash(state);
-    key.offset.hash(state);
-}
-
 fn hash_goal<H: Hasher>(goal: &FoldGoal, state: &mut H)
     ensures { state.new ≡ fold H.write state.old (feed_goal goal.now) }
 {
     match goal {
         FoldGoal::Node(_, at) => at.hash(state),
         FoldGoal::Other(Goal::Def(key, at)) => {
-            hash_key(key, state);
+            key.hash(state);
             at.hash(state);
         }
         FoldGoal::Other(goal) => goal.name().hash(state),
@@ -200,15 +150,6 @@ fn hash_optional<H: Hasher>(goal: &Option<FoldGoal>, state: &mut H)
 {
     if let Some(goal) = goal {
         hash_goal(goal, state);
-    }
-}
-
-fn hash_lsda<H: Hasher>(lsda: &Option<(AtomKey, u64)>, state: &mut H)
-    ensures { state.new ≡ fold H.write state.old (feed_lsda lsda.now) }
-{
-    if let Some((key, at)) = lsda {
-        hash_key(key, state);
-        at.hash(state);
     }
 }
 
@@ -228,7 +169,7 @@ fn hash_unwind<H: Hasher>(unwind: &FoldUnwind, state: &mut H)
     unwind.length.hash(state);
     unwind.encoding.hash(state);
     hash_optional(&unwind.personality, state);
-    hash_lsda(&unwind.lsda, state);
+    unwind.lsda.hash(state);
 }
 
 fn hash_links<H: Hasher>(links: &[Link], state: &mut H)

@@ -22,7 +22,7 @@ use Rattle.fold_code.specs.declared.node.Link.{Link}
 use Rattle.fold_code.specs.declared.node.FoldUnwind.{FoldUnwind}
 use Rattle.fold_code.specs.declared.node.FoldNode.{FoldNode}
 use Rattle.fold_code.specs.declared.shape.Shape.{Shape}
-use Rattle.fold_code.specs.inner.Shapes.{feed_goal, feed_key, feed_link, feed_lsda, feed_optional, feed_shape, feed_unwind, kind_number, same_goal, same_key, same_link, same_lsda, same_optional, same_shape, same_unwind}
+use Rattle.fold_code.specs.inner.Shapes.{feed_goal, feed_link, feed_lsda, feed_optional, feed_shape, feed_unwind, kind_number, same_goal, same_key, same_link, same_lsda, same_optional, same_shape, same_unwind}
 
 -- ---- the tests are equivalences
 
@@ -165,7 +165,7 @@ lsdas_feed (Some a) (Some b) e =
     let p = and_parts (same_key a.0 b.0) (a.1 == b.1) e in
     let k = same_keys a.0 b.0 p.0 in
     let n = eqb-true a.1 b.1 p.1 in
-    (λ i. feed_key (k i) ++ fed.u64 (n i))
+    (λ i. feed_lsda (Some (k i, n i)))
 
 links_feed : (a b : Link) → same_link a b ≡ true → feed_link a ≡ feed_link b
 links_feed a b e =

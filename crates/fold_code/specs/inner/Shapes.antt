@@ -86,8 +86,7 @@ feed_optional None = []
 feed_optional (Some goal) = feed_goal goal
 
 abbrev pub feed_lsda : Option (AtomKey × ℕ) → HashWrites
-feed_lsda None = []
-feed_lsda (Some lsda) = feed_key lsda.0 ++ fed.u64 lsda.1
+feed_lsda = fed.option (λ (lsda : AtomKey × ℕ). feed_key lsda.0 ++ fed.u64 lsda.1)
 
 abbrev pub feed_link : Link → HashWrites
 feed_link link = fed.u64 link.place ++ fed.i64 link.addend ++ feed_goal link.goal ++ feed_optional link.minus

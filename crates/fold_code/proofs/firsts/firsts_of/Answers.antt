@@ -1,5 +1,4 @@
-use Rattle.std.proofs.Common.{rules, ap, ◌∙◌, Option, ℕ}
-use Rattle.std.specs.Option.{unwrap_or}
+use Rattle.std.proofs.Common.{rules}
 use Rattle.fold_code.proofs.FirstLemmas.{so_far_ends, so_far_more, so_far_starts}
 use Rattle.fold_code.proofs.firsts.firsts_of.Goals as goal
 
@@ -8,9 +7,8 @@ loop-at-init g c = so_far_starts g.K.PartialEq.eq c.args.keys.now c.new-places.r
 
 pub loop-at-preserved : goal.loop-at-preserved
 loop-at-preserved g c =
-    so_far_more g.met.K.Eq.laws c.args.keys.now c.loop-at.places c.insert.new.self c.loop-at.firsts.items c.push.new.self.items c.loop-at.at c.unwrap_or-first.result c.index-keys-at.result c.loop-at.invariant
-    c.loop-at-test.true c.index-keys-at.is (c.unwrap_or-first.ensures ∙ ap (λ (o : Option ℕ). unwrap_or o c.loop-at.at) (c.copied.ensures ∙ c.get.ensures.value)) c.in_ok-insert.ensures.updates
-    c.in_ok-push.ensures.items
+    so_far_more g.met.K.Eq.laws c.args.keys.now c.loop-at.places _ c.loop-at.firsts.items c.push.new.self.items c.loop-at.at c.or_insert.result.now c.index-keys-at.result c.loop-at.invariant
+    c.loop-at-test.true c.index-keys-at.is (search rules) (search rules) c.in_ok-push.ensures.items
 
 pub returns : goal.returns
 returns g c = so_far_ends g.met.K.Eq.laws c.args.keys.now c.loop-at.places c.loop-at.firsts.items c.loop-at.at c.loop-at.invariant c.loop-at-test.false
