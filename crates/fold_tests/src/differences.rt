@@ -1,8 +1,7 @@
 //! Functions that differ in one thing.
-use crate::first_wrong;
-use crate::given::{function, key, stand_for};
-use fold_code::{FoldGoal, FoldNode, FoldNodes, FoldUnwind, Link};
-use mo_types::{AtomKey, Goal, OutOfMemory, RefKind};
+use crate::given::{key, stand_for};
+use fold_code::{FoldGoal, FoldNode, FoldNodes, FoldUnwind, FoldUnwinds, Link, LinkList};
+use mo_types::{AtomKey, Bytes, Goal, OutOfMemory, RefKind};
 use std::alloc::Global;
 use std::test::Fail;
 
@@ -10,203 +9,276 @@ const CODE: &[u8] = b"\0\0\0\0\0\0\0\0\xc0\x03\x5f\xd6";
 
 const OTHER: &[u8] = b"\0\0\0\0\0\0\0\0\xc0\x03\x5f\xd7";
 
-// A place in an atom that is no node.
-fn there(offset: u64) -> FoldGoal {
-    FoldGoal::Other(Goal::Def(key(9), offset))
+// Where something leads: a place in a function or in an atom that is none, by its number and the offset there, or a name.
+#[derive(Clone, Copy)]
+enum To {
+    Function(u32, u64),
+    Atom(usize, u64),
+    Library,
+    AnyImage,
 }
 
-fn link(place: u64, kind: RefKind, addend: i64, goal: FoldGoal, minus: Option<FoldGoal>) -> Link {
-    Link {
-        place,
-        kind,
-        addend,
-        goal,
-        minus,
-    }
-}
-
-// A reference that differs from others in its goals alone.
-fn to(goal: FoldGoal, minus: Option<FoldGoal>) -> Link {
-    link(0, RefKind::Diff64, 0, goal, minus)
-}
-
-fn frame(
+// A function with one reference and one unwind entry, of which these are the fields.
+#[derive(Clone, Copy)]
+struct Given {
+    bytes: &'static [u8],
+    place: u64,
+    kind: RefKind,
+    addend: i64,
+    goal: To,
+    minus: Option<To>,
     offset: u64,
     length: u32,
     encoding: u32,
-    personality: Option<FoldGoal>,
-    lsda: Option<(AtomKey, u64)>,
-) -> FoldUnwind {
-    FoldUnwind {
-        offset,
-        length,
-        encoding,
-        personality,
-        lsda,
+    personality: Option<To>,
+    // The offset in an atom.
+    lsda: Option<u64>,
+}
+
+const PLAIN: Given = Given {
+    bytes: CODE,
+    place: 0,
+    kind: RefKind::Diff64,
+    addend: 0,
+    goal: To::Atom(9, 0),
+    minus: None,
+    offset: 0,
+    length: 12,
+    encoding: 0x5400_0000,
+    personality: None,
+    lsda: None,
+};
+
+// The one field in which a function is other than the plain one.
+#[derive(Clone, Copy)]
+enum But {
+    Nothing,
+    Bytes(&'static [u8]),
+    Place(u64),
+    Kind(RefKind),
+    Addend(i64),
+    Goal(To),
+    Minus(To),
+    Offset(u64),
+    Length(u32),
+    Encoding(u32),
+    Handler(To),
+    Data(u64),
+}
+
+// Two functions, and what stands for two of other bytes before them and for them.
+type Case = (&'static str, But, But, [usize; 4]);
+
+const CASES: &[Case] = &[
+    ("the same", But::Nothing, But::Nothing, [0, 0, 2, 2]),
+    ("bytes", But::Nothing, But::Bytes(OTHER), [0, 0, 2, 0]),
+    ("place", But::Nothing, But::Place(4), [0, 0, 2, 3]),
+    (
+        "kind",
+        But::Kind(RefKind::Page),
+        But::Kind(RefKind::PageOff),
+        [0, 0, 2, 3],
+    ),
+    ("addend", But::Nothing, But::Addend(-4), [0, 0, 2, 3]),
+    (
+        "atom",
+        But::Nothing,
+        But::Goal(To::Atom(8, 0)),
+        [0, 0, 2, 3],
+    ),
+    (
+        "offset in an atom",
+        But::Nothing,
+        But::Goal(To::Atom(9, 4)),
+        [0, 0, 2, 3],
+    ),
+    (
+        "a library or any image",
+        But::Goal(To::Library),
+        But::Goal(To::AnyImage),
+        [0, 0, 2, 3],
+    ),
+    (
+        "functions of one class",
+        But::Goal(To::Function(0, 4)),
+        But::Goal(To::Function(1, 4)),
+        [0, 0, 2, 2],
+    ),
+    (
+        "offset in a function",
+        But::Goal(To::Function(0, 4)),
+        But::Goal(To::Function(1, 0)),
+        [0, 0, 2, 3],
+    ),
+    (
+        "a function or none",
+        But::Goal(To::Function(0, 4)),
+        But::Goal(To::Atom(9, 4)),
+        [0, 0, 2, 3],
+    ),
+    (
+        "nothing is subtracted",
+        But::Nothing,
+        But::Minus(To::Atom(9, 0)),
+        [0, 0, 2, 3],
+    ),
+    (
+        "one class is subtracted",
+        But::Minus(To::Function(0, 4)),
+        But::Minus(To::Function(1, 4)),
+        [0, 0, 2, 2],
+    ),
+    (
+        "two classes are subtracted",
+        But::Minus(To::Function(0, 4)),
+        But::Minus(To::Function(2, 4)),
+        [0, 0, 2, 3],
+    ),
+    (
+        "offset of the entry",
+        But::Nothing,
+        But::Offset(4),
+        [0, 0, 2, 3],
+    ),
+    ("length", But::Nothing, But::Length(8), [0, 0, 2, 3]),
+    (
+        "encoding",
+        But::Nothing,
+        But::Encoding(0x5400_0001),
+        [0, 0, 2, 3],
+    ),
+    (
+        "no handler",
+        But::Nothing,
+        But::Handler(To::Atom(9, 0)),
+        [0, 0, 2, 3],
+    ),
+    (
+        "handlers of one class",
+        But::Handler(To::Function(0, 0)),
+        But::Handler(To::Function(1, 0)),
+        [0, 0, 2, 2],
+    ),
+    (
+        "handlers of two classes",
+        But::Handler(To::Function(0, 0)),
+        But::Handler(To::Function(2, 0)),
+        [0, 0, 2, 3],
+    ),
+    ("no data", But::Nothing, But::Data(4), [0, 0, 2, 3]),
+    (
+        "offset in the data",
+        But::Data(4),
+        But::Data(8),
+        [0, 0, 2, 3],
+    ),
+];
+
+fn fields_of(but: But) -> Given {
+    let mut fields = PLAIN;
+    match but {
+        But::Nothing => {}
+        But::Bytes(bytes) => fields.bytes = bytes,
+        But::Place(place) => fields.place = place,
+        But::Kind(kind) => fields.kind = kind,
+        But::Addend(addend) => fields.addend = addend,
+        But::Goal(goal) => fields.goal = goal,
+        But::Minus(minus) => fields.minus = Some(minus),
+        But::Offset(offset) => fields.offset = offset,
+        But::Length(length) => fields.length = length,
+        But::Encoding(encoding) => fields.encoding = encoding,
+        But::Handler(handler) => fields.personality = Some(handler),
+        But::Data(offset) => fields.lsda = Some(offset),
+    }
+    fields
+}
+
+fn goal_of(to: To) -> FoldGoal {
+    match to {
+        To::Function(number, offset) => FoldGoal::Node(number, offset),
+        To::Atom(number, offset) => FoldGoal::Other(Goal::Def(key(number), offset)),
+        To::Library => FoldGoal::Other(Goal::Import {
+            name: Bytes::from_static(b"_puts"),
+            ordinal: 1,
+            by_weak: false,
+            optional: false,
+        }),
+        To::AnyImage => FoldGoal::Other(Goal::Flat(Bytes::from_static(b"_puts"))),
     }
 }
 
-// A frame that differs from others in its handler alone.
-fn handled(personality: Option<FoldGoal>) -> FoldUnwind {
-    frame(0, 12, 0x5400_0000, personality, None)
+fn goal_if(to: Option<To>) -> Option<FoldGoal> {
+    match to {
+        Some(to) => Some(goal_of(to)),
+        None => None,
+    }
 }
 
-// Two equal functions, and two behind them: whether these two are one.
-fn become_one(alloc: Global, third: FoldNode, fourth: FoldNode) -> Result<bool, OutOfMemory> {
+fn data_if(offset: Option<u64>) -> Option<(AtomKey, u64)> {
+    match offset {
+        Some(offset) => Some((key(8), offset)),
+        None => None,
+    }
+}
+
+fn links_of(alloc: Global, given: &Given) -> Result<LinkList, OutOfMemory> {
+    let mut links = LinkList::new(alloc);
+    links.push(Link {
+        place: given.place,
+        kind: given.kind,
+        addend: given.addend,
+        goal: goal_of(given.goal),
+        minus: goal_if(given.minus),
+    })?;
+    Ok(links)
+}
+
+fn unwinds_of(alloc: Global, given: &Given) -> Result<FoldUnwinds, OutOfMemory> {
+    let mut unwinds = FoldUnwinds::new(alloc);
+    unwinds.push(FoldUnwind {
+        offset: given.offset,
+        length: given.length,
+        encoding: given.encoding,
+        personality: goal_if(given.personality),
+        lsda: data_if(given.lsda),
+    })?;
+    Ok(unwinds)
+}
+
+fn function(alloc: Global, number: usize, but: But) -> Result<FoldNode, OutOfMemory> {
+    let given = fields_of(but);
+    let links = links_of(alloc, &given)?;
+    let unwinds = unwinds_of(alloc, &given)?;
+    Ok(FoldNode {
+        key: key(number),
+        bytes: Bytes::from_static(given.bytes),
+        links,
+        unwinds,
+    })
+}
+
+fn holds(alloc: Global, case: &Case) -> Result<bool, OutOfMemory> {
+    let (_, third, fourth, firsts) = case;
+    let front = But::Bytes(OTHER);
     let mut nodes = FoldNodes::new(alloc);
-    nodes.push(function(alloc, 0, OTHER))?;
-    nodes.push(function(alloc, 1, OTHER))?;
-    nodes.push(third)?;
-    nodes.push(fourth)?;
-    stand_for(alloc, &nodes, &[0, 0, 2, 2])
+    for (number, but) in [front, front, *third, *fourth].iter().enumerate() {
+        nodes.push(function(alloc, number, *but)?)?;
+    }
+    stand_for(alloc, &nodes, firsts)
 }
 
-fn links_are_one(alloc: Global, a: Link, b: Link) -> Result<bool, OutOfMemory> {
-    let mut third = function(alloc, 2, CODE);
-    third.links.push(a)?;
-    let mut fourth = function(alloc, 3, CODE);
-    fourth.links.push(b)?;
-    become_one(alloc, third, fourth)
-}
-
-fn frames_are_one(alloc: Global, a: FoldUnwind, b: FoldUnwind) -> Result<bool, OutOfMemory> {
-    let mut third = function(alloc, 2, CODE);
-    third.unwinds.push(a)?;
-    let mut fourth = function(alloc, 3, CODE);
-    fourth.unwinds.push(b)?;
-    become_one(alloc, third, fourth)
+// The name of the first case that doesn't hold, or nothing.
+fn first_wrong(alloc: Global, cases: &[Case]) -> &'static str {
+    for case in cases {
+        match holds(alloc, case) {
+            Ok(true) => {}
+            _ => return case.0,
+        }
+    }
+    ""
 }
 
 #[test]
-fn references_that_differ(rt: HostRuntime) -> Result<(), Fail> {
-    let alloc = rt.alloc();
-    let rows = [
-        (
-            "the same",
-            links_are_one(alloc, to(there(0), None), to(there(0), None))?,
-        ),
-        (
-            "place",
-            !links_are_one(
-                alloc,
-                link(0, RefKind::Branch, 0, there(0), None),
-                link(4, RefKind::Branch, 0, there(0), None),
-            )?,
-        ),
-        (
-            "kind",
-            !links_are_one(
-                alloc,
-                link(0, RefKind::Page, 0, there(0), None),
-                link(0, RefKind::PageOff, 0, there(0), None),
-            )?,
-        ),
-        (
-            "addend",
-            !links_are_one(
-                alloc,
-                link(0, RefKind::Page, 0, there(0), None),
-                link(0, RefKind::Page, -4, there(0), None),
-            )?,
-        ),
-        (
-            "offset in an atom",
-            !links_are_one(alloc, to(there(0), None), to(there(4), None))?,
-        ),
-        (
-            "nodes of one class",
-            links_are_one(
-                alloc,
-                to(FoldGoal::Node(0, 4), None),
-                to(FoldGoal::Node(1, 4), None),
-            )?,
-        ),
-        (
-            "offset in a node",
-            !links_are_one(
-                alloc,
-                to(FoldGoal::Node(0, 4), None),
-                to(FoldGoal::Node(1, 0), None),
-            )?,
-        ),
-        (
-            "a node or none",
-            !links_are_one(alloc, to(FoldGoal::Node(0, 4), None), to(there(4), None))?,
-        ),
-        (
-            "nothing is subtracted",
-            !links_are_one(alloc, to(there(0), Some(there(0))), to(there(0), None))?,
-        ),
-        (
-            "one class is subtracted",
-            links_are_one(
-                alloc,
-                to(there(0), Some(FoldGoal::Node(0, 4))),
-                to(there(0), Some(FoldGoal::Node(1, 4))),
-            )?,
-        ),
-        (
-            "two classes are subtracted",
-            !links_are_one(
-                alloc,
-                to(there(0), Some(FoldGoal::Node(0, 4))),
-                to(there(0), Some(FoldGoal::Node(2, 4))),
-            )?,
-        ),
-    ];
-    assert_eq!(&rt; first_wrong(&rows), "");
-    Ok(())
-}
-
-#[test]
-fn frames_that_differ(rt: HostRuntime) -> Result<(), Fail> {
-    let alloc = rt.alloc();
-    let rows = [
-        (
-            "the same",
-            frames_are_one(alloc, handled(None), handled(None))?,
-        ),
-        (
-            "offset",
-            !frames_are_one(alloc, handled(None), frame(4, 12, 0x5400_0000, None, None))?,
-        ),
-        (
-            "length",
-            !frames_are_one(alloc, handled(None), frame(0, 8, 0x5400_0000, None, None))?,
-        ),
-        (
-            "encoding",
-            !frames_are_one(alloc, handled(None), frame(0, 12, 0x5400_0001, None, None))?,
-        ),
-        (
-            "data",
-            !frames_are_one(
-                alloc,
-                frame(0, 12, 0x5400_0000, None, Some((key(8), 4))),
-                frame(0, 12, 0x5400_0000, None, Some((key(8), 8))),
-            )?,
-        ),
-        (
-            "no handler",
-            !frames_are_one(alloc, handled(Some(there(0))), handled(None))?,
-        ),
-        (
-            "handlers of one class",
-            frames_are_one(
-                alloc,
-                handled(Some(FoldGoal::Node(0, 0))),
-                handled(Some(FoldGoal::Node(1, 0))),
-            )?,
-        ),
-        (
-            "handlers of two classes",
-            !frames_are_one(
-                alloc,
-                handled(Some(FoldGoal::Node(0, 0))),
-                handled(Some(FoldGoal::Node(2, 0))),
-            )?,
-        ),
-    ];
-    assert_eq!(&rt; first_wrong(&rows), "");
-    Ok(())
+fn functions_that_differ(rt: HostRuntime) {
+    assert_eq!(rt; first_wrong(rt.alloc(), CASES), "");
 }

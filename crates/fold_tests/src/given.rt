@@ -1,45 +1,24 @@
-//! Functions that are put together, and what stands for them.
+//! What stands for functions.
 ghost use Rattle.std.specs.Prelude.{◌≡◌, All, true};
 ghost use Rattle.std.specs.List.Sorted.{IsStrictlySortedBy};
 ghost use Rattle.std.specs.Ordering.{on};
 ghost use Rattle.mo_types.specs.Keys.{compare_keys};
 ghost use Rattle.fold_code.specs.Fold as spec;
 
-use fold_code::{FoldGoal, FoldNode, FoldNodes, FoldUnwinds, Link, LinkList, fold};
-use mo_types::{AtomKey, Bytes, FileId, OutOfMemory, RefKind};
+use fold_code::{FoldGoal, FoldNode, FoldNodes, Link, fold};
+use mo_types::{AtomKey, FileId, OutOfMemory};
 use std::alloc::Global;
 use std::cmp::Ordering;
 
 /// The key of a function, by its number.
-pub(crate) fn key(number: u32) -> AtomKey {
+pub(crate) fn key(number: usize) -> AtomKey {
     AtomKey {
         file: FileId {
             position: 0,
             member: 0,
         },
         section: 1,
-        offset: u64::from(number),
-    }
-}
-
-/// A branch.
-pub(crate) fn branch(place: u64, goal: FoldGoal) -> Link {
-    Link {
-        place,
-        kind: RefKind::Branch,
-        addend: 0,
-        goal,
-        minus: None,
-    }
-}
-
-/// A function of some bytes.
-pub(crate) fn function(alloc: Global, number: u32, bytes: &'static [u8]) -> FoldNode {
-    FoldNode {
-        key: key(number),
-        bytes: Bytes::from_static(bytes),
-        links: LinkList::new(alloc),
-        unwinds: FoldUnwinds::new(alloc),
+        offset: number as u64,
     }
 }
 
