@@ -2,8 +2,8 @@
 use Rattle.std.proofs.Common.{◌≡◌, ℕ, zero, suc, ◌+◌, ◌<◌, ◌&&◌, ◌⊎◌, Bool, true, false, List, [], ◌∷◌, ◌++◌, map, Option, Some, None, inl, inr, refl, sym, ap, ◌∙◌, subst, arith, if◌then◌else◌}
 use Rattle.std.specs.Prelude.{slice_get}
 use Rattle.std.specs.Cmp.Lexicographic.{slice_cmp}
-use Rattle.std.specs.List.{AllByRecursion, enumerate_from, find, flat_map}
-use Rattle.std.specs.Option.{option_map}
+use Rattle.std.specs.List.{AllByRecursion, enumerate_from, filter_map, find, flat_map}
+use Rattle.std.specs.Option.{option_and_then, option_map}
 use Rattle.std.specs.Ordering.{is_eq, is_lt, nat_cmp, ordering_reverse}
 use Rattle.std.specs.Str.{bytes_eq}
 use Rattle.std.specs.declared.cmp.Ordering.{Ordering}
@@ -17,9 +17,9 @@ use Rattle.command_line.specs.declared.command.Command.{Command}
 use Rattle.lib_bind.specs.Provides.{provider_of}
 use Rattle.lib_bind.specs.declared.library.LibraryGraph.{LibraryGraph}
 use Rattle.lib_bind.specs.declared.provider.Provider.{Provider}
-use Rattle.list_lemmas.proofs.Members.{Contains_from_in, In, all_in, find_none, find_some, from_filter, from_filter_map, from_flat, from_map, in_either, in_filter, in_filter_map, in_flat, in_from_Contains, in_map, in_right}
+use Rattle.list_lemmas.proofs.Members.{Contains_from_in, In, all_in, find_none, find_some, from_filter, from_filter_map, from_flat, from_map, in_either, in_filter, in_filter_map, in_flat, in_from_Contains, in_left, in_map, in_right}
 use Rattle.literal_merge.specs.Representatives.{representatives_of}
-use Rattle.liveness.specs.Undefined.{IsFirstLeast, is_nobody, kept_refs, least, lost, lost_at, lost_in, lost_name, lost_names, name_if, targets_of, undefined}
+use Rattle.liveness.specs.Undefined.{IsFirstLeast, is_nobody, kept_refs, kept_unwinds, least, lost, lost_at, lost_in, lost_name, lost_names, lost_personality, name_if, targets_of, undefined}
 use Rattle.liveness.specs.Undefined as undefined_names
 use Rattle.liveness.proofs.LeastLemmas.{least_none, least_some}
 use Rattle.mark_core.specs.Kept.{has}
@@ -31,6 +31,7 @@ use Rattle.mo_types.specs.declared.object.Symbol.{Symbol}
 use Rattle.mo_types.specs.declared.reference.Ref.{Ref}
 use Rattle.mo_types.specs.declared.reference.Target.{Target}
 use Rattle.mo_types.specs.declared.reference.Target.TheVariants.{Name, Local}
+use Rattle.mo_types.specs.declared.unwind.Unwind.{Unwind}
 use Rattle.resolve.specs.Goals.{goal_of_name, goal_of_symbol, goal_table, goals_of_symbols, is_flat, is_header_symbol, local_goal, name_goal, winner_goal}
 use Rattle.symbol_winners.specs.Places.{place_of}
 use Rattle.symbol_winners.specs.SymbolTable.{is_weak}
@@ -39,8 +40,9 @@ use Rattle.symbol_winners.specs.declared.places.Place.{Place}
 use Rattle.symbol_winners.specs.declared.winner.Winner.{Winner}
 use Rattle.link_files.specs.Causes.{IsMissed, IsMissedIn}
 use Rattle.link_files.specs.Lost.{is_lost, lost_wanted}
-use Rattle.link_files.specs.Missing.{HoldsOfNone, IsFirstFile, IsWantedInVain, LeadsNowhere, Misses, StandsForNothing}
+use Rattle.link_files.specs.Missing.{HasPersonality, HasReference, HoldsOfNone, IsFirstFile, IsWantedInVain, LeadsNowhere, Misses, StandsForNothing}
 use Rattle.link_files.specs.Names.{wanted}
+use Rattle.link_files.proofs.Lists.{from_then}
 
 some_is : {X : Type 0} (x y : X) → Some x ≡ Some y → x ≡ y
 some_is x y e = cc
@@ -181,56 +183,95 @@ nothing_nobody command libs files file index symbol (inr (own, none)) = rw (own,
 abbrev Named : List ℕ → List ℕ × List ℕ → Bool
 Named name q = bytes_eq name q.0
 
-misses_from : (command : Command) (libs : LibraryGraph) (files : List LoadedFile) (keys : List AtomKey) (file : LoadedFile) (q : List ℕ × List ℕ) → In q (lost_in keys file (goals_of_symbols files libs command file)) → (q.1 ≡ file.label) × Misses command libs files keys q.0 file
-unfolding lost_in lost_names kept_refs
-misses_from command libs files keys file q h =
-    let goals : List Goal = goals_of_symbols files libs command file in
-    let of_name = from_map (λ (name : List ℕ). let p : List ℕ × List ℕ = (name, file.label) in p) (flat_map (lost_names file.object.symbols goals) (kept_refs keys file)) q h in
-    let of_ref = from_flat (lost_names file.object.symbols goals) (kept_refs keys file) of_name.0 of_name.1 in
-    let kept = from_filter (λ (r : Ref). has keys r.atom) file.refs of_ref.0 of_ref.1 in
-    let of_target = from_filter_map (lost_name file.object.symbols goals) (targets_of of_ref.0.target of_ref.0.minus) of_name.0 of_ref.2 in
-    let same : of_name.0 ≡ q.0 = ap (λ (p : List ℕ × List ℕ). p.0) of_name.2 in
-    (ap (λ (p : List ℕ × List ℕ). p.1) (sym of_name.2), subst (λ (name : List ℕ). Misses command libs files keys name file) same (by of_ref.0 kept.0 kept.1 of_name.0 of_target.0 of_target.1 of_target.2))
+-- what a kept atom refers to and has a lost name is missed
+misses_by : (command : Command) (libs : LibraryGraph) (files : List LoadedFile) (keys : List AtomKey) (file : LoadedFile) (name : List ℕ) (target : Target) → HasReference keys file target ⊎ HasPersonality keys file target → lost_name file.object.symbols (goals_of_symbols files libs command file) target ≡ Some name → Misses command libs files keys name file
+misses_by command libs files keys file name (Local atom offset) refers e = no_some name e
+misses_by command libs files keys file name (Name index) refers e = goal (slice_get (goals_of_symbols files libs command file) index) refl
   where
-    by : (r : Ref) → In r file.refs → has keys r.atom ≡ true → (name : List ℕ) (target : Target) → In target (targets_of r.target r.minus) → lost_name file.object.symbols (goals_of_symbols files libs command file) target ≡ Some name → Misses command libs files keys name file
-    by r among kept name (Local atom offset) of e = no_some name e
-    by r among kept name (Name index) of e = goal (slice_get (goals_of_symbols files libs command file) index) refl
+    goal : (o : Option Goal) → slice_get (goals_of_symbols files libs command file) index ≡ o → Misses command libs files keys name file
+    goal None f = no_some name (rw f at e)
+    goal (Some g) f = tested (is_nobody g) refl
       where
-        goal : (o : Option Goal) → slice_get (goals_of_symbols files libs command file) index ≡ o → Misses command libs files keys name file
-        goal None f = no_some name (rw f at e)
-        goal (Some g) f = tested (is_nobody g) refl
-          where
-            is : IsGoalOf files libs command file index g
-            is = goal_of_file files libs command file index g f
+        is : IsGoalOf files libs command file index g
+        is = goal_of_file files libs command file index g f
 
-            here : name_if g (slice_get file.object.symbols index) ≡ Some name
-            here = rw f at e
+        here : name_if g (slice_get file.object.symbols index) ≡ Some name
+        here = rw f at e
 
-            tested : (b : Bool) → is_nobody g ≡ b → Misses command libs files keys name file
-            tested false t = no_some name (rw t at here)
-            tested true t =
-                let named : option_map (λ (s : Symbol). s.name) (slice_get file.object.symbols index) ≡ Some name = rw t at here in
-                let called : is.symbol.name ≡ name = some_is is.symbol.name name (rw is.of_file at named) in
-                record {
-                  index = index;
-                  symbol = is.symbol;
-                  refers = record { reference = r; among = Contains_from_in file.refs r among; kept = kept; refers = Contains_from_in (targets_of r.target r.minus) (Name index) of; of_file = is.of_file };
-                  named = called;
-                  nothing = for_nothing command libs files file index is.symbol (ap is_nobody is.is ∙ t);
-                }
+        tested : (b : Bool) → is_nobody g ≡ b → Misses command libs files keys name file
+        tested false t = no_some name (rw t at here)
+        tested true t =
+            let named : option_map (λ (s : Symbol). s.name) (slice_get file.object.symbols index) ≡ Some name = rw t at here in
+            let called : is.symbol.name ≡ name = some_is is.symbol.name name (rw is.of_file at named) in
+            record {
+              index = index;
+              symbol = is.symbol;
+              refers = record { refers = refers; of_file = is.of_file };
+              named = called;
+              nothing = for_nothing command libs files file index is.symbol (ap is_nobody is.is ∙ t);
+            }
+
+misses_from : (command : Command) (libs : LibraryGraph) (files : List LoadedFile) (keys : List AtomKey) (file : LoadedFile) (q : List ℕ × List ℕ) → In q (lost_in keys file (goals_of_symbols files libs command file)) → (q.1 ≡ file.label) × Misses command libs files keys q.0 file
+unfolding lost_in lost_names lost_personality kept_refs kept_unwinds
+misses_from command libs files keys file q h =
+    let of_name = from_map (λ (name : List ℕ). let p : List ℕ × List ℕ = (name, file.label) in p) (by_refs ++ by_unwinds) q h in
+    let same : of_name.0 ≡ q.0 = ap (λ (p : List ℕ × List ℕ). p.0) of_name.2 in
+    (ap (λ (p : List ℕ × List ℕ). p.1) (sym of_name.2), subst (λ (name : List ℕ). Misses command libs files keys name file) same (by of_name.0 (in_either by_refs by_unwinds of_name.0 of_name.1)))
+  where
+    goals : List Goal
+    goals = goals_of_symbols files libs command file
+
+    by_refs : List (List ℕ)
+    by_refs = flat_map (lost_names file.object.symbols goals) (kept_refs keys file)
+
+    by_unwinds : List (List ℕ)
+    by_unwinds = filter_map (lost_personality file.object.symbols goals) (kept_unwinds keys file)
+
+    by : (name : List ℕ) → In name by_refs ⊎ In name by_unwinds → Misses command libs files keys name file
+    by name (inl here) =
+        let of_ref = from_flat (lost_names file.object.symbols goals) (kept_refs keys file) name here in
+        let kept = from_filter (λ (r : Ref). has keys r.atom) file.refs of_ref.0 of_ref.1 in
+        let of_target = from_filter_map (lost_name file.object.symbols goals) (targets_of of_ref.0.target of_ref.0.minus) name of_ref.2 in
+        let refers : HasReference keys file of_target.0 = record { reference = of_ref.0; among = Contains_from_in file.refs of_ref.0 kept.0; kept = kept.1; refers = Contains_from_in (targets_of of_ref.0.target of_ref.0.minus) of_target.0 of_target.1 } in
+        misses_by command libs files keys file name of_target.0 (inl refers) of_target.2
+    by name (inr here) =
+        let of_entry = from_filter_map (lost_personality file.object.symbols goals) (kept_unwinds keys file) name here in
+        let kept = from_filter (λ (u : Unwind). has keys u.atom) file.unwinds of_entry.0 of_entry.1 in
+        let of_target = from_then (lost_name file.object.symbols goals) of_entry.0.personality name of_entry.2 in
+        let handles : HasPersonality keys file of_target.0 = record { entry = of_entry.0; among = Contains_from_in file.unwinds of_entry.0 kept.0; kept = kept.1; handles = of_target.1 } in
+        misses_by command libs files keys file name of_target.0 (inr handles) of_target.2
 
 misses_in : (command : Command) (libs : LibraryGraph) (files : List LoadedFile) (keys : List AtomKey) (name : List ℕ) (file : LoadedFile) → Misses command libs files keys name file → In (name, file.label) (lost_in keys file (goals_of_symbols files libs command file))
-unfolding lost_in lost_names kept_refs
+unfolding lost_in lost_names lost_personality kept_refs kept_unwinds
 misses_in command libs files keys name file is =
-    let goals : List Goal = goals_of_symbols files libs command file in
-    let r : Ref = is.refers.reference in
-    let stands = goal_stands files libs command file is.index is.symbol is.refers.of_file in
-    let none = nothing_nobody command libs files file is.index is.symbol is.nothing in
-    let told : lost_name file.object.symbols goals (Name is.index) ≡ Some name = rw (stands, none, is.refers.of_file) (ap Some is.named) in
-    let target = in_from_Contains (targets_of r.target r.minus) (Name is.index) is.refers.refers in
-    let there : In name (lost_names file.object.symbols goals r) = in_filter_map (lost_name file.object.symbols goals) (targets_of r.target r.minus) (Name is.index) name target told in
-    let kept : In r (kept_refs keys file) = in_filter (λ (x : Ref). has keys x.atom) file.refs r (in_from_Contains file.refs r is.refers.among) is.refers.kept in
-    in_map (λ (n : List ℕ). let p : List ℕ × List ℕ = (n, file.label) in p) (flat_map (lost_names file.object.symbols goals) (kept_refs keys file)) name (in_flat (lost_names file.object.symbols goals) (kept_refs keys file) r name kept there)
+    in_map (λ (n : List ℕ). let p : List ℕ × List ℕ = (n, file.label) in p) (by_refs ++ by_unwinds) name (by is.refers.refers)
+  where
+    goals : List Goal
+    goals = goals_of_symbols files libs command file
+
+    by_refs : List (List ℕ)
+    by_refs = flat_map (lost_names file.object.symbols goals) (kept_refs keys file)
+
+    by_unwinds : List (List ℕ)
+    by_unwinds = filter_map (lost_personality file.object.symbols goals) (kept_unwinds keys file)
+
+    told : lost_name file.object.symbols goals (Name is.index) ≡ Some name
+    told =
+        let stands = goal_stands files libs command file is.index is.symbol is.refers.of_file in
+        let none = nothing_nobody command libs files file is.index is.symbol is.nothing in
+        rw (stands, none, is.refers.of_file) (ap Some is.named)
+
+    by : HasReference keys file (Name is.index) ⊎ HasPersonality keys file (Name is.index) → In name (by_refs ++ by_unwinds)
+    by (inl refers) =
+        let r : Ref = refers.reference in
+        let target = in_from_Contains (targets_of r.target r.minus) (Name is.index) refers.refers in
+        let there : In name (lost_names file.object.symbols goals r) = in_filter_map (lost_name file.object.symbols goals) (targets_of r.target r.minus) (Name is.index) name target told in
+        let kept : In r (kept_refs keys file) = in_filter (λ (x : Ref). has keys x.atom) file.refs r (in_from_Contains file.refs r refers.among) refers.kept in
+        in_left by_refs by_unwinds name (in_flat (lost_names file.object.symbols goals) (kept_refs keys file) r name kept there)
+    by (inr handles) =
+        let there : lost_personality file.object.symbols goals handles.entry ≡ Some name = ap (option_and_then (lost_name file.object.symbols goals)) handles.handles ∙ told in
+        let kept : In handles.entry (kept_unwinds keys file) = in_filter (λ (u : Unwind). has keys u.atom) file.unwinds handles.entry (in_from_Contains file.unwinds handles.entry handles.among) handles.kept in
+        in_right by_refs by_unwinds name (in_filter_map (lost_personality file.object.symbols goals) (kept_unwinds keys file) handles.entry name kept there)
 
 -- what is found of a name among the lost ones of a file
 abbrev label_at : List AtomKey → List (List Goal) → List ℕ → ℕ × LoadedFile → Option (List ℕ)

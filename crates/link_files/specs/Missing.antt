@@ -9,18 +9,31 @@ use Rattle.mo_types.specs.declared.key.AtomKey.{AtomKey}
 use Rattle.mo_types.specs.declared.loaded.LoadedFile.{LoadedFile}
 use Rattle.mo_types.specs.declared.object.Symbol.{Symbol}
 use Rattle.mo_types.specs.declared.reference.Ref.{Ref}
+use Rattle.mo_types.specs.declared.reference.Target.{Target}
 use Rattle.mo_types.specs.declared.reference.Target.TheVariants.{Name}
+use Rattle.mo_types.specs.declared.unwind.Unwind.{Unwind}
 use Rattle.resolve.specs.Goals.{is_flat, is_header_symbol}
 use Rattle.symbol_winners.specs.Places.{place_of}
 use Rattle.symbol_winners.specs.Winners.{winner_of}
 use Rattle.link_files.specs.Names.{wanted}
 
--- A kept atom of a file refers to the symbol of an index: as the target of a reference, or as what is subtracted from it.
-pub record RefersTo (keys : List AtomKey) (file : LoadedFile) (index : ℕ) (symbol : Symbol) : Type 0 where
+-- a kept atom of a file has a reference to a target, or one from which it is subtracted
+pub record HasReference (keys : List AtomKey) (file : LoadedFile) (target : Target) : Type 0 where
   pub reference : Ref
   pub among : Contains file.refs reference
   pub kept : has keys reference.atom ≡ true
-  pub refers : Contains (targets_of reference.target reference.minus) (Name index)
+  pub refers : Contains (targets_of reference.target reference.minus) target
+
+-- a kept atom of a file has an unwind entry whose personality is a target (`mach-o/compact_unwind_encoding.h`)
+pub record HasPersonality (keys : List AtomKey) (file : LoadedFile) (target : Target) : Type 0 where
+  pub entry : Unwind
+  pub among : Contains file.unwinds entry
+  pub kept : has keys entry.atom ≡ true
+  pub handles : entry.personality ≡ Some target
+
+-- a kept atom of a file refers to the symbol of an index: by a reference, or by an unwind entry
+pub record RefersTo (keys : List AtomKey) (file : LoadedFile) (index : ℕ) (symbol : Symbol) : Type 0 where
+  pub refers : HasReference keys file (Name index) ⊎ HasPersonality keys file (Name index)
   pub of_file : slice_get file.object.symbols index ≡ Some symbol
 
 -- ---- names that lead nowhere

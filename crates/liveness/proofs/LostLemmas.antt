@@ -1,12 +1,12 @@
--- The least of the names that lead nowhere, reference by reference.
-use Rattle.std.proofs.Common.{◌≡◌, ℕ, ◌+◌, ◌<◌, ◌≤◌, Bool, true, false, List, [], ◌∷◌, ◌++◌, length, take, get_or, refl, sym, ap, ◌∙◌, inl, inr, arith, Option, Some, None, if◌then◌else◌}
+-- The least of the names that lead nowhere, reference by reference and unwind entry by unwind entry.
+use Rattle.std.proofs.Common.{◌≡◌, ℕ, ◌+◌, ◌<◌, ◌≤◌, Bool, true, false, List, [], ◌∷◌, ◌++◌, length, take, get_or, refl, sym, ap, ◌∙◌, inl, inr, subst, arith, Option, Some, None, if◌then◌else◌}
 use Rattle.std.specs.Prelude.{filter, fold, slice_get}
 use Rattle.std.specs.List.{enumerate_from, filter_map, flat_map, list_any}
 use Rattle.std.specs.Option.{option_and_then, option_map_or}
 use Rattle.std.proofs.lemmas.Bool.{cases_Bool, false≢true}
 use Rattle.std.proofs.lemmas.Grind.{flat_map-append}
 use Rattle.std.proofs.lemmas.List.{append-nil, map-append, take_all, take_more}
-use Rattle.std.proofs.lemmas.List.Elements.{filter-append}
+use Rattle.std.proofs.lemmas.List.Elements.{filter-append, filter_map-append}
 use Rattle.std.proofs.lemmas.List.FromFn.{get_or-enumerate_from, length-enumerate_from}
 use Rattle.std.proofs.lemmas.List.Sums.{fold-append}
 use Rattle.std.proofs.lemmas.Option.{get_or_from_slice_get, slice_get-get_or, slice_get_within}
@@ -17,8 +17,9 @@ use Rattle.mo_types.specs.declared.loaded.LoadedFile.{LoadedFile}
 use Rattle.mo_types.specs.declared.reference.Ref.{Ref}
 use Rattle.mo_types.specs.declared.reference.Target.{Target}
 use Rattle.mo_types.specs.declared.reference.Target.TheVariants.{Local, Name}
+use Rattle.mo_types.specs.declared.unwind.Unwind.{Unwind}
 use Rattle.mark_core.specs.Kept.{has}
-use Rattle.liveness.specs.Undefined.{is_nobody, kept_refs, least, lesser, lost, lost_at, lost_in, lost_name, lost_names, name_if, targets_of, undefined, wanted}
+use Rattle.liveness.specs.Undefined.{is_nobody, kept_refs, kept_unwinds, least, lesser, lost, lost_at, lost_in, lost_name, lost_names, lost_personality, name_if, targets_of, undefined, wanted}
 use Rattle.liveness.specs.inner.Lost.{labelled, pairs_of}
 
 -- ---- one reference
@@ -110,12 +111,80 @@ noted_never keys file goals init found at key kept low none = never (some_ref fi
     never : Ref → IsNoted keys file goals init (at + 1) found key kept
     never d = clash (get_or file.refs at d) (sym (slice_get-get_or file.refs at d low) ∙ none)
 
-pub noted_end : (keys : List AtomKey) (file : LoadedFile) (goals : List Goal) (init found : Option (List ℕ × List ℕ)) (at : ℕ) (key : AtomKey) (kept : Bool) → IsNoted keys file goals init at found key kept → length file.refs ≤ at → found ≡ fold lesser init (lost_in keys file goals)
-unfolding lost_in kept_refs
+pub noted_end : (keys : List AtomKey) (file : LoadedFile) (goals : List Goal) (init found : Option (List ℕ × List ℕ)) (at : ℕ) (key : AtomKey) (kept : Bool) → IsNoted keys file goals init at found key kept → length file.refs ≤ at → found ≡ fold lesser init (labelled file (flat_map (lost_names file.object.symbols goals) (kept_refs keys file)))
+unfolding kept_refs
 noted_end keys file goals init found at key kept noted past =
     noted.is ∙ ap (λ rs. fold lesser init (labelled file (flat_map (lost_names file.object.symbols goals) (filter (λ r. has keys r.atom) rs)))) (take_all at file.refs past)
 
-pub ruleset of_file = (noted_start, noted_end)
+pub ruleset of_refs = (noted_start, noted_end)
+
+-- ---- the unwind entries of a file
+
+-- what the first unwind entries of a file give
+abbrev pub personalities_to : List AtomKey → LoadedFile → List Goal → ℕ → List (List ℕ × List ℕ)
+personalities_to keys file goals at = labelled file (filter_map (lost_personality file.object.symbols goals) (filter (λ unwind. has keys unwind.atom) (take at file.unwinds)))
+
+pub record IsHandled (keys : List AtomKey) (file : LoadedFile) (goals : List Goal) (init : Option (List ℕ × List ℕ)) (at : ℕ) (found : Option (List ℕ × List ℕ)) : Type 0 where
+  pub is : found ≡ fold lesser init (personalities_to keys file goals at)
+
+pub handled_start : (keys : List AtomKey) (file : LoadedFile) (goals : List Goal) (init found : Option (List ℕ × List ℕ)) → found ≡ init → IsHandled keys file goals init 0 found
+handled_start keys file goals init found is = record { is = is }
+
+-- what one entry gives
+one_entry : (file : LoadedFile) (f : Unwind → Option (List ℕ)) (p : Unwind → Bool) (unwind : Unwind) → labelled file (filter_map f (filter p (unwind ∷ []))) ≡ pairs_of file.label (if p unwind then f unwind else None)
+one_entry file f p unwind = by (p unwind) (f unwind) refl refl
+  where
+    by : (b : Bool) (o : Option (List ℕ)) → p unwind ≡ b → f unwind ≡ o → labelled file (filter_map f (filter p (unwind ∷ []))) ≡ pairs_of file.label (if p unwind then f unwind else None)
+    by false o d e = rw d refl
+    by true None d e = rw (d, e) refl
+    by true (Some name) d e = rw (d, e) refl
+
+pub handled_more : (keys : List AtomKey) (file : LoadedFile) (goals : List Goal) (init found new : Option (List ℕ × List ℕ)) (at : ℕ) (unwinds : List Unwind) (unwind d : Unwind) → IsHandled keys file goals init at found → unwinds ≡ file.unwinds → at < length unwinds → unwind ≡ get_or unwinds at d → new ≡ fold lesser found (pairs_of file.label (if has keys unwind.atom then lost_personality file.object.symbols goals unwind else None)) → IsHandled keys file goals init (at + 1) new
+handled_more keys file goals init found new at unwinds unwind d handled all low there more = record {
+  is = more
+      ∙ ap (fold lesser found) (sym (one_entry file f kept unwind))
+      ∙ ap (λ x. fold lesser x (labelled file (filter_map f (filter kept (unwind ∷ []))))) handled.is
+      ∙ sym (fold-append lesser init (personalities_to keys file goals at) (labelled file (filter_map f (filter kept (unwind ∷ [])))))
+      ∙ ap (fold lesser init) (
+      sym (map-append (λ name. (name, file.label)) (filter_map f (filter kept (take at file.unwinds))) (filter_map f (filter kept (unwind ∷ []))))
+      ∙ ap (labelled file) (sym (filter_map-append f (filter kept (take at file.unwinds)) (filter kept (unwind ∷ []))) ∙ ap (filter_map f) one_more)
+      );
+}
+  where
+    f : Unwind → Option (List ℕ)
+    f = lost_personality file.object.symbols goals
+
+    kept : Unwind → Bool
+    kept u = has keys u.atom
+
+    here : unwind ≡ get_or file.unwinds at d
+    here = there ∙ ap (λ us. get_or us at d) all
+
+    one_more : filter kept (take at file.unwinds) ++ filter kept (unwind ∷ []) ≡ filter kept (take (at + 1) file.unwinds)
+    one_more =
+        let within : at < length file.unwinds = subst (λ us. at < length us) all low in
+        sym (filter-append kept (take at file.unwinds) (unwind ∷ []))
+        ∙ ap (filter kept) (ap (λ u. take at file.unwinds ++ u ∷ []) here ∙ sym (take_more file.unwinds at d within))
+
+pub handled_end : (keys : List AtomKey) (file : LoadedFile) (goals : List Goal) (init found : Option (List ℕ × List ℕ)) (at : ℕ) (unwinds : List Unwind) → IsHandled keys file goals init at found → unwinds ≡ file.unwinds → length unwinds ≤ at → found ≡ fold lesser init (labelled file (filter_map (lost_personality file.object.symbols goals) (kept_unwinds keys file)))
+unfolding kept_unwinds
+handled_end keys file goals init found at unwinds handled all past =
+    let over : length file.unwinds ≤ at = subst (λ us. length us ≤ at) all past in
+    handled.is ∙ ap (λ us. fold lesser init (labelled file (filter_map (lost_personality file.object.symbols goals) (filter (λ u. has keys u.atom) us)))) (take_all at file.unwinds over)
+
+pub ruleset of_unwinds = (handled_start, handled_end)
+
+-- ---- a file
+
+pub of_file : (keys : List AtomKey) (file : LoadedFile) (goals : List Goal) (init first result : Option (List ℕ × List ℕ))
+    → first ≡ fold lesser init (labelled file (flat_map (lost_names file.object.symbols goals) (kept_refs keys file)))
+    → result ≡ fold lesser first (labelled file (filter_map (lost_personality file.object.symbols goals) (kept_unwinds keys file)))
+    → result ≡ fold lesser init (lost_in keys file goals)
+unfolding lost_in
+of_file keys file goals init first result one is =
+    is ∙ ap (λ x. fold lesser x (labelled file (filter_map (lost_personality file.object.symbols goals) (kept_unwinds keys file)))) one
+    ∙ sym (fold-append lesser init (labelled file (flat_map (lost_names file.object.symbols goals) (kept_refs keys file))) (labelled file (filter_map (lost_personality file.object.symbols goals) (kept_unwinds keys file))))
+    ∙ ap (fold lesser init) (sym (map-append (λ name. (name, file.label)) (flat_map (lost_names file.object.symbols goals) (kept_refs keys file)) (filter_map (lost_personality file.object.symbols goals) (kept_unwinds keys file))))
 
 -- ---- a file whose names all lead somewhere
 
@@ -145,13 +214,24 @@ unnamed_refs : (file : LoadedFile) (goals : List Goal) (rs : List Ref) → list_
 unnamed_refs file goals [] none = refl
 unnamed_refs file goals (r ∷ rs) none = rw (unnamed_ref file goals r none) (unnamed_refs file goals rs none)
 
+unnamed_unwind : (file : LoadedFile) (goals : List Goal) (unwind : Unwind) → list_any is_nobody goals ≡ false → lost_personality file.object.symbols goals unwind ≡ None
+unfolding lost_personality
+unnamed_unwind file goals unwind none = by unwind.personality
+  where
+    by : (personality : Option Target) → option_and_then (lost_name file.object.symbols goals) personality ≡ None
+    by None = refl
+    by (Some target) = unnamed file goals target none
+
+unnamed_unwinds : (file : LoadedFile) (goals : List Goal) (unwinds : List Unwind) → list_any is_nobody goals ≡ false → filter_map (lost_personality file.object.symbols goals) unwinds ≡ []
+unnamed_unwinds file goals [] none = refl
+unnamed_unwinds file goals (unwind ∷ unwinds) none = rw (unnamed_unwind file goals unwind none) (unnamed_unwinds file goals unwinds none)
+
 pub unnamed_in : (keys : List AtomKey) (file : LoadedFile) (goals : List Goal) → list_any is_nobody goals ≡ false → lost_in keys file goals ≡ []
 unfolding lost_in
-unnamed_in keys file goals none = ap (labelled file) (unnamed_refs file goals (kept_refs keys file) none)
+unnamed_in keys file goals none = rw (unnamed_refs file goals (kept_refs keys file) none, unnamed_unwinds file goals (kept_unwinds keys file) none) refl
 
 pub none_lost : (keys : List AtomKey) (file : LoadedFile) (goals : List Goal) (init : Option (List ℕ × List ℕ)) → list_any is_nobody goals ≡ false → init ≡ fold lesser init (lost_in keys file goals)
-unfolding lost_in
-none_lost keys file goals init none = sym (ap (λ names. fold lesser init (labelled file names)) (unnamed_refs file goals (kept_refs keys file) none))
+none_lost keys file goals init none = sym (ap (fold lesser init) (unnamed_in keys file goals none))
 
 -- ---- files
 

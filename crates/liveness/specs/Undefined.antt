@@ -1,4 +1,5 @@
--- The names to which kept atoms refer and that lead nowhere.
+-- The names to which kept atoms refer and that lead nowhere: by their references, and by the personalities of their unwind
+-- entries (`mach-o/compact_unwind_encoding.h`).
 use Rattle.std.specs.Prelude.{ℕ, ◌≡◌, Bool, true, false, List, [], ◌∷◌, ◌++◌, map, filter, fold, slice_get, Option, Some, None, option_and_then, if◌then◌else◌}
 use Rattle.std.specs.Cmp.Lexicographic.{slice_cmp}
 use Rattle.std.specs.List.{AllByRecursion, enumerate_from, filter_map, flat_map}
@@ -14,10 +15,15 @@ use Rattle.mo_types.specs.declared.object.Symbol.{Symbol}
 use Rattle.mo_types.specs.declared.reference.Ref.{Ref}
 use Rattle.mo_types.specs.declared.reference.Target.{Target}
 use Rattle.mo_types.specs.declared.reference.Target.TheVariants.{Name, Local}
+use Rattle.mo_types.specs.declared.unwind.Unwind.{Unwind}
 
 -- the references of a file's kept atoms, as the file lists them
 unfoldable pub kept_refs : List AtomKey → LoadedFile → List Ref
 kept_refs keys file = filter (λ r. has keys r.atom) file.refs
+
+-- the unwind entries of a file's kept atoms, as the file lists them
+unfoldable pub kept_unwinds : List AtomKey → LoadedFile → List Unwind
+kept_unwinds keys file = filter (λ unwind. has keys unwind.atom) file.unwinds
 
 abbrev pub is_nobody : Goal → Bool
 is_nobody Nobody = true
@@ -40,9 +46,17 @@ targets_of target (Some minus) = target ∷ minus ∷ []
 unfoldable pub lost_names : List Symbol → List Goal → Ref → List (List ℕ)
 lost_names symbols goals r = filter_map (lost_name symbols goals) (targets_of r.target r.minus)
 
+-- that of an unwind entry: of the function that handles exceptions, where there is one
+unfoldable pub lost_personality : List Symbol → List Goal → Unwind → Option (List ℕ)
+lost_personality symbols goals unwind = option_and_then (lost_name symbols goals) unwind.personality
+
 -- those of a file's kept atoms, each with what messages call the file
 unfoldable pub lost_in : List AtomKey → LoadedFile → List Goal → List (List ℕ × List ℕ)
-lost_in keys file goals = map (λ name. (name, file.label)) (flat_map (lost_names file.object.symbols goals) (kept_refs keys file))
+lost_in keys file goals =
+    map (λ name. (name, file.label)) (
+    flat_map (lost_names file.object.symbols goals) (kept_refs keys file)
+    ++ filter_map (lost_personality file.object.symbols goals) (kept_unwinds keys file)
+    )
 
 -- those of the file at a place, whose symbols have the goals there
 abbrev pub lost_at : List AtomKey → List (List Goal) → ℕ × LoadedFile → List (List ℕ × List ℕ)

@@ -6,11 +6,11 @@
 //! to what handles its exceptions; and the supports, from atoms of sections with S_ATTR_LIVE_SUPPORT to where their
 //! references lead. It goes by the goals of each file's symbols. `mark_core` tells which atoms are kept by these.
 //!
-//! `undefined` answers the least name that leads nowhere, of those to which kept atoms refer and those that the
-//! command wants, with what messages call the first file that refers to it, and `None` exactly where there is no such
-//! name (`specs/Undefined.antt`). It takes no memory. `ref_order` puts a file's references in the order of their
-//! atoms, and `next_spots` answers those of one atom, as the file lists them (`specs/Order.antt`). The one error is
-//! want of memory.
+//! `undefined` answers the least name that leads nowhere, of those to which kept atoms refer, by their references and as
+//! the personalities of their unwind entries, and those that the command wants, with what messages call the first file
+//! that refers to it, and `None` exactly where there is no such name (`specs/Undefined.antt`). It takes no memory.
+//! `ref_order` puts a file's references in the order of their atoms, and `next_spots` answers those of one atom, as the
+//! file lists them (`specs/Order.antt`). The one error is want of memory.
 //!
 //! The laws say that an edge leads to the atom of its reference's goal (`edges_lead_to_goals`), that edges and
 //! supports go file by file, and that the name that is told is the first of the least ones (`the_least_name_is_told`).

@@ -1,24 +1,28 @@
 //! The names to which kept atoms refer and that lead nowhere.
 
-ghost use Rattle.std.specs.Prelude.{◌≡◌, ◌<◌, ◌++◌, fold, length};
-ghost use Rattle.std.specs.List.{list_any};
+ghost use Rattle.std.specs.Prelude.{◌≡◌, ◌<◌, ◌++◌, None, fold, length, if◌then◌else◌};
+ghost use Rattle.std.specs.List.{filter_map, flat_map, list_any};
 ghost use Rattle.std.specs.List.Sorted.{IsStrictlySortedBy};
 ghost use Rattle.std.specs.Option.{option_copied, option_map};
 ghost use Rattle.resolve.specs.Table.{file_goals, goals_of};
+ghost use Rattle.mark_core.specs.Kept.{has};
 ghost use Rattle.mo_types.specs.Keys.{compare_keys};
 ghost use Rattle.liveness.specs.Undefined as spec;
 ghost use Rattle.liveness.specs.inner.Lost.{held, labelled, pairs_of};
 
 use crate::kept::{LastKept, ask};
 use mark_core::is_kept;
-use mo_types::{AtomKey, Bytes, FileId, Goal, KeyList, Loaded, LoadedFile, Ref, Symbol, Target};
+use mo_types::{
+    AtomKey, Bytes, FileId, Goal, KeyList, Loaded, LoadedFile, Ref, Symbol, Target, Unwind,
+};
 use resolve::{FileGoals, GoalTable};
 
 /// A name that leads nowhere.
 #[derive(Clone, Copy, Debug)]
 pub struct Lost<'a> {
     pub name: &'a [u8],
-    /// What messages call the first file of which a kept atom refers to it, or nothing where none does.
+    /// What messages call the first file of which a kept atom refers to it, by a reference or as the personality of an
+    /// unwind entry, or nothing where none does.
     pub label: &'a [u8],
 }
 
@@ -122,16 +126,17 @@ const FIRST: AtomKey = AtomKey {
     offset: 0,
 };
 
-// The least name, with those of a file's kept atoms more.
-#[tactic(auto, using(crate::proofs::LostLemmas::of_file))]
-fn note_file<'a>(
+// The least name, with those of the references of a file's kept atoms more.
+#[tactic(auto, using(crate::proofs::LostLemmas::of_refs))]
+fn note_refs<'a>(
     least: Option<Lost<'a>>,
     file: &'a LoadedFile,
     goals: &FileGoals,
     keys: &[AtomKey],
 ) -> Option<Lost<'a>>
     requires { IsStrictlySortedBy compare_keys keys.now }
-    ensures { option_map held result ≡ fold spec.lesser (option_map held least.entry) (spec.lost_in keys.now file.now (file_goals goals.now)) }
+    ensures { option_map held result
+        ≡ fold spec.lesser (option_map held least.entry) (labelled file.now (flat_map (spec.lost_names file.now.object.symbols (file_goals goals.now)) (spec.kept_refs keys.now file.now))) }
 {
     let mut found = least;
     let mut last = LastKept {
@@ -152,7 +157,74 @@ fn note_file<'a>(
     found
 }
 
-// The same, which goes through no references where each symbol of the file leads somewhere.
+// The name of an unwind entry's personality, where it leads nowhere.
+#[tactic(auto, unfolding(crate::specs::Undefined::lost_personality))]
+fn lost_personality<'a>(
+    symbols: &'a [Symbol],
+    goals: &FileGoals,
+    unwind: &Unwind,
+) -> Option<&'a Bytes>
+    ensures { option_copied result ≡ spec.lost_personality symbols.now (file_goals goals.now) unwind.now }
+{
+    lost_name(symbols, goals, unwind.personality?)
+}
+
+// The least name, with that of a file's unwind entry more, if its atom is kept. Few personalities lead nowhere, so that
+// few atoms are asked for.
+fn note_unwind<'a>(
+    least: Option<Lost<'a>>,
+    file: &'a LoadedFile,
+    goals: &FileGoals,
+    keys: &[AtomKey],
+    unwind: &Unwind,
+) -> Option<Lost<'a>>
+    requires { IsStrictlySortedBy compare_keys keys.now }
+    ensures { option_map held result
+        ≡ fold spec.lesser (option_map held least.entry) (pairs_of file.now.label (if has keys.now unwind.now.atom then spec.lost_personality file.now.object.symbols (file_goals goals.now) unwind.now else None)) }
+{
+    let name = lost_personality(file.object.symbols.as_slice(), goals, unwind);
+    if name.is_some() && is_kept(keys, unwind.atom) {
+        note(least, name, file.label.as_slice())
+    } else {
+        least
+    }
+}
+
+// The least name, with those of the personalities of a file's kept atoms more.
+#[tactic(auto, using(crate::proofs::LostLemmas::of_unwinds))]
+fn note_unwinds<'a>(
+    least: Option<Lost<'a>>,
+    file: &'a LoadedFile,
+    goals: &FileGoals,
+    keys: &[AtomKey],
+) -> Option<Lost<'a>>
+    requires { IsStrictlySortedBy compare_keys keys.now }
+    ensures { option_map held result
+        ≡ fold spec.lesser (option_map held least.entry) (labelled file.now (filter_map (spec.lost_personality file.now.object.symbols (file_goals goals.now)) (spec.kept_unwinds keys.now file.now))) }
+{
+    let mut found = least;
+    for unwind in file.unwinds.as_slice() {
+        found = note_unwind(found, file, goals, keys, unwind);
+    }
+    found
+}
+
+// The least name, with those of a file's kept atoms more.
+#[tactic(auto, using(crate::proofs::LostLemmas::of_file))]
+fn note_file<'a>(
+    least: Option<Lost<'a>>,
+    file: &'a LoadedFile,
+    goals: &FileGoals,
+    keys: &[AtomKey],
+) -> Option<Lost<'a>>
+    requires { IsStrictlySortedBy compare_keys keys.now }
+    ensures { option_map held result ≡ fold spec.lesser (option_map held least.entry) (spec.lost_in keys.now file.now (file_goals goals.now)) }
+{
+    let least = note_refs(least, file, goals, keys);
+    note_unwinds(least, file, goals, keys)
+}
+
+// The same, which goes through no list where each symbol of the file leads somewhere.
 #[tactic(auto, using(crate::proofs::LostLemmas::none_lost))]
 fn note_if_any<'a>(
     least: Option<Lost<'a>>,
@@ -217,8 +289,9 @@ fn note_wanted<'a>(least: Option<Lost<'a>>, names: &'a [Bytes]) -> Option<Lost<'
     found
 }
 
-/// The least name that leads nowhere, of those to which kept atoms refer and of those that the command wants and that
-/// lead nowhere, or `None` exactly where there is no such name. Takes no memory.
+/// The least name that leads nowhere, of those to which kept atoms refer, by references and as the personalities of
+/// their unwind entries, and of those that the command wants and that lead nowhere, or `None` exactly where there is no
+/// such name. Takes no memory.
 #[tactic(auto, using(crate::proofs::LostLemmas::all_names))]
 pub fn undefined<'a>(
     loaded: &'a Loaded,

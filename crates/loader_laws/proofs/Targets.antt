@@ -1,7 +1,7 @@
 -- Where the references of kept atoms lead: somewhere, and the image has the address unless another image has it.
 use Rattle.std.proofs.Common.{◌≡◌, ℕ, Bool, true, false, List, [], ◌∷◌, ◌++◌, Option, Some, None, inl, inr, refl, sym, ap, ◌∙◌, subst, if◌then◌else◌}
 use Rattle.std.specs.Prelude.{IsSome, slice_get, option_and_then}
-use Rattle.std.specs.List.{enumerate_from, filter, flat_map, fold, list_any}
+use Rattle.std.specs.List.{enumerate_from, filter, filter_map, flat_map, fold, list_any}
 use Rattle.std.specs.Option.{option_map, option_map_or}
 use Rattle.std.specs.Cmp.Lexicographic.{slice_cmp}
 use Rattle.std.specs.Ordering.{is_lt, nat_cmp}
@@ -13,7 +13,7 @@ use Rattle.lib_bind.specs.declared.library.LibraryGraph.{LibraryGraph}
 use Rattle.literal_merge.specs.Representatives.{representatives_of}
 use Rattle.literal_merge.specs.declared.representative.Representative.{Representative}
 use Rattle.liveness.specs.Edges.{goal_atom, edge_from, edge_to, edges, edges_at, edges_by, file_edges, ref_edges, target_atom, unwind_edges}
-use Rattle.liveness.specs.Undefined.{is_nobody, kept_refs, least, lesser, name_if, lost, lost_at, lost_in, lost_name, lost_names, targets_of, undefined, wanted}
+use Rattle.liveness.specs.Undefined.{is_nobody, kept_refs, kept_unwinds, least, lesser, name_if, lost, lost_at, lost_in, lost_name, lost_names, lost_personality, targets_of, undefined, wanted}
 use Rattle.mark_core.specs.Kept.{has}
 use Rattle.mo_types.specs.declared.edge.Edge.{Edge}
 use Rattle.mo_types.specs.declared.goal.Goal.{Goal}
@@ -148,8 +148,9 @@ target_found m at file r target linking is among = by (lost_name file.object.sym
     told : (name : List ℕ) → lost_name file.object.symbols goals target ≡ Some name → In (name, file.label) (lost m.keys m.files m.goals)
     told name e =
         let here : In (name, file.label) (lost_in m.keys file goals) =
-        in_map (λ n. (n, file.label)) (flat_map (lost_names file.object.symbols goals) (kept_refs m.keys file)) name
-        (in_flat (lost_names file.object.symbols goals) (kept_refs m.keys file) r name (in_filter (λ x. has m.keys x.atom) file.refs r is.among is.kept) (in_filter_map (lost_name file.object.symbols goals) (targets_of r.target r.minus) target name among e)) in
+        in_map (λ n. (n, file.label)) (flat_map (lost_names file.object.symbols goals) (kept_refs m.keys file) ++ filter_map (lost_personality file.object.symbols goals) (kept_unwinds m.keys file)) name
+        (in_left (flat_map (lost_names file.object.symbols goals) (kept_refs m.keys file)) (filter_map (lost_personality file.object.symbols goals) (kept_unwinds m.keys file)) name
+        (in_flat (lost_names file.object.symbols goals) (kept_refs m.keys file) r name (in_filter (λ x. has m.keys x.atom) file.refs r is.among is.kept) (in_filter_map (lost_name file.object.symbols goals) (targets_of r.target r.minus) target name among e))) in
         in_flat (lost_at m.keys m.goals) (enumerate_from 0 m.files) (at, file) (name, file.label) (in_all m.files at file is.there) (rw (goals_there m at file linking is.there) here)
 
     by : (o : Option (List ℕ)) → lost_name file.object.symbols goals target ≡ o → o ≡ None

@@ -1,4 +1,4 @@
-//! The references of kept atoms against tables that were written by hand.
+//! The references and personalities of kept atoms against tables that were written by hand.
 
 ghost use Rattle.std.specs.Prelude.{◌≡◌, ◌<◌, All, IfOk, List, ℕ, length};
 
@@ -6,7 +6,7 @@ use liveness::{Lost, next_spots, ref_order, undefined};
 use mark_core::kept;
 use mo_types::{
     AtomKey, Bytes, EdgeList, Goal, Items, KeyList, Loaded, LoadedFile, LoadedList, OutOfMemory,
-    Ref, RefKind, RefList, SectionList, Symbol, SymbolKind, SymbolList, Target,
+    Ref, RefKind, RefList, SectionList, Symbol, SymbolKind, SymbolList, Target, Unwind, UnwindList,
 };
 use resolve::{GoalTable, PlaceList};
 use std::alloc::Global;
@@ -35,6 +35,24 @@ fn refs_of(alloc: Global, position: u16, rows: &[Row]) -> Result<RefList, OutOfM
         refs.push(reference(key(position, 1, *offset), *target, *minus))?;
     }
     Ok(refs)
+}
+
+// The offset of an atom, and the personality of its unwind entry.
+type Entry = (u64, Option<u32>);
+
+fn unwinds_of(alloc: Global, position: u16, entries: &[Entry]) -> Result<UnwindList, OutOfMemory> {
+    let mut unwinds = UnwindList::new(alloc);
+    for (offset, personality) in entries {
+        unwinds.push(Unwind {
+            atom: key(position, 1, *offset),
+            offset: 0,
+            length: 4,
+            encoding: 0,
+            personality: personality.map(Target::Name),
+            lsda: None,
+        })?;
+    }
+    Ok(unwinds)
 }
 
 fn symbols(alloc: Global, names: &[&'static [u8]]) -> Result<SymbolList, OutOfMemory> {
@@ -74,7 +92,7 @@ fn all_places(alloc: Global, files: &[File]) -> Result<Items<PlaceList>, OutOfMe
     ensures { IfOk result (All (λ (file : List ℕ). All (λ place. place < 2) file)) }
 {
     let mut lists = Items::new(alloc);
-    for (_, names, _) in files {
+    for (_, names, _, _) in files {
         lists.push(places(alloc, names.len())?)?;
     }
     Ok(lists)
@@ -87,19 +105,20 @@ fn table_of(pool: Vec<Goal>, places: Items<PlaceList>) -> GoalTable
     GoalTable::new(pool, places)
 }
 
-// The names of a file's symbols, and its references.
-type File<'a> = (&'static [u8], &'a [&'static [u8]], &'a [Row]);
+// The names of a file's symbols, its references, and its unwind entries.
+type File<'a> = (&'static [u8], &'a [&'static [u8]], &'a [Row], &'a [Entry]);
 
 fn link(alloc: Global, files: &[File]) -> Result<(Loaded, GoalTable), OutOfMemory> {
     let mut loaded = LoadedList::new(alloc);
     let table = table_of(pool(alloc)?, all_places(alloc, files)?);
-    for (i, (label, names, rows)) in files.iter().enumerate() {
+    for (i, (label, names, rows, entries)) in files.iter().enumerate() {
         let position = (i % 100) as u16;
         let refs = refs_of(alloc, position, rows)?;
         let object = object(SectionList::new(alloc), symbols(alloc, names)?);
         loaded.push(LoadedFile {
             label: Bytes::from_static(*label),
             refs,
+            unwinds: unwinds_of(alloc, position, entries)?,
             ..file(alloc, file_id(position), object)
         })?;
     }
@@ -148,18 +167,24 @@ fn tells(alloc: Global, files: &[File], case: &Case) -> Result<bool, OutOfMemory
     Ok(is_told(&lost, told))
 }
 
-// Two files: `a.o` refers from 0 to the header, and from 8 to `_z`; `b.o` from 0 to `_z`, and from 4 to the header less
-// `_b`.
+// Two files: `a.o` refers from 0 to the header, and from 8 to `_z`, which is also the personality of 16; `b.o` from 0 to
+// `_z`, and from 4 to the header less `_b`, which is also the personality of 12, and the header is that of 8.
 const FILES: [File; 2] = [
-    (b"a.o", &[b"_main", b"_z"], &[(0, 0, None), (8, 1, None)]),
+    (
+        b"a.o",
+        &[b"_main", b"_z"],
+        &[(0, 0, None), (8, 1, None)],
+        &[(0, None), (16, Some(1))],
+    ),
     (
         b"b.o",
         &[b"_main", b"_z", b"_b"],
         &[(4, 0, Some(2)), (0, 1, None)],
+        &[(8, Some(0)), (12, Some(2))],
     ),
 ];
 
-const CASES: [Case; 8] = [
+const CASES: [Case; 11] = [
     (&[], &[], None),
     (&[(0, 0)], &[], None),
     (&[(0, 0), (0, 8)], &[], Some((b"_z", b"a.o"))),
@@ -168,6 +193,9 @@ const CASES: [Case; 8] = [
     (&[(0, 0)], &[b"_start"], Some((b"_start", b""))),
     (&[(0, 8)], &[b"_z", b"_y"], Some((b"_y", b""))),
     (&[(0, 8)], &[b"_z"], Some((b"_z", b"a.o"))),
+    (&[(0, 0), (1, 8)], &[], None),
+    (&[(0, 16), (1, 0)], &[], Some((b"_z", b"a.o"))),
+    (&[(0, 16), (1, 12)], &[], Some((b"_b", b"b.o"))),
 ];
 
 // The references of three atoms.

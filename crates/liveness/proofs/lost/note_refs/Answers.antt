@@ -3,8 +3,8 @@ use Rattle.std.specs.Option.{option_map}
 use Rattle.resolve.specs.Table.{goals_in}
 use Rattle.liveness.specs.inner.Lost.{held}
 use Rattle.liveness.proofs.LostLemmas.{noted_end, noted_kept, noted_never, noted_passed}
-use Rattle.liveness.proofs.lost.note_file.Goals as goal
-use Rattle.liveness.proofs.lost.note_file.Goals.{in-Some+then-last, in-Some+else-last, in-None}
+use Rattle.liveness.proofs.lost.note_refs.Goals as goal
+use Rattle.liveness.proofs.lost.note_refs.Goals.{in-Some+then-last, in-Some+else-last, in-None}
 
 pub loop-at-preserved : goal.loop-at-preserved
 loop-at-preserved c =
