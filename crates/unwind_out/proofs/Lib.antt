@@ -11,5 +11,6 @@ pub mod Reading
 pub mod Whole
 pub mod One
 pub mod Sizes
+pub mod Alike
 pub mod Law
 pub mod Named

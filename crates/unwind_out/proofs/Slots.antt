@@ -19,30 +19,30 @@ use Rattle.unwind_out.proofs.Uses.{position_or_len_from}
 
 -- ---- a slot more
 
-with_low : (slot other : ℕ) (slots : List ℕ) → slot < other → with_slot slot (other ∷ slots) ≡ slot ∷ other ∷ slots
+pub with_low : (slot other : ℕ) (slots : List ℕ) → slot < other → with_slot slot (other ∷ slots) ≡ slot ∷ other ∷ slots
 unfolding with_slot
 with_low slot other slots low = let e = lt-ltb slot other low in rw e refl
 
-with_same : (slot other : ℕ) (slots : List ℕ) → other ≡ slot → with_slot slot (other ∷ slots) ≡ other ∷ slots
+pub with_same : (slot other : ℕ) (slots : List ℕ) → other ≡ slot → with_slot slot (other ∷ slots) ≡ other ∷ slots
 unfolding with_slot
 with_same slot other slots same =
     let first = le-ltb slot other (omega arith) in
     let second : (other == slot) ≡ true = grind (arith, nat_tests) in
     rw (first, second) refl
 
-with_high : (slot other : ℕ) (slots : List ℕ) → other < slot → with_slot slot (other ∷ slots) ≡ other ∷ with_slot slot slots
+pub with_high : (slot other : ℕ) (slots : List ℕ) → other < slot → with_slot slot (other ∷ slots) ≡ other ∷ with_slot slot slots
 unfolding with_slot
 with_high slot other slots high =
     let first = le-ltb slot other (omega arith) in
     let second : (other == slot) ≡ false = grind (arith, nat_tests) in
     rw (first, second) refl
 
-with_none : (slot : ℕ) → with_slot slot [] ≡ slot ∷ []
+pub with_none : (slot : ℕ) → with_slot slot [] ≡ slot ∷ []
 unfolding with_slot
 with_none slot = refl
 
 -- the three ways in which two numbers stand
-data Way (a b : ℕ) : Type 0 where
+pub data Way (a b : ℕ) : Type 0 where
   below : a < b → Way a b
   same : b ≡ a → Way a b
   above : b < a → Way a b
@@ -52,7 +52,7 @@ way_by a b true high e f = below (ltb-true a b e)
 way_by a b false true e f = above (ltb-true b a f)
 way_by a b false false e f = let one = ltb-false a b e in let two = ltb-false b a f in same (omega arith)
 
-way : (a b : ℕ) → Way a b
+pub way : (a b : ℕ) → Way a b
 way a b = way_by a b (ltb a b) (ltb b a) refl refl
 
 longer_by : (slot other : ℕ) (slots : List ℕ) → Way slot other → length slots ≤ length (with_slot slot slots) → length (other ∷ slots) ≤ length (with_slot slot (other ∷ slots))
@@ -173,7 +173,7 @@ from_by slot other slots x (below low) rest there = subst (In x) (with_low slot 
 from_by slot other slots x (same e) rest there = inr (subst (In x) (with_same slot other slots e) there)
 from_by slot other slots x (above high) rest there = later_from slot other slots x rest (subst (In x) (with_high slot other slots high) there)
 
-from_with : (slot : ℕ) (slots : List ℕ) (x : ℕ) → In x (with_slot slot slots) → (slot ≡ x) ⊎ In x slots
+pub from_with : (slot : ℕ) (slots : List ℕ) (x : ℕ) → In x (with_slot slot slots) → (slot ≡ x) ⊎ In x slots
 from_with slot [] x there = subst (In x) (with_none slot) there
 from_with slot (other ∷ slots) x there = from_by slot other slots x (way slot other) (from_with slot slots x) there
 
@@ -241,7 +241,7 @@ unfolding slots_with
 slots_old slots [] x there = there
 slots_old slots (row ∷ rows) x there = slots_old (with_personality row slots) rows x (kept_by row slots x (row.personality == 0) refl there)
 
-slots_own : (slots : List ℕ) (rows : List UnwindRow) (row : UnwindRow) → In row rows → row.personality ≢ 0 → In row.personality (slots_with slots rows)
+pub slots_own : (slots : List ℕ) (rows : List UnwindRow) (row : UnwindRow) → In row rows → row.personality ≢ 0 → In row.personality (slots_with slots rows)
 unfolding slots_with
 slots_own slots [] row there some = absurd there
 slots_own slots (first ∷ rows) row (inl e) some =

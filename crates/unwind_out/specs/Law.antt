@@ -1,5 +1,5 @@
--- What a look-up in a written section gives.
-use Rattle.std.specs.Prelude.{ℕ, ◌≡◌, ◌≢◌, ◌^◌, ◌<◌, ◌≤◌, ◌==◌, if◌then◌else◌, List, Option, Some, None, Contains}
+-- What a look-up in a written section gives, and what its size hangs on.
+use Rattle.std.specs.Prelude.{ℕ, ◌≡◌, ◌≢◌, ◌^◌, ◌<◌, ◌≤◌, ◌==◌, if◌then◌else◌, List, [], ◌∷◌, Option, Some, None, Contains}
 use Rattle.std.specs.List.{AllByRecursion, position_or_len}
 use Rattle.std.specs.List.Sorted.{IsStrictlySortedBy}
 use Rattle.std.specs.Ordering.{nat_cmp, on}
@@ -55,3 +55,25 @@ pub record AreFirstUses (used numbers : List ℕ) : Type 0 where
   pub each : (number : ℕ) → Contains used number → Contains numbers number
   pub only : (number : ℕ) → Contains numbers number → Contains used number
   pub order : IsStrictlySortedBy (on (first_place used) nat_cmp) numbers
+
+-- A function as another one, whose slot is moved: its range and its encoding are the same, and it has language-specific data
+-- where the other one has some.
+pub record IsAlike (by : ℕ → ℕ) (row other : UnwindRow) : Type 0 where
+  pub function : other.function ≡ row.function
+  pub end : other.end ≡ row.end
+  pub encoding : other.encoding ≡ row.encoding
+  pub personality : other.personality ≡ by row.personality
+  pub lsda : (other.lsda == 0) ≡ (row.lsda == 0)
+
+-- functions as others, one by one
+abbrev pub AreAlike : (ℕ → ℕ) → List UnwindRow → List UnwindRow → Type 0
+AreAlike by [] [] = Unit {0}
+AreAlike by [] (other ∷ others) = ⊥
+AreAlike by (row ∷ rows) [] = ⊥
+AreAlike by (row ∷ rows) (other ∷ others) = IsAlike by row other × AreAlike by rows others
+
+-- Slots are moved in their order, and none becomes none.
+pub record KeepsOrder (by : ℕ → ℕ) (slots : List ℕ) : Type 0 where
+  pub none : by 0 ≡ 0
+  pub some : (slot : ℕ) → Contains slots slot → 0 < by slot
+  pub order : (a b : ℕ) → Contains slots a → Contains slots b → a < b → by a < by b
