@@ -10,7 +10,8 @@ use Rattle.std.proofs.lemmas.List.Edits.{Swapped, length-swap, swapped_from_swap
 use Rattle.std.proofs.lemmas.List.Sorted.{All-permutation, IsPermutation-keeps}
 use Rattle.unwind_out.specs.Table.{AreApart, BeginsAfter}
 use Rattle.unwind_out.specs.declared.row.UnwindRow.{UnwindRow}
-use Rattle.unwind_link.specs.Rows.{AreBeside, AreRows, AreSpread, Standing, row_of}
+use Rattle.ref_meet.specs.Scene.{Scene}
+use Rattle.unwind_link.specs.Rows.{AreBeside, AreRows, AreSpread, row_of}
 use Rattle.unwind_link.specs.declared.kept.KeptUnwind.{KeptUnwind}
 
 -- ---- rows in another order
@@ -102,7 +103,7 @@ apart (row ∷ rows) rise beside some = (
 
 -- ---- the rows of entries
 
-mapped_at : (s : Standing) (kept : List KeptUnwind) (k : ℕ) (d : KeptUnwind) (e : UnwindRow) → k < length kept → get_or (map (row_of s) kept) k e ≡ row_of s (get_or kept k d)
+mapped_at : (s : Scene) (kept : List KeptUnwind) (k : ℕ) (d : KeptUnwind) (e : UnwindRow) → k < length kept → get_or (map (row_of s) kept) k e ≡ row_of s (get_or kept k d)
 mapped_at s [] k d e low = absurd (omega (arith, low))
 mapped_at s (one ∷ kept) zero d e low = refl
 mapped_at s (one ∷ kept) (suc k) d e low = mapped_at s kept k d e (omega (arith, low))
@@ -112,30 +113,30 @@ first_of : (kept : List KeptUnwind) (k : ℕ) → k < length kept → KeptUnwind
 first_of [] k low = absurd (omega (arith, low))
 first_of (one ∷ kept) k low = one
 
-pairs_mapped : (s : Standing) (kept : List KeptUnwind) → AllPairs (λ (a : KeptUnwind) (b : KeptUnwind). AreBeside (row_of s a) (row_of s b)) kept → AllPairs AreBeside (map (row_of s) kept)
+pairs_mapped : (s : Scene) (kept : List KeptUnwind) → AllPairs (λ (a : KeptUnwind) (b : KeptUnwind). AreBeside (row_of s a) (row_of s b)) kept → AllPairs AreBeside (map (row_of s) kept)
 pairs_mapped s kept pairs = λ i j e low high.
     let within : j < length kept = omega (arith, high, length-map kept (row_of s)) in
     let d = first_of kept j within in
     subst (λ (row : UnwindRow). AreBeside row (get_or (map (row_of s) kept) j e)) (sym (mapped_at s kept i d e (omega (arith, low, within))))
     (subst (λ (row : UnwindRow). AreBeside (row_of s (get_or kept i d)) row) (sym (mapped_at s kept j d e within)) (pairs i j d low within))
 
-some_row : (s : Standing) (one : KeptUnwind) → 0 < one.unwind.length → IsSome (row_of s one)
+some_row : (s : Scene) (one : KeptUnwind) → 0 < one.unwind.length → IsSome (row_of s one)
 unfolding row_of
 some_row s one some = omega (arith, some)
 
-some_rows : (s : Standing) (kept : List KeptUnwind) → All (λ (one : KeptUnwind). 0 < one.unwind.length) kept → All IsSome (map (row_of s) kept)
+some_rows : (s : Scene) (kept : List KeptUnwind) → All (λ (one : KeptUnwind). 0 < one.unwind.length) kept → All IsSome (map (row_of s) kept)
 some_rows s kept some = λ k e low.
     let within : k < length kept = omega (arith, low, length-map kept (row_of s)) in
     let d = first_of kept k within in
     subst IsSome (sym (mapped_at s kept k d e within)) (some_row s (get_or kept k d) (some k d within))
 
-pub rows_apart : (s : Standing) (kept : List KeptUnwind) (rows : List UnwindRow) → AreSpread s kept → AreRows s kept rows → AreApart rows
+pub rows_apart : (s : Scene) (kept : List KeptUnwind) (rows : List UnwindRow) → AreSpread s kept → AreRows s kept rows → AreApart rows
 rows_apart s kept rows spread are =
     apart rows (λ k d low. are.order k (k + 1) d (omega arith) low)
     (permuted (map (row_of s) kept) rows (from_pairs (map (row_of s) kept) (pairs_mapped s kept spread.beside)) are.each)
     (All-permutation IsSome (map (row_of s) kept) rows are.each (some_rows s kept spread.some))
 
-pub are_rows : (s : Standing) (kept read : List KeptUnwind) (rows sorted : List UnwindRow) → rows ≡ map (row_of s) read → read ≡ kept → IsPermutation rows sorted → IsNonDecreasingBy (λ (row : UnwindRow). row.function) sorted → AreRows s kept sorted
+pub are_rows : (s : Scene) (kept read : List KeptUnwind) (rows sorted : List UnwindRow) → rows ≡ map (row_of s) read → read ≡ kept → IsPermutation rows sorted → IsNonDecreasingBy (λ (row : UnwindRow). row.function) sorted → AreRows s kept sorted
 are_rows s kept read rows sorted made same moved rise = record {
   each = subst (λ (rs : List UnwindRow). IsPermutation rs sorted) (made ∙ ap (map (row_of s)) same) moved;
   order = rise;

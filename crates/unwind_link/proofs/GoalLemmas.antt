@@ -1,7 +1,6 @@
 -- The goals of targets, by the goals of their file's symbols.
-use Rattle.std.proofs.Common.{◌≡◌, ℕ, List, [], Option, Some, None, ap}
+use Rattle.std.proofs.Common.{◌≡◌, ℕ, List, [], Some, None}
 use Rattle.std.specs.Prelude.{slice_get}
-use Rattle.std.specs.Option.{option_map_or}
 use Rattle.literal_merge.specs.declared.representative.Representative.{Representative}
 use Rattle.mo_types.specs.declared.goal.Goal.{Goal}
 use Rattle.mo_types.specs.declared.reference.Target.{Target}

@@ -1,7 +1,7 @@
 -- Entries that leave unwinding to `__eh_frame` (`mach-o/compact_unwind_encoding.h`: UNWIND_ARM64_MODE_DWARF).
-use Rattle.std.specs.Prelude.{◌≡◌, ◌≢◌, ◌==◌, Bool, bit_and, List, [], Option, Some, None, MatchOption, Contains, fold, if◌then◌else◌}
+use Rattle.std.specs.Prelude.{◌≡◌, ◌≢◌, ◌==◌, Bool, bit_and, List, [], Option, MatchOption, Contains}
 use Rattle.std.specs.List.{filter}
-use Rattle.std.specs.Ordering.{is_lt, nat_cmp, on, then_cmp}
+use Rattle.std.specs.Ordering.{nat_cmp, on, then_cmp}
 use Rattle.std.specs.declared.cmp.Ordering.{Ordering}
 use Rattle.std.specs.declared.cmp.Ordering.TheVariants.{Greater}
 use Rattle.image_format.specs.declared.compact_unwind.TheConstants.{UNWIND_ARM64_MODE_DWARF, UNWIND_ARM64_MODE_MASK}

@@ -5,7 +5,7 @@
 //! exactly where there is none (`specs/Dwarf.antt`). `personalities` answers the goals of the functions that handle
 //! exceptions, each once, in the order of their slots (`specs/Personalities.antt`), `many_personalities` whether they are more
 //! than an encoding can tell apart, and `personality_needs` the slot that each needs. `unwind_rows` answers the rows that
-//! `unwind_out` writes, by where all stands (`specs/Rows.antt`). The one error is want of memory.
+//! `unwind_out` writes, by where all of a `Scene` of `ref_meet` stands (`specs/Rows.antt`). The one error is want of memory.
 //!
 //! The laws say that slots which serve the listed personalities serve those of all entries (`slots_serve_all_personalities`),
 //! and that all that stands before `__unwind_info` stands at one place, however many bytes that has
@@ -26,4 +26,4 @@ pub use dwarf::first_dwarf;
 pub use handlers::{many_personalities, personalities, personality_needs};
 pub use kept::{KeptUnwind, KeptUnwinds, kept_unwinds};
 pub use laws::{slots_serve_all_personalities, unwind_info_moves_nothing_before};
-pub use rows::{Standing, unwind_rows};
+pub use rows::unwind_rows;

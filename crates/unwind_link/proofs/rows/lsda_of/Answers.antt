@@ -1,6 +1,6 @@
-use Rattle.unwind_link.specs.Rows.{standing_of}
+use Rattle.ref_meet.specs.Ready.{scene_of}
 use Rattle.unwind_link.proofs.RowLemmas.{lsda_low}
 use Rattle.unwind_link.proofs.rows.lsda_of.Goals as goal
 
 pub place_offset-requires-clause-low : goal.place_offset-requires-clause-low
-place_offset-requires-clause-low c = lsda_low (standing_of c.args.standing.now) c.args.kept.now c.in-Some.lsda c.requires.fields c.in-Some.is
+place_offset-requires-clause-low c = lsda_low (scene_of c.args.scene.now) c.args.kept.now c.in-Some.lsda c.requires.fields c.in-Some.is
