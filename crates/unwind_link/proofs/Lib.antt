@@ -3,6 +3,8 @@ pub mod GoalLemmas
 pub mod GrowLemmas
 pub mod KeptLemmas
 pub mod LeastLemmas
+pub mod MovedLemmas
 pub mod NeedLemmas
 pub mod RowLemmas
+pub mod SizeLemmas
 pub mod TwiceLemmas

@@ -1,15 +1,15 @@
 -- Layouts that differ in the bytes of `__unwind_info` alone.
-use Rattle.std.proofs.Common.{◌≡◌, ◌≢◌, ℕ, zero, suc, ◌+◌, ◌-◌, ◌*◌, ◌<◌, ◌≤◌, ◌==◌, ◌⊎◌, ◌++◌, Bool, true, false, List, [], ◌∷◌, length, map, codes, Contains, refl, sym, ap, ap₂, subst, ◌∙◌, inl, inr, arith, if◌then◌else◌, append_assoc, length-append}
+use Rattle.std.proofs.Common.{◌≡◌, ◌≢◌, ℕ, suc, ◌+◌, ◌-◌, ◌*◌, ◌<◌, ◌==◌, ◌⊎◌, ◌++◌, true, false, List, [], ◌∷◌, length, codes, Contains, refl, sym, ap, subst, ◌∙◌, inl, inr, arith, append_assoc, length-append}
 use Rattle.std.specs.List.{AllByRecursion, AllPairs, filter, flat_map}
 use Rattle.std.proofs.lemmas.Bool.{cases_Bool, eqb-true}
 use Rattle.std.proofs.lemmas.List.{append-nil}
-use Rattle.list_lemmas.proofs.Members.{In, Contains_from_in, all_in, from_filter, from_flat, in_either, in_from_Contains, in_left, in_map, in_right}
+use Rattle.list_lemmas.proofs.Members.{In, Contains_from_in, all_in, from_filter, from_flat, in_either, in_from_Contains, in_left, in_map}
 use Rattle.command_line.specs.declared.command.Command.{Command}
 use Rattle.mo_types.specs.declared.atom.Atom.{Atom}
 use Rattle.mo_types.specs.declared.key.AtomKey.{AtomKey}
 use Rattle.mo_types.specs.declared.out_section.OutSection.{OutSection}
 use Rattle.sect_list.specs.OutSections.{is_in}
-use Rattle.sect_place.specs.Arrangement.{MadeBytes, chosen, constant_parts, group_named, groups_of, is_chosen, own, parts_count, runs, section_of, text_parts, with_atoms, writable_parts}
+use Rattle.sect_place.specs.Arrangement.{MadeBytes, chosen, constant_parts, groups_of, is_chosen, own, parts_count, section_of, text_parts, writable_parts}
 use Rattle.sect_place.specs.Layout.{Plan, base_of, image_places, image_sections, lead_of, made_bytes, others_of, plan_of}
 use Rattle.sect_place.specs.Places.{area_unit, file_bytes, group_end, groups_places, groups_sections, page_up, part_end, part_from, parts_end, parts_places, parts_sections, placed_section, places, spaced}
 use Rattle.sect_place.specs.declared.island.IslandArea.{IslandArea}
@@ -19,31 +19,29 @@ use Rattle.sect_place.specs.declared.layout.PlacedSection.{PlacedSection}
 use Rattle.sect_place.specs.declared.part.Choice.{Choice}
 use Rattle.sect_place.specs.declared.part.Choice.TheVariants.{Code, BesideCode}
 use Rattle.sect_place.specs.declared.part.Group.{Group}
-use Rattle.sect_place.specs.declared.part.Made.{Made}
 use Rattle.sect_place.specs.declared.part.Made.TheVariants.{Stubs, UnwindInfo}
 use Rattle.sect_place.specs.declared.part.Part.{Part}
 use Rattle.sect_place.proofs.Fitting.{later_all}
 use Rattle.sect_place.proofs.Moving.{text_choice}
-use Rattle.sect_place.proofs.Planned.{text_ends}
 use Rattle.sect_place.proofs.Positions.{chosen_is, chosen_there, from_pairs, group_keys, groups_keys, kept_listed, one_choice}
 use Rattle.sect_place.proofs.Sound.{groups_split, later_groups}
 use Rattle.slot_plan.specs.declared.list.Slots.{Slots}
 use Rattle.tlv_plan.specs.Template.{atoms_of, end_of, keys_of, stand}
-use Rattle.unwind_link.specs.Twice.{AreAlikeBefore, AreBehindText, Stands, info_at, with_unwind}
+use Rattle.unwind_link.specs.Twice.{AreAlikeBefore, AreBehindText, info_at, with_unwind}
 
 -- ---- the sections of `__TEXT`
 
 -- all but `__unwind_info`
-abbrev before_info : List OutSection → ℕ → List Part
+abbrev pub before_info : List OutSection → ℕ → List Part
 before_info sections stubs = (chosen Code sections ++ own Stubs stubs) ++ chosen BesideCode sections
 
-abbrev info : ℕ → Part
+abbrev pub info : ℕ → Part
 info bytes = record { section = section_of UnwindInfo; fixed = bytes }
 
 own_some : (bytes : ℕ) → 0 < bytes → own UnwindInfo bytes ≡ info bytes ∷ []
 own_some bytes some = elim (cases_Bool (bytes == 0)) [ inl none ↦ absurd (omega (arith, eqb-true bytes 0 none, some)) | inr away ↦ rw away refl ]
 
-text_is : (sections : List OutSection) (bytes : MadeBytes) → 0 < bytes.unwind → text_parts sections bytes ≡ before_info sections bytes.stubs ++ info bytes.unwind ∷ []
+pub text_is : (sections : List OutSection) (bytes : MadeBytes) → 0 < bytes.unwind → text_parts sections bytes ≡ before_info sections bytes.stubs ++ info bytes.unwind ∷ []
 unfolding text_parts
 text_is sections bytes some = ap (λ (parts : List Part). before_info sections bytes.stubs ++ parts) (own_some bytes.unwind some)
 
@@ -175,7 +173,7 @@ all_away sections bytes =
     later_all (λ (group : Group). AllByRecursion IsAway group.parts) IsAway sections bytes
     (λ name parts all. all) (λ fixed. refl) (λ fixed. refl) (λ choice section h is code beside. away_section section choice is code beside)
 
-both : {X : Type 0} (P : X → Type 0) (xs ys : List X) → AllByRecursion P xs → AllByRecursion P ys → AllByRecursion P (xs ++ ys)
+pub both : {X : Type 0} (P : X → Type 0) (xs ys : List X) → AllByRecursion P xs → AllByRecursion P ys → AllByRecursion P (xs ++ ys)
 both P [] ys p q = q
 both P (x ∷ xs) ys p q = (p.0, both P xs ys p.1 q)
 
@@ -200,7 +198,7 @@ same_count sections one other same some any =
     ∙ ap (λ (n : ℕ). length (before_info sections n) + 1) same
     ∙ sym (ap length (text_is sections other any) ∙ length-append (before_info sections other.stubs) (info other.unwind ∷ []))
 
-abbrev sized : Slots → ℕ → ℕ → MadeBytes
+abbrev pub sized : Slots → ℕ → ℕ → MadeBytes
 sized slots commands bytes = made_bytes slots (with_unwind commands bytes)
 
 same_lead : (sections : List OutSection) (slots : Slots) (command : Command) (commands few many : ℕ) → 0 < few → 0 < many

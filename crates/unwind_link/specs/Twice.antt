@@ -1,16 +1,21 @@
 -- Two layouts that differ in the bytes of `__unwind_info` alone (`loader.h`: section_64).
-use Rattle.std.specs.Prelude.{ℕ, ◌≡◌, List, ◌∷◌, ◌++◌, codes, false, Contains}
-use Rattle.std.specs.List.{AllByRecursion, filter}
+use Rattle.std.specs.Prelude.{ℕ, ◌≡◌, ◌≢◌, ◌<◌, List, ◌∷◌, ◌++◌, codes, false, All, Contains}
+use Rattle.std.specs.List.{AllByRecursion, AllPairs, filter}
+use Rattle.command_line.specs.declared.command.Command.{Command}
+use Rattle.mo_types.specs.declared.atom.Atom.{Atom}
 use Rattle.mo_types.specs.declared.key.AtomKey.{AtomKey}
 use Rattle.mo_types.specs.declared.out_section.OutSection.{OutSection}
+use Rattle.ref_meet.specs.Scene.{Scene}
 use Rattle.sect_list.specs.OutSections.{is_in}
 use Rattle.sect_place.specs.Arrangement.{section_of}
-use Rattle.sect_place.specs.Layout.{Plan, image_places, image_sections}
-use Rattle.sect_place.specs.declared.layout.Placed.{Placed}
+use Rattle.sect_place.specs.Layout.{IsLayoutOf, Plan, base_of, image_places, image_sections, plan_of}
+use Rattle.sect_place.specs.declared.island.IslandPlan.{IslandPlan}
+use Rattle.sect_place.specs.declared.layout.Layout.{Layout}
 use Rattle.sect_place.specs.declared.layout.PlacedSection.{PlacedSection}
 use Rattle.sect_place.specs.declared.part.Made.TheVariants.{UnwindInfo}
 use Rattle.sect_place.specs.declared.size.PlaceSizes.{PlaceSizes}
 use Rattle.tlv_plan.specs.Template.{keys_of}
+use Rattle.unwind_link.specs.declared.kept.KeptUnwind.{KeptUnwind}
 
 -- so many bytes of load commands and of `__unwind_info`
 abbrev pub with_unwind : ℕ → ℕ → PlaceSizes
@@ -41,3 +46,21 @@ pub record AreAlikeBefore (sections : List OutSection) (one other : Plan) (few m
   pub behind_too : AreBehindText others
   pub there : (key : AtomKey) (at : ℕ) → Contains (keys_of (filter (is_in (codes "__TEXT")) sections)) key → Stands one key at → Stands other key at
   pub back : (key : AtomKey) (at : ℕ) → Contains (keys_of (filter (is_in (codes "__TEXT")) sections)) key → Stands other key at → Stands one key at
+
+-- a scene with another layout
+abbrev pub placed_as : Layout → Scene → Scene
+placed_as layout scene = record scene { layout = layout }
+
+-- An image that is placed twice, in a scene with some bytes of `__unwind_info`, and with others by another layout. No atom is
+-- listed twice.
+pub record ArePlacedTwice (kept : List Atom) (sections : List OutSection) (islands : IslandPlan) (command : Command) (commands few many : ℕ) (scene : Scene) (other : Layout) : Type 0 where
+  pub some : 0 < few
+  pub more : 0 < many
+  pub once : AllPairs (λ (a : AtomKey) (b : AtomKey). a ≢ b) (keys_of sections)
+  pub base : scene.base ≡ base_of command
+  pub first : IsLayoutOf command (plan_of kept sections scene.slots islands (with_unwind commands few) command) scene.layout
+  pub second : IsLayoutOf command (plan_of kept sections scene.slots islands (with_unwind commands many) command) other
+
+-- entries of atoms of `__TEXT`
+abbrev pub AreOfText : List OutSection → List KeptUnwind → Type 0
+AreOfText sections entries = All (λ (entry : KeptUnwind). Contains (keys_of (filter (is_in (codes "__TEXT")) sections)) entry.unwind.atom) entries
