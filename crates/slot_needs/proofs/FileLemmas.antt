@@ -1,12 +1,12 @@
 -- What files need, reference by reference and file by file.
-use Rattle.std.proofs.Common.{◌≡◌, ℕ, zero, suc, ◌+◌, ◌<◌, ◌≤◌, inl, inr, List, [], ◌∷◌, ◌++◌, length, take, get_or, Option, Some, None, sym, ap, ◌∙◌, subst, arith}
+use Rattle.std.proofs.Common.{◌≡◌, ℕ, ◌+◌, ◌<◌, ◌≤◌, inl, inr, List, [], ◌∷◌, ◌++◌, length, take, get_or, Option, Some, None, sym, ap, ◌∙◌, subst, arith}
 use Rattle.std.specs.Prelude.{slice_get}
 use Rattle.std.specs.List.{enumerate_from, filter, filter_map, flat_map}
+use Rattle.std.specs.Option.{option_to_list}
 use Rattle.std.proofs.lemmas.Grind.{flat_map-append}
 use Rattle.std.proofs.lemmas.List.{append-nil, take_all, take_more}
 use Rattle.std.proofs.lemmas.List.Elements.{filter-append, filter_map-append}
 use Rattle.std.proofs.lemmas.List.FromFn.{get_or-enumerate_from, length-enumerate_from}
-use Rattle.std.proofs.lemmas.Option.{get_or_from_slice_get, slice_get_within}
 use Rattle.list_lemmas.proofs.Members.{in_from_Contains}
 use Rattle.literal_merge.specs.declared.representative.Representative.{Representative}
 use Rattle.mark_core.specs.Kept.{has as keeps}
@@ -15,6 +15,7 @@ use Rattle.mo_types.specs.declared.key.AtomKey.{AtomKey}
 use Rattle.mo_types.specs.declared.loaded.LoadedFile.{LoadedFile}
 use Rattle.mo_types.specs.declared.reference.Ref.{Ref}
 use Rattle.liveness.specs.Undefined.{kept_refs}
+use Rattle.liveness.proofs.GrowLemmas.{more_taken}
 use Rattle.slot_plan.specs.declared.need.Need.{Need}
 use Rattle.slot_needs.specs.Needs.{AreSame, entry_needs, need_of, needs, needs_at, needs_in}
 use Rattle.slot_needs.specs.inner.Gathered.{Adds, needs_among}
@@ -27,24 +28,13 @@ among-append literals keys goals rs qs =
     ap (filter_map (need_of literals goals)) (filter-append (λ (r : Ref). keeps keys r.atom) rs qs)
     ∙ filter_map-append (need_of literals goals) (filter (λ r. keeps keys r.atom) rs) (filter (λ r. keeps keys r.atom) qs)
 
-one_more : {X : Type 0} (xs : List X) (at : ℕ) (x : X) → slice_get xs at ≡ Some x → take (at + 1) xs ≡ take at xs ++ x ∷ []
-one_more xs at x is = take_more xs at x (slice_get_within xs at x is) ∙ ap (λ y. take at xs ++ y ∷ []) (get_or_from_slice_get xs at x x is)
-
 pub file_starts : (literals : List Representative) (keys : List AtomKey) (goals : List Goal) (refs : List Ref) (before : List Need) → Adds before (needs_among literals keys goals (take 0 refs)) before
 file_starts literals keys goals refs before = adds_none before
 
-pub file_goes_on : (literals : List Representative) (keys : List AtomKey) (goals : List Goal) (refs : List Ref) (at : ℕ) (r : Ref) (before now next : List Need) → Adds before (needs_among literals keys goals (take at refs)) now → slice_get refs at ≡ Some r → Adds now (needs_among literals keys goals (r ∷ [])) next → Adds before (needs_among literals keys goals (take (at + 1) refs)) next
-file_goes_on literals keys goals refs at r before now next so is one =
-    subst (λ ns. Adds before ns next) (sym (ap (needs_among literals keys goals) (one_more refs at r is) ∙ among-append literals keys goals (take at refs) (r ∷ [])))
-    (adds_then before (needs_among literals keys goals (take at refs)) now (needs_among literals keys goals (r ∷ [])) next so one)
-
-pub never_past : {X : Type 0} (P : Type 0) (xs : List X) (at : ℕ) → at < length xs → slice_get xs at ≡ None → P
-never_past {X = X} P xs at low none = by xs at low none
-  where
-    by : (ys : List X) (k : ℕ) → k < length ys → slice_get ys k ≡ None → P
-    by [] k less e = absurd (omega (arith, less))
-    by (y ∷ ys) zero less e = absurd cc
-    by (y ∷ ys) (suc k) less e = by ys k (omega (arith, less)) e
+pub file_goes_on : (literals : List Representative) (keys : List AtomKey) (goals : List Goal) (refs : List Ref) (at : ℕ) (before now next : List Need) → Adds before (needs_among literals keys goals (take at refs)) now → Adds now (needs_among literals keys goals (option_to_list (slice_get refs at))) next → Adds before (needs_among literals keys goals (take (at + 1) refs)) next
+file_goes_on literals keys goals refs at before now next so one =
+    subst (λ ns. Adds before ns next) (sym (ap (needs_among literals keys goals) (more_taken refs at) ∙ among-append literals keys goals (take at refs) (option_to_list (slice_get refs at))))
+    (adds_then before (needs_among literals keys goals (take at refs)) now (needs_among literals keys goals (option_to_list (slice_get refs at))) next so one)
 
 pub file_ends : (literals : List Representative) (keys : List AtomKey) (goals : List Goal) (file : LoadedFile) (at : ℕ) (before now : List Need) → Adds before (needs_among literals keys goals (take at file.refs)) now → length file.refs ≤ at → Adds before (needs_in literals keys goals file) now
 unfolding kept_refs

@@ -2,7 +2,7 @@
 use Rattle.std.proofs.Common.{◌≡◌, ◌≢◌, ℕ, ◌+◌, ◌<◌, ◌≤◌, ◌⊎◌, inl, inr, Bool, true, false, All, List, [], ◌∷◌, ◌++◌, length, take, map, fold, get_or, Option, Some, None, refl, sym, ap, subst, ◌∙◌, arith, ◌&&◌, if◌then◌else◌}
 use Rattle.std.specs.Prelude.{MatchOption, slice_get}
 use Rattle.std.specs.List.{enumerate_from, filter, flat_map, list_any}
-use Rattle.std.specs.Option.{option_map, option_map_or}
+use Rattle.std.specs.Option.{option_map, option_map_or, option_to_list}
 use Rattle.std.specs.Ordering.{is_lt, ordering_reverse}
 use Rattle.std.specs.Cmp.{IsTotalOrder}
 use Rattle.std.specs.declared.cmp.Ordering.{Ordering}
@@ -17,6 +17,7 @@ use Rattle.std.proofs.lemmas.List.FromFn.{get_or-enumerate_from, length-enumerat
 use Rattle.std.proofs.lemmas.Option.{get_or_from_slice_get, slice_get-map, slice_get_within}
 use Rattle.list_lemmas.proofs.Members.{In, Contains_from_in, in_from_Contains}
 use Rattle.liveness.specs.Undefined.{targets_of}
+use Rattle.liveness.proofs.GrowLemmas.{more_taken}
 use Rattle.mo_types.specs.declared.goal.Goal.{Goal}
 use Rattle.mo_types.specs.declared.key.AtomKey.{AtomKey}
 use Rattle.mo_types.specs.declared.loaded.LoadedFile.{LoadedFile}
@@ -31,19 +32,25 @@ use Rattle.slot_needs.specs.declared.unmet.Unmet.{Unmet}
 
 -- ---- the references of a file
 
-one_more : {X : Type 0} (xs : List X) (at : ℕ) (x : X) → slice_get xs at ≡ Some x → take (at + 1) xs ≡ take at xs ++ x ∷ []
-one_more xs at x is = take_more xs at x (slice_get_within xs at x is) ∙ ap (λ y. take at xs ++ y ∷ []) (get_or_from_slice_get xs at x x is)
-
 among-append : (keys : List AtomKey) (goals : List Goal) (file : ℕ) (rs qs : List Ref) → unmet_among keys goals file (rs ++ qs) ≡ unmet_among keys goals file rs ++ unmet_among keys goals file qs
 among-append keys goals file rs qs =
     ap (map (unmet_by file)) (filter-append (is_kept_unmet keys goals) rs qs)
     ∙ map-append (unmet_by file) (filter (is_kept_unmet keys goals) rs) (filter (is_kept_unmet keys goals) qs)
 
-pub refs_go_on : (keys : List AtomKey) (goals : List Goal) (file : ℕ) (refs : List Ref) (at : ℕ) (r : Ref) (least now next : Option Unmet) → now ≡ fold lesser least (unmet_among keys goals file (take at refs)) → slice_get refs at ≡ Some r → next ≡ fold lesser now (unmet_among keys goals file (r ∷ [])) → next ≡ fold lesser least (unmet_among keys goals file (take (at + 1) refs))
-refs_go_on keys goals file refs at r least now next so is one =
-    one ∙ ap (λ (o : Option Unmet). fold lesser o (unmet_among keys goals file (r ∷ []))) so
-    ∙ sym (fold-append lesser least (unmet_among keys goals file (take at refs)) (unmet_among keys goals file (r ∷ [])))
-    ∙ ap (fold lesser least) (sym (ap (unmet_among keys goals file) (one_more refs at r is) ∙ among-append keys goals file (take at refs) (r ∷ [])))
+pub refs_go_on : (keys : List AtomKey) (goals : List Goal) (file : ℕ) (refs : List Ref) (at : ℕ) (least now next : Option Unmet) → now ≡ fold lesser least (unmet_among keys goals file (take at refs)) → next ≡ fold lesser now (unmet_among keys goals file (option_to_list (slice_get refs at))) → next ≡ fold lesser least (unmet_among keys goals file (take (at + 1) refs))
+refs_go_on keys goals file refs at least now next so one =
+    let here = option_to_list (slice_get refs at) in
+    one ∙ ap (λ (o : Option Unmet). fold lesser o (unmet_among keys goals file here)) so
+    ∙ sym (fold-append lesser least (unmet_among keys goals file (take at refs)) (unmet_among keys goals file here))
+    ∙ ap (fold lesser least) (sym (ap (unmet_among keys goals file) (more_taken refs at) ∙ among-append keys goals file (take at refs) here))
+
+-- where the next one isn't such a one
+pub refs_pass_over : (keys : List AtomKey) (goals : List Goal) (file : ℕ) (refs : List Ref) (at : ℕ) (least now : Option Unmet) → now ≡ fold lesser least (unmet_among keys goals file (take at refs)) → option_map_or (is_unmet goals) (slice_get refs at) false ≡ false → now ≡ fold lesser least (unmet_among keys goals file (take (at + 1) refs))
+refs_pass_over keys goals file refs at least now so none = refs_go_on keys goals file refs at least now now so (by (slice_get refs at) none)
+  where
+    by : (o : Option Ref) → option_map_or (is_unmet goals) o false ≡ false → now ≡ fold lesser now (unmet_among keys goals file (option_to_list o))
+    by None none = refl
+    by (Some r) none = rw none refl
 
 pub refs_end : (keys : List AtomKey) (goals : List Goal) (file : ℕ) (refs : List Ref) (at : ℕ) (least now : Option Unmet) → now ≡ fold lesser least (unmet_among keys goals file (take at refs)) → length refs ≤ at → now ≡ fold lesser least (unmet_among keys goals file refs)
 refs_end keys goals file refs at least now so past = so ∙ ap (λ (rs : List Ref). fold lesser least (unmet_among keys goals file rs)) (take_all at refs past)

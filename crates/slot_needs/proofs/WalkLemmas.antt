@@ -84,7 +84,7 @@ pub goal_there : (pool shown : List Goal) (place : ℕ) (goal : Goal) → shown 
 goal_there pool shown place goal same within is =
     ap (λ (o : Option Goal). unwrap_or o Nobody) (slice_get-get_or pool place goal within) ∙ sym (is ∙ ap (λ (gs : List Goal). get_or gs place goal) same)
 
-pub ruleset one = (of_kept, of_dead, of_known, there)
+pub ruleset one = (of_kept, of_dead)
 
 -- ---- the place of a symbol's goal
 
@@ -126,7 +126,7 @@ adds_nothing literals keys goals r goal before is by =
 pub adds_never : (literals : List Representative) (keys : List AtomKey) (goals : List Goal) (r : Ref) (before : List Need) → ((addend : ℤ) (goal : Goal) → way_of r.kind addend goal ≡ None) → Adds before (needs_among literals keys goals (r ∷ [])) before
 adds_never literals keys goals r before never = adds_nothing literals keys goals r (target_goal literals goals r.target) before refl (never r.addend (target_goal literals goals r.target))
 
-pub ruleset refs = (adds_some, adds_nothing, adds_never)
+pub ruleset refs = (adds_some, adds_nothing)
 
 -- ---- the entry
 

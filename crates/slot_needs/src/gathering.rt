@@ -54,6 +54,7 @@ impl<'a> Gathering<'a> {
     }
 
     /// All goals of the pool.
+    #[inline(always)]
     pub(crate) fn pool(&self) -> &'a [Goal]
         ensures { result.now ≡ self.now.pool }
     {
@@ -62,6 +63,7 @@ impl<'a> Gathering<'a> {
 
     /// Whether the goal at a place of the pool was needed in a way; `false` is no news.
     #[tactic(auto, using(crate::proofs::GatheringLemmas::noted))]
+    #[inline(always)]
     pub(crate) fn has(&self, place: usize, way: Way) -> bool
         ensures { result ≡ true → (goal : Goals) → slice_get self.now.pool place ≡ Some goal → Contains self.now.needs (need goal way) }
     {

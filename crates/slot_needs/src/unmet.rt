@@ -1,7 +1,8 @@
 //! The first reference that tells an address which another image has.
-ghost use Rattle.std.specs.Prelude.{◌≡◌, ◌∷◌, [], fold, slice_get};
+ghost use Rattle.std.specs.Prelude.{◌≡◌, ◌∷◌, [], false, fold, slice_get};
 ghost use Rattle.std.specs.List.{list_any};
 ghost use Rattle.std.specs.List.Sorted.{IsStrictlySortedBy};
+ghost use Rattle.std.specs.Option.{option_map_or, option_to_list};
 ghost use Rattle.std.specs.Ordering.{is_lt};
 ghost use Rattle.liveness.specs.Undefined.{targets_of};
 ghost use Rattle.mo_types.specs.Keys.{compare_keys};
@@ -25,6 +26,7 @@ pub struct Unmet {
 }
 
 // Whether a reference tells an address itself.
+#[inline(always)]
 fn tells_address(reference: &Ref) -> bool
     ensures { result ≡ spec.tells_address reference.now.kind reference.now.addend }
 {
@@ -37,6 +39,7 @@ fn tells_address(reference: &Ref) -> bool
 }
 
 // Whether a target leads to another image.
+#[inline(always)]
 fn leads_out(goals: &FileGoals, target: Target) -> bool
     ensures { result ≡ spec.leads_out (file_goals goals.now) target }
 {
@@ -50,6 +53,7 @@ fn leads_out(goals: &FileGoals, target: Target) -> bool
 }
 
 // Whether one of a reference's targets does.
+#[inline(always)]
 fn any_leads_out(goals: &FileGoals, reference: &Ref) -> bool
     ensures { result ≡ list_any (spec.leads_out (file_goals goals.now)) (targets_of reference.now.target reference.now.minus) }
 {
@@ -63,6 +67,7 @@ fn any_leads_out(goals: &FileGoals, reference: &Ref) -> bool
 }
 
 #[tactic(auto, unfolding(crate::specs::Unmet::is_unmet))]
+#[inline(always)]
 fn is_unmet(goals: &FileGoals, reference: &Ref) -> bool
     ensures { result ≡ spec.is_unmet (file_goals goals.now) reference.now }
 {
@@ -108,6 +113,36 @@ fn with_ref(
     least
 }
 
+// Whether the reference at a place of a file's list is such a one. All are asked, and few are: it reads no more of one than
+// that takes.
+#[inline(always)]
+fn is_unmet_at(goals: &FileGoals, refs: &RefList, at: usize) -> bool
+    ensures { result ≡ option_map_or (spec.is_unmet (file_goals goals.now)) (slice_get refs.now at) false }
+{
+    match refs.get(at) {
+        Some(reference) => is_unmet(goals, &reference),
+        None => false,
+    }
+}
+
+// The least with the reference at a place of the list of the file at a place.
+fn with_next(
+    least: Option<Unmet>,
+    keys: &[AtomKey],
+    goals: &FileGoals,
+    file: usize,
+    refs: &RefList,
+    at: usize,
+) -> Option<Unmet>
+    requires { IsStrictlySortedBy compare_keys keys.now }
+    ensures { result ≡ fold lesser least (spec.unmet_among keys.now (file_goals goals.now) file (option_to_list (slice_get refs.now at))) }
+{
+    match refs.get(at) {
+        Some(reference) => with_ref(least, keys, goals, file, reference),
+        None => least,
+    }
+}
+
 // The least with the references of the file at a place.
 fn with_refs(
     least: Option<Unmet>,
@@ -121,9 +156,8 @@ fn with_refs(
 {
     let mut now = least;
     for at in 0..refs.len() {
-        match refs.get(at) {
-            Some(reference) => now = with_ref(now, keys, goals, file, reference),
-            None => {}
+        if is_unmet_at(goals, refs, at) {
+            now = with_next(now, keys, goals, file, refs, at);
         }
     }
     now

@@ -1,9 +1,10 @@
 //! The needs of references, file by file.
-ghost use Rattle.std.specs.Prelude.{◌≡◌, ◌<◌, ◌∷◌, [], List, IfOk, IfSome, length};
-ghost use Rattle.std.specs.Option.{option_map};
+ghost use Rattle.std.specs.Prelude.{◌≡◌, ◌<◌, ◌∷◌, [], List, IfOk, IfSome, IsTrue, length, slice_get};
+ghost use Rattle.std.specs.Option.{option_map, option_to_list};
 ghost use Rattle.std.specs.List.Sorted.{IsStrictlySortedBy};
 ghost use Rattle.mo_types.specs.Keys.{compare_keys};
 ghost use Rattle.mo_types.specs.declared.goal.Goal.{Goal as Goals};
+ghost use Rattle.mo_types.specs.declared.key.AtomKey.{AtomKey as AtomKeys};
 ghost use Rattle.literal_merge.specs.declared.representative.Representative.{Representative};
 ghost use Rattle.resolve.specs.Goals.{target_goal};
 ghost use Rattle.resolve.specs.Table.{file_goals, goal_in};
@@ -15,7 +16,7 @@ use crate::gathering::Gathering;
 use crate::referring::Referring;
 use crate::ways::{is_outer, needs_nothing, way_of};
 use mark_core::is_kept;
-use mo_types::{AtomKey, Goal, LoadedFile, OutOfMemory, Ref, Target};
+use mo_types::{AtomKey, Goal, LoadedFile, OutOfMemory, Ref, RefList, Target};
 use resolve::{FileGoals, goal_of};
 use slot_plan::{NeedList, Way};
 use std::alloc::Global;
@@ -41,7 +42,7 @@ fn note_goal<'a>(
     }
 }
 
-// The same of the goal at a place of the pool. Whether the atom is kept is asked only where the goal wasn't needed so before.
+// The same of the goal at a place of the pool.
 #[tactic(auto, using(crate::proofs::WalkLemmas::one))]
 fn note_place<'a>(
     before: Gathering<'a>,
@@ -55,9 +56,6 @@ fn note_place<'a>(
     ensures pool { IfOk result (λ after. after.pool ≡ before.entry.pool) }
     ensures needs { IfOk result (λ after. Adds before.entry.needs (kept_need keys.now reference.now (need (goal_in before.entry.pool place) way)) after.needs) }
 {
-    if before.has(place, way) {
-        return Ok(before);
-    }
     if !is_kept(keys, reference.atom) {
         return Ok(before);
     }
@@ -66,6 +64,7 @@ fn note_place<'a>(
 
 // The place in the pool of the goal to which a target goes, where it goes to a symbol of its file.
 #[tactic(auto, using(crate::proofs::WalkLemmas::places))]
+#[inline(always)]
 fn place_of(goals: &FileGoals, target: Target) -> Option<usize>
     ensures within { IfSome result (λ place. place < length goals.now.pool) }
     ensures goal { (literals : List Representative)
@@ -134,12 +133,75 @@ fn note_ref<'a>(
     ensures needs { IfOk result (λ after.
         Adds before.entry.needs (needs_among symbols.now.literals keys.now (file_goals goals.now) (reference.now ∷ [])) after.needs) }
 {
-    if needs_nothing(reference.kind) {
-        return Ok(before);
-    }
     match place_of(goals, reference.target) {
         Some(place) => note_named(before, keys, reference, place),
         None => note_other(before, keys, goals, symbols, reference),
+    }
+}
+
+// Whether a reference, whose goal stands at a place of the pool, needs nothing that wasn't needed before; `false` is no news.
+#[inline(always)]
+fn is_noted(now: &Gathering, reference: &Ref, place: usize) -> bool
+    requires place { place < length now.now.pool }
+    ensures { IsTrue result → (literals : List Representative) (keys : List AtomKeys) (goals : List Goals)
+        → target_goal literals goals reference.now.target ≡ goal_in now.now.pool place
+        → Adds now.now.needs (needs_among literals keys goals (reference.now ∷ [])) now.now.needs }
+{
+    match way_of(reference, &now.pool()[place]) {
+        Some(way) => now.has(place, way),
+        None => true,
+    }
+}
+
+// Whether a reference needs nothing that wasn't needed before; `false` is no news. Whether its atom is kept, which takes a
+// search, isn't asked.
+#[inline(always)]
+fn is_settled(now: &Gathering, goals: &FileGoals, reference: &Ref) -> bool
+    requires pool { now.now.pool ≡ goals.now.pool }
+    ensures { IsTrue result → (literals : List Representative) (keys : List AtomKeys)
+        → Adds now.now.needs (needs_among literals keys (file_goals goals.now) (reference.now ∷ [])) now.now.needs }
+{
+    if needs_nothing(reference.kind) {
+        return true;
+    }
+    match place_of(goals, reference.target) {
+        Some(place) => is_noted(now, reference, place),
+        None => false,
+    }
+}
+
+// The same of the reference at a place of a file's list. All are asked, and most need nothing new: it reads no more of one
+// than that takes.
+#[inline(always)]
+fn is_settled_at(now: &Gathering, goals: &FileGoals, refs: &RefList, at: usize) -> bool
+    requires pool { now.now.pool ≡ goals.now.pool }
+    ensures { IsTrue result → (literals : List Representative) (keys : List AtomKeys)
+        → Adds now.now.needs (needs_among literals keys (file_goals goals.now) (option_to_list (slice_get refs.now at))) now.now.needs }
+{
+    match refs.get(at) {
+        Some(reference) => is_settled(now, goals, &reference),
+        None => true,
+    }
+}
+
+// With what the reference at a place of a file's list needs.
+fn note_next<'a>(
+    before: Gathering<'a>,
+    keys: &[AtomKey],
+    goals: &FileGoals,
+    symbols: &SymbolTable,
+    refs: &RefList,
+    at: usize,
+) -> Result<Gathering<'a>, OutOfMemory>
+    requires keys { IsStrictlySortedBy compare_keys keys.now }
+    requires pool { before.pool ≡ goals.now.pool }
+    ensures pool { IfOk result (λ after. after.pool ≡ before.entry.pool) }
+    ensures needs { IfOk result (λ after.
+        Adds before.entry.needs (needs_among symbols.now.literals keys.now (file_goals goals.now) (option_to_list (slice_get refs.now at))) after.needs) }
+{
+    match refs.get(at) {
+        Some(reference) => note_ref(before, keys, goals, symbols, &reference),
+        None => Ok(before),
     }
 }
 
@@ -159,9 +221,8 @@ fn note_file<'a>(
 {
     let mut now = before;
     for at in 0..file.refs.len() {
-        match file.refs.get(at) {
-            Some(reference) => now = note_ref(now, keys, goals, symbols, &reference)?,
-            None => {}
+        if !is_settled_at(&now, goals, &file.refs, at) {
+            now = note_next(now, keys, goals, symbols, &file.refs, at)?;
         }
     }
     Ok(now)

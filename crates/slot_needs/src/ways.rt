@@ -9,6 +9,7 @@ use mo_types::{Goal, Ref, RefKind};
 use slot_plan::Way;
 
 // Whether the loader finds a goal by its name, maybe in another image.
+#[inline(always)]
 fn is_looked_up(goal: &Goal) -> bool
     ensures { result ≡ reaches.is_looked_up goal.now }
 {
@@ -26,6 +27,7 @@ pub(crate) fn is_outer(goal: &Goal) -> bool
 }
 
 // Whether nothing is added to a reference's goal.
+#[inline(always)]
 fn adds_nothing(reference: &Ref) -> bool
     ensures { result ≡ reaches.is_zero reference.now.addend }
 {
@@ -34,6 +36,7 @@ fn adds_nothing(reference: &Ref) -> bool
 }
 
 // How a branch needs its goal.
+#[inline(always)]
 fn branch_way(reference: &Ref, goal: &Goal) -> Option<Way>
     ensures { result ≡ spec.branch_way reference.now.addend goal.now }
 {
@@ -45,6 +48,7 @@ fn branch_way(reference: &Ref, goal: &Goal) -> Option<Way>
 }
 
 /// How a reference needs its goal, where it needs more than the goal's own address.
+#[inline(always)]
 pub(crate) fn way_of(reference: &Ref, goal: &Goal) -> Option<Way>
     ensures { result ≡ spec.way_of reference.now.kind reference.now.addend goal.now }
 {
@@ -60,6 +64,7 @@ pub(crate) fn way_of(reference: &Ref, goal: &Goal) -> Option<Way>
 }
 
 /// Whether a reference of a kind needs no more than its goal's own address, whatever that is.
+#[inline(always)]
 pub(crate) fn needs_nothing(kind: RefKind) -> bool
     ensures { result ≡ true → (addend : ℤ) (goal : Goals) → spec.way_of kind addend goal ≡ None }
 {
@@ -86,6 +91,7 @@ pub(crate) const NO_WAY: Ways = Ways {
 
 impl Ways {
     /// Whether a way is among them.
+    #[inline(always)]
     pub(crate) fn has(self, way: Way) -> bool
         ensures { result ≡ has self way }
     {
