@@ -10,3 +10,4 @@ pub mod RowLemmas
 pub mod MetLemmas
 pub mod FixupLemmas
 pub mod BindLemmas
+pub mod PointerLemmas

@@ -18,7 +18,7 @@ orders_start files orders none = record {
 }
 
 -- the last of a list, or one before it
-last_or : {X : Type 0} (xs : List X) (x y : X) (at : ℕ) → slice_get (xs ++ x ∷ []) at ≡ Some y → ((at ≡ length xs) × (y ≡ x)) ⊎ (slice_get xs at ≡ Some y)
+pub last_or : {X : Type 0} (xs : List X) (x y : X) (at : ℕ) → slice_get (xs ++ x ∷ []) at ≡ Some y → ((at ≡ length xs) × (y ≡ x)) ⊎ (slice_get xs at ≡ Some y)
 last_or [] x y zero e = inl (refl, cc)
 last_or [] x y (suc at) e = absurd cc
 last_or (z ∷ xs) x y zero e = inr e

@@ -1,9 +1,9 @@
 -- The addresses of goals modulo 2^64, which are those of near ones.
-use Rattle.std.proofs.Common.{◌≡◌, ℕ, ◌+◌, ◌*◌, ◌<◌, ◌≤◌, ◌^◌, All, List, [], ◌∷◌, ◌++◌, length, map, take, get_or, refl, sym, ap, ◌∙◌, subst, arith, mul-le-mul_left, Option, Some, None}
+use Rattle.std.proofs.Common.{◌≡◌, ℕ, ◌+◌, ◌*◌, ◌==◌, ◌<◌, ◌≤◌, ◌^◌, ◌⊎◌, inl, inr, All, IfSome, List, [], ◌∷◌, ◌++◌, length, get_or, refl, sym, ap, ◌∙◌, subst, arith, length-append, mul-le-mul_left, Option, Some, None}
 use Rattle.std.specs.Prelude.{slice_get, unwrap_or}
 use Rattle.std.specs.Option.{option_and_then, option_map, option_map_or}
 use Rattle.std.proofs.Math.Nat.{mod-eq_of_lt}
-use Rattle.std.proofs.lemmas.List.{get_or-map, map-append, take_all, take_more}
+use Rattle.std.proofs.lemmas.Bool.{cases_Bool}
 use Rattle.std.proofs.lemmas.Option.{get_or_from_slice_get, slice_get_within}
 use Rattle.std.proofs.lemmas.List.Quantifiers.{position-Some}
 use Rattle.std.specs.Ordering.{is_eq}
@@ -22,13 +22,15 @@ use Rattle.literal_merge.specs.declared.representative.Representative.{Represent
 use Rattle.sect_place.specs.Addresses.{address_in}
 use Rattle.sect_place.specs.declared.layout.Placed.{Placed}
 use Rattle.slot_place.specs.Places.{HasRoom, HaveRoom, address_from, number_of, slot_address, starts_of, unit_at}
+use Rattle.slot_place.specs.declared.places.SlotStarts.{SlotStarts}
 use Rattle.slot_plan.specs.declared.need.Way.{Way}
 use Rattle.slot_plan.specs.declared.need.Way.TheVariants.{Got, Stub, Tlv}
 use Rattle.ref_meet.specs.Addresses.{AreLowPlaces, address_by, goal_address, place_address}
 use Rattle.ref_meet.specs.Near.{HasNearEnds, HaveNearEnds, IsNear, IsNearTarget}
 use Rattle.ref_meet.specs.Ready.{IsSound}
 use Rattle.ref_meet.specs.Scene.{Scene, goal_of, goals_at}
-use Rattle.ref_meet.specs.inner.Told.{place_by, places_told, told, told_by}
+use Rattle.ref_meet.proofs.OrderLemmas.{last_or}
+use Rattle.ref_meet.specs.inner.Told.{ArePlaces, AreTold, known, place_by, told, told_by}
 use Rattle.ref_meet.specs.declared.places.GoalPlaces.{GoalPlaces}
 
 pub told_is : (n m : ℕ) → n < 2 ^ 64 → n ≡ m → Some n ≡ Some (told m)
@@ -125,39 +127,93 @@ goals_near goals at some near is = subst (λ (gs : List Goal). All IsNear gs) (s
     by None e = λ k d low. absurd (omega (arith, low))
     by (Some here) e = at_slice (All IsNear) goals at here near e
 
+-- ---- what is known of a goal
+
+if_known : (n : ℕ) (P : ℕ → Type 0) → P n → IfSome (known n) P
+if_known n P so = elim (cases_Bool (n == 0)) [
+  | inl none ↦ rw none tt
+  | inr some ↦ rw some so
+]
+
+known_weaker : (n : ℕ) (P Q : ℕ → Type 0) → ((address : ℕ) → P address → Q address) → IfSome (known n) P → IfSome (known n) Q
+known_weaker n P Q each = by (known n)
+  where
+    by : (o : Option ℕ) → IfSome o P → IfSome o Q
+    by None so = tt
+    by (Some address) so = each address so
+
+-- the address of a goal's slot by its number
+pub slot_known : (unit start number : ℕ) (goals : List Goal) (goal : Goal) → Some number ≡ number_of goals goal → IfSome (known (start + unit * number)) (λ address. address_from unit (Some start) goals goal ≡ Some address)
+unfolding address_from
+slot_known unit start number goals goal is =
+    if_known (start + unit * number) (λ address. address_from unit (Some start) goals goal ≡ Some address)
+    (ap (option_and_then (λ number. option_map (λ at. unit_at unit at number) (Some start))) (sym is))
+
+-- none
+pub none_known : (P : ℕ → Type 0) → IfSome (known 0) P
+none_known P = tt
+
+-- the goal's own
+pub own_known : (scene : Scene) (goal : Goal) (found : Option ℕ) → found ≡ told_by scene None goal → IfSome (known (unwrap_or found 0)) (λ address. told_by scene None goal ≡ Some address)
+own_known scene goal None is = tt
+own_known scene goal (Some address) is = if_known address (λ address. told_by scene None goal ≡ Some address) (sym is)
+
+slot_told : (scene : Scene) (way : Way) (goal : Goal) (n : ℕ) → IsSound scene → IfSome (known n) (λ address. slot_address (starts_of scene.layout.sections) scene.slots way goal ≡ Some address) → IfSome (known n) (λ address. told_by scene (Some way) goal ≡ Some address)
+unfolding told_by address_by
+slot_told scene way goal n sound = known_weaker n _ _ (λ address is. exact_slot scene way goal sound.room ∙ is)
+
+pub places_so : (scene : Scene) (starts : SlotStarts) (goal : Goal) (places : GoalPlaces) → IsSound scene → starts ≡ starts_of scene.layout.sections
+    → IfSome (known places.own) (λ address. told_by scene None goal ≡ Some address)
+    → IfSome (known places.got) (λ address. address_from 8 starts.got scene.slots.got goal ≡ Some address)
+    → IfSome (known places.stub) (λ address. address_from 12 starts.stubs scene.slots.stubs goal ≡ Some address)
+    → IfSome (known places.tlv) (λ address. address_from 8 starts.tlv scene.slots.tlv goal ≡ Some address)
+    → ArePlaces scene goal places
+places_so scene starts goal places sound at own got stub tlv = record { by = by }
+  where
+    by : (way : Option Way) → IfSome (known (place_by places way)) (λ address. told_by scene way goal ≡ Some address)
+    by None = own
+    by (Some Got) = slot_told scene Got goal places.got sound (subst (λ (s : SlotStarts). IfSome (known places.got) (λ address. slot_address s scene.slots Got goal ≡ Some address)) at got)
+    by (Some Stub) = slot_told scene Stub goal places.stub sound (subst (λ (s : SlotStarts). IfSome (known places.stub) (λ address. slot_address s scene.slots Stub goal ≡ Some address)) at stub)
+    by (Some Tlv) = slot_told scene Tlv goal places.tlv sound (subst (λ (s : SlotStarts). IfSome (known places.tlv) (λ address. slot_address s scene.slots Tlv goal ≡ Some address)) at tlv)
+
+pub ruleset known_so = (slot_known, none_known, own_known, places_so)
+
 -- ---- of all goals
 
 pub record AreToldTo (scene : Scene) (goals : List Goal) (at : ℕ) (places : List GoalPlaces) : Type 0 where
-  pub are : places ≡ map (places_told scene) (take at goals)
+  pub count : length places ≡ at
+  pub told : AreTold scene goals places
 
 pub told_start : (scene : Scene) (goals : List Goal) (places : List GoalPlaces) → places ≡ [] → AreToldTo scene goals 0 places
-told_start scene goals places none = record { are = none }
-
-pub told_more : (scene : Scene) (goals : List Goal) (at : ℕ) (places new : List GoalPlaces) (goal : Goal) (place : GoalPlaces) → AreToldTo scene goals at places → at < length goals → goal ≡ get_or goals at goal → place ≡ places_told scene goal → new ≡ places ++ place ∷ [] → AreToldTo scene goals (at + 1) new
-told_more scene goals at places new goal place are low is one grown = record {
-  are = grown
-      ∙ ap (λ (xs : List GoalPlaces). xs ++ place ∷ []) are.are
-      ∙ ap (λ (x : GoalPlaces). map (places_told scene) (take at goals) ++ x ∷ []) (one ∙ ap (places_told scene) is)
-      ∙ sym (ap (map (places_told scene)) (take_more goals at goal low) ∙ map-append (places_told scene) (take at goals) (get_or goals at goal ∷ []));
+told_start scene goals places none = record {
+  count = ap length none;
+  told = record { each = λ at here is. absurd (let no : slice_get [] at ≡ Some here = subst (λ (ps : List GoalPlaces). slice_get ps at ≡ Some here) none is in cc) };
 }
 
-pub told_end : (scene : Scene) (goals : List Goal) (at : ℕ) (places : List GoalPlaces) → AreToldTo scene goals at places → length goals ≤ at → places ≡ map (places_told scene) goals
-told_end scene goals at places are past = are.are ∙ ap (map (places_told scene)) (take_all at goals past)
+pub told_more : (scene : Scene) (goals : List Goal) (at : ℕ) (places new : List GoalPlaces) (goal : Goal) (place : GoalPlaces) → AreToldTo scene goals at places → at < length goals → goal ≡ get_or goals at goal → ArePlaces scene goal place → new ≡ places ++ place ∷ [] → AreToldTo scene goals (at + 1) new
+told_more scene goals at places new goal place are low is one grown = record {
+  count = ap length grown ∙ one_more;
+  told = record { each = λ k here there. by k here (last_or places place here k (subst (λ (ps : List GoalPlaces). slice_get ps k ≡ Some here) grown there)) };
+}
+  where
+    one_more : length (places ++ place ∷ []) ≡ at + 1
+    one_more = length-append places (place ∷ []) ∙ ap (λ (n : ℕ). n + 1) are.count
+
+    goal_at : goal_in goals at ≡ goal
+    goal_at = goal_within goals at goal low ∙ sym is
+
+    by : (k : ℕ) (here : GoalPlaces) → ((k ≡ length places) × (here ≡ place)) ⊎ (slice_get places k ≡ Some here) → ArePlaces scene (goal_in goals k) here
+    by k here (inr there) = are.told.each k here there
+    by k here (inl last) =
+        subst (λ (p : GoalPlaces). ArePlaces scene (goal_in goals k) p) (sym last.1)
+        (subst (λ (g : Goal). ArePlaces scene g place) (sym (ap (goal_in goals) (last.0 ∙ are.count) ∙ goal_at)) one)
+
+pub told_end : (scene : Scene) (goals : List Goal) (at : ℕ) (places : List GoalPlaces) → AreToldTo scene goals at places → AreTold scene goals places
+told_end scene goals at places are = are.told
 
 pub ruleset told_all = (told_start, told_more, told_end)
 
 -- ---- of a symbol
 
-by_way : (scene : Scene) (way : Option Way) (goal : Goal) → place_by (places_told scene goal) way ≡ told_by scene way goal
-unfolding places_told
-by_way scene None goal = refl
-by_way scene (Some Got) goal = refl
-by_way scene (Some Stub) goal = refl
-by_way scene (Some Tlv) goal = refl
-
-pub named_there : (scene : Scene) (way : Option Way) (pool : List Goal) (place : ℕ) (addresses : List GoalPlaces) (d : GoalPlaces) → addresses ≡ map (places_told scene) pool → place < length pool → place_by (get_or addresses place d) way ≡ told_by scene way (goal_in pool place)
-named_there scene way pool place addresses d are within =
-    ap (λ (xs : List GoalPlaces). place_by (get_or xs place d) way) are
-    ∙ ap (λ (p : GoalPlaces). place_by p way) (get_or-map (places_told scene) pool place Nobody d within)
-    ∙ by_way scene way (get_or pool place Nobody)
-    ∙ ap (told_by scene way) (sym (goal_within pool place Nobody within))
+pub known_there : (scene : Scene) (way : Option Way) (pool : List Goal) (at : ℕ) (places : List GoalPlaces) (here : GoalPlaces) → AreTold scene pool places → slice_get places at ≡ Some here → IfSome (known (place_by here way)) (λ address. told_by scene way (goal_in pool at) ≡ Some address)
+known_there scene way pool at places here told there = (told.each at here there).by way

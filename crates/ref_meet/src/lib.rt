@@ -21,6 +21,7 @@
 mod addresses;
 mod binds;
 mod fixups;
+mod hints;
 mod laws;
 mod meeting;
 mod mets;

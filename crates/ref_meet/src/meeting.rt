@@ -48,7 +48,7 @@ fn add_row_mets(
 
 impl<'a> AtomReferences<'a> {
     /// What references mean in a scene whose pointers have these words, in the order of their addresses. It takes memory for the
-    /// addresses of each goal of the pool.
+    /// addresses of each goal of the pool, and while these are looked up for a hint to each slot and stub.
     pub fn of(
         alloc: Global,
         scene: &Scene<'a>,

@@ -1,5 +1,5 @@
 //! How an atom's references meet their goals.
-ghost use Rattle.std.specs.Prelude.{◌≡◌, ◌++◌, IfSome, None, OnOk};
+ghost use Rattle.std.specs.Prelude.{◌≡◌, ◌++◌, ◌<◌, IfSome, None, OnOk, Some, length};
 ghost use Rattle.std.specs.List.{flat_map};
 ghost use Rattle.std.specs.Option.{option_and_then, option_copied};
 ghost use Rattle.image_read.specs.Reaches.{is_zero};
@@ -12,6 +12,7 @@ ghost use Rattle.ref_meet.specs.inner.Listed.{found_at};
 ghost use Rattle.ref_meet.specs.inner.Met.{IsReadyFor};
 ghost use Rattle.ref_meet.specs.inner.Rows.{IsRow};
 ghost use Rattle.ref_meet.specs.inner.Told.{told_by};
+ghost use Rattle.resolve.specs.Table.{goal_in};
 ghost use Rattle.slot_needs.specs.Needs as needs;
 
 use crate::addresses;
@@ -91,6 +92,29 @@ fn told_at(setting: &Setting, way: Option<Way>, goal: &Goal) -> Option<u64>
     addresses::told_by(setting.scene, setting.starts, way, goal)
 }
 
+// The address by a way of the goal at a place of the pool, if it is known.
+fn known_at(setting: &Setting, way: Option<Way>, place: usize) -> Option<u64>
+    requires ready { IsReadyFor setting.now }
+    ensures { IfSome result (λ address. told_by (scene_of setting.now.scene.now) way (goal_in setting.now.scene.now.goals.now.pool place) ≡ Some address) }
+{
+    match setting.places.get(place) {
+        Some(places) => places.by(way),
+        None => None,
+    }
+}
+
+// The address by a way of the goal at a place of the pool, which is mostly known.
+fn told_in(setting: &Setting, way: Option<Way>, place: usize) -> Option<u64>
+    requires ready { IsReadyFor setting.now }
+    requires place { place < length setting.now.scene.now.goals.now.pool }
+    ensures { result ≡ told_by (scene_of setting.now.scene.now) way (goal_in setting.now.scene.now.goals.now.pool place) }
+{
+    match known_at(setting, way, place) {
+        Some(address) => Some(address),
+        None => told_at(setting, way, &setting.scene.goals.pool()[place]),
+    }
+}
+
 // The same of a target's goal.
 fn told_by(setting: &Setting, row: &Row, way: Option<Way>, target: &Target) -> Option<u64>
     requires ready { IsReadyFor setting.now }
@@ -99,7 +123,7 @@ fn told_by(setting: &Setting, row: &Row, way: Option<Way>, target: &Target) -> O
 {
     match *target {
         Target::Name(index) => match place_of(setting.scene, row, index) {
-            Some(place) => setting.places[place].by(way),
+            Some(place) => told_in(setting, way, place),
             None => told_at(setting, way, &Goal::Nobody),
         },
         Target::Local(atom, offset) => {

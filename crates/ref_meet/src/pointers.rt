@@ -1,11 +1,11 @@
 //! The pointers of placed atoms that the loader fills in.
-ghost use Rattle.std.specs.Prelude.{◌≡◌, ◌+◌, ◌++◌, ◌<◌, ◌^◌, pos, ◌-ℤ◌, All, IfOk, IsPermutation, OnOk};
+ghost use Rattle.std.specs.Prelude.{◌≡◌, ◌+◌, ◌++◌, ◌<◌, ◌^◌, pos, ◌-ℤ◌, false, All, IfOk, IsPermutation, OnOk, slice_get};
 ghost use Rattle.std.specs.List.{flat_map};
-ghost use Rattle.std.specs.Option.{option_map};
+ghost use Rattle.std.specs.Option.{option_map, option_map_or};
 ghost use Rattle.ref_meet.specs.Pointers as spec;
 ghost use Rattle.ref_meet.specs.Ready.{IsSound, scene_of};
 ghost use Rattle.ref_meet.specs.Scene.{refs_of};
-ghost use Rattle.ref_meet.specs.inner.Listed.{IsLowAt, found_at};
+ghost use Rattle.ref_meet.specs.inner.Listed.{IsLowAt, found_at, is_pointer};
 ghost use Rattle.ref_meet.specs.inner.Orders.{AreOrders};
 ghost use Rattle.ref_meet.specs.inner.Rows.{IsRow};
 ghost use Rattle.slot_place.specs.Places.{starts_of};
@@ -105,6 +105,25 @@ fn fixup_to(row: &Row, reference: &Ref, pointee: Pointee) -> Fixup
     }
 }
 
+// Whether a reference of a kind may be one that the loader fills in.
+fn is_pointer(kind: RefKind) -> bool
+    ensures { result ≡ is_pointer kind }
+{
+    matches!(kind, RefKind::Pointer | RefKind::GotPointer)
+}
+
+// Whether the reference at an index of the file's list is of such a kind. All references are asked, and few are: it reads no
+// more of one than that.
+#[inline(always)]
+fn is_pointer_at(row: &Row, index: u32) -> bool
+    ensures { result ≡ option_map_or (λ r. is_pointer r.kind) (slice_get row.now.refs.now index) false }
+{
+    match row.refs.get(index as usize) {
+        Some(reference) => is_pointer(reference.kind),
+        None => false,
+    }
+}
+
 // Puts the reference at an index of the file's list behind others, where the loader fills it in.
 #[tactic(auto, unfolding(crate::specs::inner::Listed::found_at, crate::specs::Pointers::fixup_of))]
 fn add_pointer(
@@ -121,6 +140,9 @@ fn add_pointer(
     requires low { IsLowAt row.now.item.now.address row.now.refs.now index }
     ensures { OnOk result (out.new.items ≡ out.old.items ++ found_at (spec.fixup_of (scene_of scene.now) row.now.item.now) row.now.refs.now index) }
 {
+    if !is_pointer_at(row, index) {
+        return Ok(());
+    }
     let Some(reference) = row.refs.get(index as usize) else {
         return Ok(());
     };

@@ -6,13 +6,11 @@ use Rattle.resolve.specs.Table.{goal_in}
 use Rattle.ref_meet.specs.Ready.{scene_of}
 use Rattle.ref_meet.specs.Scene.{goal_of}
 use Rattle.ref_meet.specs.inner.Told.{told_by}
-use Rattle.ref_meet.proofs.ToldLemmas.{named_there}
 use Rattle.ref_meet.proofs.mets.told_by.Goals as goal
 
 pub returns-in-Some : goal.returns-in-Some
 returns-in-Some c =
-    c.by.ensures
-    ∙ named_there (scene_of c.args.setting.now.scene.now) c.args.way c.args.setting.now.scene.now.goals.now.pool c.in-Some.place c.args.setting.now.places.now _ c.requires.ready.told c.in-Some.ensures.within
+    c.told_in.ensures
     ∙ ap (told_by (scene_of c.args.setting.now.scene.now) c.args.way)
     (sym (ap (goal_of (scene_of c.args.setting.now.scene.now) c.args.row.now.item.now.file) c.in-Name.is ∙ c.place_of.ensures.goal
     ∙ ap (λ (place : Option ℕ). option_map_or (goal_in c.args.setting.now.scene.now.goals.now.pool) place Nobody) c.in-Some.is))
