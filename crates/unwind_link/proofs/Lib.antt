@@ -8,3 +8,4 @@ pub mod NeedLemmas
 pub mod RowLemmas
 pub mod SizeLemmas
 pub mod TwiceLemmas
+pub mod UpLemmas

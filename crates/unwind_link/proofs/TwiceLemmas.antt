@@ -201,7 +201,7 @@ same_count sections one other same some any =
 abbrev pub sized : Slots → ℕ → ℕ → MadeBytes
 sized slots commands bytes = made_bytes slots (with_unwind commands bytes)
 
-same_lead : (sections : List OutSection) (slots : Slots) (command : Command) (commands few many : ℕ) → 0 < few → 0 < many
+pub same_lead : (sections : List OutSection) (slots : Slots) (command : Command) (commands few many : ℕ) → 0 < few → 0 < many
     → lead_of (groups_of sections (sized slots commands few)) (with_unwind commands few) command ≡ lead_of (groups_of sections (sized slots commands many)) (with_unwind commands many) command
 unfolding lead_of groups_of parts_count constant_parts writable_parts
 same_lead sections slots command commands few many some any =

@@ -1,6 +1,6 @@
-//! That slots of listed personalities serve all entries, that `__unwind_info` moves nothing before it, and that it has one
-//! size wherever it is placed, on calls that do nothing.
-ghost use Rattle.std.specs.Prelude.{◌≡◌, ◌≢◌, ◌<◌, ◌++◌, ℕ, List, length, map};
+//! That slots of listed personalities serve all entries, that `__unwind_info` moves nothing before it, makes no image smaller
+//! by more bytes, and has one size wherever it is placed, on calls that do nothing.
+ghost use Rattle.std.specs.Prelude.{◌≡◌, ◌≢◌, ◌<◌, ◌≤◌, ◌++◌, ℕ, List, length, map};
 ghost use Rattle.std.specs.List.{AllPairs};
 ghost use Rattle.command_line.specs.declared.command.Command.{Command};
 ghost use Rattle.mo_types.specs.declared.atom.Atom.{Atom};
@@ -8,7 +8,7 @@ ghost use Rattle.mo_types.specs.declared.goal.Goal.{Goal};
 ghost use Rattle.mo_types.specs.declared.key.AtomKey.{AtomKey};
 ghost use Rattle.mo_types.specs.declared.out_section.OutSection.{OutSection};
 ghost use Rattle.ref_meet.specs.Scene.{Scene};
-ghost use Rattle.sect_place.specs.Layout.{plan_of};
+ghost use Rattle.sect_place.specs.Layout.{image_size, plan_of};
 ghost use Rattle.sect_place.specs.declared.island.IslandPlan.{IslandPlan};
 ghost use Rattle.sect_place.specs.declared.layout.Layout.{Layout};
 ghost use Rattle.slot_plan.specs.Slots.{AreSlots, in_got, needed};
@@ -38,6 +38,13 @@ pub fn unwind_info_moves_nothing_before()
         → AllPairs (λ (a : AtomKey) (b : AtomKey). a ≢ b) (keys_of sections) → 0 < few → 0 < many
         → AreAlikeBefore sections (plan_of kept sections slots islands (with_unwind commands few) command)
         (plan_of kept sections slots islands (with_unwind commands many) command) few many }
+{}
+
+/// With more bytes of `__unwind_info`, where it has some, no image is smaller.
+pub fn more_unwind_info_makes_no_image_smaller()
+    ensures { (kept : List Atom) (sections : List OutSection) (slots : Slots) (islands : IslandPlan) (command : Command) (commands few many : ℕ)
+        → 0 < few → few ≤ many → image_size (plan_of kept sections slots islands (with_unwind commands few) command)
+        ≤ image_size (plan_of kept sections slots islands (with_unwind commands many) command) }
 {}
 
 /// However many bytes `__unwind_info` is placed with, the rows of entries of atoms of `__TEXT` have sections of one size. So

@@ -10,7 +10,8 @@
 //! The laws say that slots which serve the listed personalities serve those of all entries (`slots_serve_all_personalities`),
 //! and that all that stands before `__unwind_info` stands at one place, however many bytes that has
 //! (`unwind_info_moves_nothing_before`, `specs/Twice.antt`): an image is placed twice, as its rows hang on addresses. The rows
-//! of both placings have sections of one size (`unwind_info_has_one_size`), so that it fits where it stands.
+//! of both placings have sections of one size (`unwind_info_has_one_size`), so that it fits where it stands; and with more
+//! bytes no image is smaller (`more_unwind_info_makes_no_image_smaller`).
 //!
 //! A body that takes entries of atoms that aren't kept, one that answers the last of the entries in place of the first, one
 //! that lets four personalities pass, and one whose rows end where they begin don't meet the contracts.
@@ -27,6 +28,7 @@ pub use dwarf::first_dwarf;
 pub use handlers::{many_personalities, personalities, personality_needs};
 pub use kept::{KeptUnwind, KeptUnwinds, kept_unwinds};
 pub use laws::{
-    slots_serve_all_personalities, unwind_info_has_one_size, unwind_info_moves_nothing_before,
+    more_unwind_info_makes_no_image_smaller, slots_serve_all_personalities,
+    unwind_info_has_one_size, unwind_info_moves_nothing_before,
 };
 pub use rows::unwind_rows;
