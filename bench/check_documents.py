@@ -53,8 +53,8 @@ TYPE = re.compile(r"^(?:pub )?(?:struct|enum|trait|type) (\w+)|^impl(?:<[^{]*?>)
 
 # Options whose values stand attached.
 ATTACHED = ("-L", "-F", "-l", "-weak-l")
-# What crates tell, but no link yet.
-NO_LINK = {"wildcard"}
+# What crates tell, but no link yet: objects with unwind entries are refused before it.
+NO_LINK = {"ehframe", "personalities", "wildcard"}
 
 faults = []
 

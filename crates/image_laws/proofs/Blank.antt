@@ -12,6 +12,7 @@ use Rattle.fixup_chain.specs.declared.chains.Chains.{Chains}
 use Rattle.sect_place.specs.Arrangement.{section_of}
 use Rattle.sect_place.specs.declared.layout.Layout.{Layout}
 use Rattle.sect_place.specs.declared.layout.PlacedSection.{PlacedSection}
+use Rattle.sect_place.specs.declared.part.Made.TheVariants.{UnwindInfo}
 use Rattle.slot_place.specs.Places.{goals_for, made_for, own_section, slot_address, starts_of, unit_at, unit_of}
 use Rattle.slot_place.specs.Stubs.{stub_bytes, stub_of, stubs_bytes, stubs_from}
 use Rattle.slot_place.specs.declared.places.SlotStarts.{SlotStarts}
@@ -23,7 +24,8 @@ use Rattle.image_join.specs.declared.parts.Part.{Part}
 use Rattle.image_join.proofs.JoinedLemmas.{byte_here, byte_of_joined, byte_past, covered_inside, covers_not}
 use Rattle.ref_meet.specs.Mets.{word_at}
 use Rattle.image_make.specs.Made.{IsLaid, ImageInputs, plan_for}
-use Rattle.image_make.specs.Parts.{blank_of, image_parts, linkedit_offset, own_bytes, own_part, slot_word, slot_words}
+use Rattle.image_make.specs.Parts.{blank_of, image_parts, info_part, info_section, linkedit_offset, own_bytes, own_part, slot_word, slot_words}
+use Rattle.image_laws.proofs.InfoPlace.{info_in, info_is, info_solid}
 use Rattle.image_laws.proofs.Layouts.{HasPlace, own_in, own_is, own_solid, place_before, same_section, stored_place}
 use Rattle.std.specs.Prelude.{unwrap_or}
 
@@ -119,22 +121,48 @@ clear m layout words way k laid apart = by (own_section layout.sections way) ref
     by None e = tt
     by (Some placed) e = (away (covers k (part_of layout m.slots words way placed)) (λ is. apart placed e (own_place m layout words way placed k laid e is)), tt)
 
+-- the part `__unwind_info`
+abbrev part_with : List ℕ → PlacedSection → Part
+part_with info placed = record { from = placed.file_offset; bytes = info }
+
+info_found : (layout : Layout) (info : List ℕ) (placed : PlacedSection) → info_section layout.sections ≡ Some placed → info_part layout info ≡ part_with info placed ∷ []
+unfolding info_part
+info_found layout info placed e = rw e refl
+
+info_place : (m : ImageInputs) (layout : Layout) (placed : PlacedSection) (k : ℕ) → IsLaid m layout → info_section layout.sections ≡ Some placed → covers k (part_with m.info placed) ≡ true → HasPlace m layout placed k
+info_place m layout placed k laid e is =
+    let inside = covered_inside k (part_with m.info placed) is in
+    let sized = (info_is m layout placed laid e).sized in
+    stored_place m layout placed k laid (info_in layout placed e) (info_solid m layout placed laid e) inside.0 (omega (arith, inside.1, sized))
+
+-- a place that isn't one of `__unwind_info`
+abbrev pub IsBesideInfo : ImageInputs → Layout → ℕ → Type 0
+IsBesideInfo m layout k = (placed : PlacedSection) → info_section layout.sections ≡ Some placed → HasPlace m layout placed k → ⊥
+
+info_clear : (m : ImageInputs) (layout : Layout) (k : ℕ) → IsLaid m layout → IsBesideInfo m layout k → AllByRecursion (λ (p : Part). covers k p ≡ false) (info_part layout m.info)
+unfolding info_part
+info_clear m layout k laid beside = by (info_section layout.sections) refl
+  where
+    by : (found : Option PlacedSection) → info_section layout.sections ≡ found → AllByRecursion (λ (p : Part). covers k p ≡ false) (option_map_or (λ (placed : PlacedSection). part_with m.info placed ∷ []) found [])
+    by None e = tt
+    by (Some placed) e = (away (covers k (part_with m.info placed)) (λ is. beside placed e (info_place m layout placed k laid e is)), tt)
+
 abbrev front_part : List ℕ → Part
 front_part front = record { from = 0; bytes = front }
 
 abbrev chains_part : Layout → Chains → Part
 chains_part layout chains = record { from = linkedit_offset layout.segments; bytes = chains.blob }
 
-blank_byte : (m : ImageInputs) (layout : Layout) (chains : Chains) (front : List ℕ) (k : ℕ) → k < linkedit_offset layout.segments + length chains.blob → get_or (blank_of layout m.slots chains front) k 0 ≡ byte_at (image_parts layout m.slots chains front) k
+blank_byte : (m : ImageInputs) (layout : Layout) (chains : Chains) (front : List ℕ) (k : ℕ) → k < linkedit_offset layout.segments + length chains.blob → get_or (blank_of layout m.slots m.info chains front) k 0 ≡ byte_at (image_parts layout m.slots m.info chains front) k
 unfolding blank_of
-blank_byte m layout chains front k low = byte_of_joined (record { size = linkedit_offset layout.segments + length chains.blob; parts = image_parts layout m.slots chains front }) k low
+blank_byte m layout chains front k low = byte_of_joined (record { size = linkedit_offset layout.segments + length chains.blob; parts = image_parts layout m.slots m.info chains front }) k low
 
 past_front : (front : List ℕ) (parts : List Part) (k : ℕ) → length front ≤ k → byte_at (front_part front ∷ parts) k ≡ byte_at parts k
 past_front front parts k past = byte_past (front_part front) parts k (covers_not k (front_part front) (inr (omega arith)))
 
 -- ---- the bytes
 
-pub front_byte : (m : ImageInputs) (layout : Layout) (chains : Chains) (front : List ℕ) (k : ℕ) → k < length front → length front ≤ linkedit_offset layout.segments → get_or (blank_of layout m.slots chains front) k 0 ≡ get_or front k 0
+pub front_byte : (m : ImageInputs) (layout : Layout) (chains : Chains) (front : List ℕ) (k : ℕ) → k < length front → length front ≤ linkedit_offset layout.segments → get_or (blank_of layout m.slots m.info chains front) k 0 ≡ get_or front k 0
 unfolding image_parts
 front_byte m layout chains front k low room =
     blank_byte m layout chains front k (omega arith)
@@ -145,29 +173,31 @@ front_byte m layout chains front k low room =
     covered k n low = rw (le-leb 0 k (omega arith), lt-ltb k (0 + n) (omega arith)) refl
 
 -- none of the own sections has the place
-past_own : (m : ImageInputs) (layout : Layout) (chains : Chains) (front : List ℕ) (k : ℕ) → IsLaid m layout → length front ≤ k → ((way : Way) → IsApart m layout k way) → byte_at (image_parts layout m.slots chains front) k ≡ byte_at (chains_part layout chains ∷ []) k
+past_own : (m : ImageInputs) (layout : Layout) (chains : Chains) (front : List ℕ) (k : ℕ) → IsLaid m layout → length front ≤ k → ((way : Way) → IsApart m layout k way) → IsBesideInfo m layout k → byte_at (image_parts layout m.slots m.info chains front) k ≡ byte_at (chains_part layout chains ∷ []) k
 unfolding image_parts
-past_own m layout chains front k laid past apart =
+past_own m layout chains front k laid past apart beside =
     let words = chains.words in
     past_front front _ k past
     ∙ byte_skip (own_part layout m.slots words Stub) _ k (clear m layout words Stub k laid (apart Stub))
+    ∙ byte_skip (info_part layout m.info) _ k (info_clear m layout k laid beside)
     ∙ byte_skip (own_part layout m.slots words Got) _ k (clear m layout words Got k laid (apart Got))
     ∙ byte_skip (own_part layout m.slots words Tlv) _ k (clear m layout words Tlv k laid (apart Tlv))
 
 -- a place before the chains that is none of these
-pub zero_byte : (m : ImageInputs) (layout : Layout) (chains : Chains) (front : List ℕ) (k : ℕ) → IsLaid m layout → length front ≤ k → k < linkedit_offset layout.segments → ((way : Way) → IsApart m layout k way) → get_or (blank_of layout m.slots chains front) k 0 ≡ 0
-zero_byte m layout chains front k laid past before apart =
+pub zero_byte : (m : ImageInputs) (layout : Layout) (chains : Chains) (front : List ℕ) (k : ℕ) → IsLaid m layout → length front ≤ k → k < linkedit_offset layout.segments → ((way : Way) → IsApart m layout k way) → IsBesideInfo m layout k → get_or (blank_of layout m.slots m.info chains front) k 0 ≡ 0
+zero_byte m layout chains front k laid past before apart beside =
     blank_byte m layout chains front k (omega arith)
-    ∙ past_own m layout chains front k laid past apart
+    ∙ past_own m layout chains front k laid past apart beside
     ∙ byte_past (chains_part layout chains) [] k (covers_not k (chains_part layout chains) (inl before))
     ∙ none_there k
 
 -- the chains
-pub chains_byte : (m : ImageInputs) (layout : Layout) (chains : Chains) (front : List ℕ) (k : ℕ) → IsLaid m layout → length front ≤ linkedit_offset layout.segments → k < length chains.blob → get_or (blank_of layout m.slots chains front) (linkedit_offset layout.segments + k) 0 ≡ get_or chains.blob k 0
+pub chains_byte : (m : ImageInputs) (layout : Layout) (chains : Chains) (front : List ℕ) (k : ℕ) → IsLaid m layout → length front ≤ linkedit_offset layout.segments → k < length chains.blob → get_or (blank_of layout m.slots m.info chains front) (linkedit_offset layout.segments + k) 0 ≡ get_or chains.blob k 0
 chains_byte m layout chains front k laid room low =
     let place = linkedit_offset layout.segments + k in
     blank_byte m layout chains front place (omega arith)
     ∙ past_own m layout chains front place laid (omega arith) (λ way placed e has. (let before = place_before m layout placed place laid has in absurd (omega arith)))
+    (λ placed e has. (let before = place_before m layout placed place laid has in absurd (omega arith)))
     ∙ byte_here (chains_part layout chains) [] place (covers_inside place (chains_part layout chains) (omega arith) (omega arith))
     ∙ ap (λ (i : ℕ). get_or chains.blob i 0) (let e : place - linkedit_offset layout.segments ≡ k = omega arith in e)
   where
@@ -186,23 +216,37 @@ others_apart m layout one other placed k laid e has differ = λ q f there.
     differ (kinds_differ one other placed q (same_section m layout placed q k laid has there) (own_is m layout one placed laid e).is (own_is m layout other q laid f).is)
 
 -- the byte of one of the own parts, which others don't cover
-parted_byte : (place : ℕ) (parts : Way → List Part) (part : Part) (last : List Part) (way : Way) → parts way ≡ part ∷ [] → covers place part ≡ true → ((other : Way) → ((section_of (made_for way)).kind ≡ (section_of (made_for other)).kind → ⊥) → AllByRecursion (λ (p : Part). covers place p ≡ false) (parts other)) → byte_at (parts Stub ++ (parts Got ++ (parts Tlv ++ last))) place ≡ get_or part.bytes (place - part.from) 0
-parted_byte place parts part last Stub is covered rest =
-    ap (λ (xs : List Part). byte_at (xs ++ (parts Got ++ (parts Tlv ++ last))) place) is ∙ byte_here part (parts Got ++ (parts Tlv ++ last)) place covered
-parted_byte place parts part last Got is covered rest =
-    byte_skip (parts Stub) (parts Got ++ (parts Tlv ++ last)) place (rest Stub (λ same. absurd (omega (arith, same))))
+parted_byte : (place : ℕ) (parts : Way → List Part) (infos : List Part) (part : Part) (last : List Part) (way : Way) → parts way ≡ part ∷ [] → covers place part ≡ true → ((other : Way) → ((section_of (made_for way)).kind ≡ (section_of (made_for other)).kind → ⊥) → AllByRecursion (λ (p : Part). covers place p ≡ false) (parts other)) → AllByRecursion (λ (p : Part). covers place p ≡ false) infos
+    → byte_at (parts Stub ++ (infos ++ (parts Got ++ (parts Tlv ++ last)))) place ≡ get_or part.bytes (place - part.from) 0
+parted_byte place parts infos part last Stub is covered rest none =
+    ap (λ (xs : List Part). byte_at (xs ++ (infos ++ (parts Got ++ (parts Tlv ++ last)))) place) is ∙ byte_here part (infos ++ (parts Got ++ (parts Tlv ++ last))) place covered
+parted_byte place parts infos part last Got is covered rest none =
+    byte_skip (parts Stub) (infos ++ (parts Got ++ (parts Tlv ++ last))) place (rest Stub (λ same. absurd (omega (arith, same))))
+    ∙ byte_skip infos (parts Got ++ (parts Tlv ++ last)) place none
     ∙ ap (λ (xs : List Part). byte_at (xs ++ (parts Tlv ++ last)) place) is ∙ byte_here part (parts Tlv ++ last) place covered
-parted_byte place parts part last Tlv is covered rest =
-    byte_skip (parts Stub) (parts Got ++ (parts Tlv ++ last)) place (rest Stub (λ same. absurd (omega (arith, same))))
+parted_byte place parts infos part last Tlv is covered rest none =
+    byte_skip (parts Stub) (infos ++ (parts Got ++ (parts Tlv ++ last))) place (rest Stub (λ same. absurd (omega (arith, same))))
+    ∙ byte_skip infos (parts Got ++ (parts Tlv ++ last)) place none
     ∙ byte_skip (parts Got) (parts Tlv ++ last) place (rest Got (λ same. absurd (omega (arith, same))))
     ∙ ap (λ (xs : List Part). byte_at (xs ++ last) place) is ∙ byte_here part last place covered
 
-pub own_byte : (m : ImageInputs) (layout : Layout) (chains : Chains) (front : List ℕ) (way : Way) (placed : PlacedSection) (k : ℕ) → IsLaid m layout → length front ≤ (plan_for m).lead → own_section layout.sections way ≡ Some placed → k < length (own_bytes layout m.slots chains.words way) → get_or (blank_of layout m.slots chains front) (placed.file_offset + k) 0 ≡ get_or (own_bytes layout m.slots chains.words way) k 0
+-- nor does `__unwind_info` have it, whose type is none of theirs
+kind_of_info : (way : Way) → (section_of (made_for way)).kind ≡ (section_of UnwindInfo).kind → ⊥
+kind_of_info Stub same = absurd (omega (arith, same))
+kind_of_info Got same = absurd (omega (arith, same))
+kind_of_info Tlv same = absurd (omega (arith, same))
+
+own_or_info : (m : ImageInputs) (layout : Layout) (way : Way) (placed info : PlacedSection) → IsLaid m layout → own_section layout.sections way ≡ Some placed → info_section layout.sections ≡ Some info → placed ≡ info → ⊥
+own_or_info m layout way placed info laid e f same =
+    kind_of_info way (ap (λ (s : OutSection). s.kind) (sym (own_is m layout way placed laid e).is) ∙ ap (λ (s : PlacedSection). s.section.kind) same ∙ ap (λ (s : OutSection). s.kind) (info_is m layout info laid f).is)
+
+pub own_byte : (m : ImageInputs) (layout : Layout) (chains : Chains) (front : List ℕ) (way : Way) (placed : PlacedSection) (k : ℕ) → IsLaid m layout → length front ≤ (plan_for m).lead → own_section layout.sections way ≡ Some placed → k < length (own_bytes layout m.slots chains.words way) → get_or (blank_of layout m.slots m.info chains front) (placed.file_offset + k) 0 ≡ get_or (own_bytes layout m.slots chains.words way) k 0
 unfolding image_parts
 own_byte m layout chains front way placed k laid room e low =
     blank_byte m layout chains front place (omega (arith, before))
     ∙ past_front front _ place past
-    ∙ parted_byte place (own_part layout m.slots chains.words) part (chains_part layout chains ∷ []) way (part_found layout m.slots chains.words way placed e) part_is rest
+    ∙ parted_byte place (own_part layout m.slots chains.words) (info_part layout m.info) part (chains_part layout chains ∷ []) way (part_found layout m.slots chains.words way placed e) part_is rest
+    (info_clear m layout place laid (λ info f there. own_or_info m layout way placed info laid e f (same_section m layout placed info place laid has there)))
     ∙ ap (λ (i : ℕ). get_or (own_bytes layout m.slots chains.words way) i 0) (let here : place - placed.file_offset ≡ k = omega arith in here)
   where
     place : ℕ
@@ -225,3 +269,33 @@ own_byte m layout chains front way placed k laid room e low =
 
     rest : (other : Way) → ((section_of (made_for way)).kind ≡ (section_of (made_for other)).kind → ⊥) → AllByRecursion (λ (p : Part). covers place p ≡ false) (own_part layout m.slots chains.words other)
     rest other differ = clear m layout chains.words other place laid (others_apart m layout way other placed place laid e has differ)
+
+-- ---- `__unwind_info`
+
+pub info_byte : (m : ImageInputs) (layout : Layout) (chains : Chains) (front : List ℕ) (placed : PlacedSection) (k : ℕ) → IsLaid m layout → length front ≤ (plan_for m).lead → info_section layout.sections ≡ Some placed → k < length m.info → get_or (blank_of layout m.slots m.info chains front) (placed.file_offset + k) 0 ≡ get_or m.info k 0
+unfolding image_parts
+info_byte m layout chains front placed k laid room e low =
+    blank_byte m layout chains front place (omega (arith, before))
+    ∙ past_front front _ place past
+    ∙ byte_skip (own_part layout m.slots chains.words Stub) _ place (clear m layout chains.words Stub place laid (λ own f there. own_or_info m layout Stub own placed laid f e (same_section m layout own placed place laid there has)))
+    ∙ ap (λ (xs : List Part). byte_at (xs ++ later) place) (info_found layout m.info placed e)
+    ∙ byte_here (part_with m.info placed) later place part_is
+    ∙ ap (λ (i : ℕ). get_or m.info i 0) (let here : place - placed.file_offset ≡ k = omega arith in here)
+  where
+    place : ℕ
+    place = placed.file_offset + k
+
+    later : List Part
+    later = own_part layout m.slots chains.words Got ++ (own_part layout m.slots chains.words Tlv ++ chains_part layout chains ∷ [])
+
+    part_is : covers place (part_with m.info placed) ≡ true
+    part_is = rw (le-leb placed.file_offset place (omega arith), lt-ltb place (placed.file_offset + length m.info) (omega arith)) refl
+
+    has : HasPlace m layout placed place
+    has = info_place m layout placed place laid e part_is
+
+    before : place < linkedit_offset layout.segments
+    before = place_before m layout placed place laid has
+
+    past : length front ≤ place
+    past = let behind = has.behind in omega arith

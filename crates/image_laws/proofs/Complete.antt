@@ -1,5 +1,5 @@
 -- Each kept atom that has a section stands in one of the image's.
-use Rattle.std.proofs.Common.{◌≡◌, ℕ, ◌+◌, ◌⊎◌, inl, inr, true, false, not, List, [], ◌∷◌, ◌++◌, map, Some, Contains, refl, sym, ap, subst}
+use Rattle.std.proofs.Common.{◌≡◌, ℕ, ◌+◌, ◌⊎◌, inl, inr, true, false, not, List, [], ◌∷◌, ◌++◌, length, map, Some, Contains, refl, sym, ap, subst}
 use Rattle.std.specs.List.{filter}
 use Rattle.std.proofs.lemmas.Bool.{cases_Bool}
 use Rattle.std.proofs.lemmas.List.Sorted.{Contains-permutation}
@@ -109,7 +109,7 @@ seated m layout kept home rising laid keeps is =
     let sections = out_sections m.files atoms in
     let key = kept.atom.key in
     let atom : Contains atoms kept.atom = Contains_from_in atoms kept.atom (in_map atom_of (kept_of m) kept (in_from_Contains (kept_of m) kept keeps)) in
-    let placed = placed_there atoms sections m.slots m.islands (sizes_of m.command m.libs) m.command kept.atom atom (kept_are_listed m.files atoms kept.atom home atom is) in
+    let placed = placed_there atoms sections m.slots m.islands (sizes_of m.command m.libs (length m.info)) m.command kept.atom atom (kept_are_listed m.files atoms kept.atom home atom is) in
     let p : Placed = record { atom = key; address = placed.0 } in
     let has = image_home (plan_for m) p (in_from_Contains (image_places (plan_for m)) p placed.1) in
     let there : Contains layout.placed p = Contains-permutation (image_places (plan_for m)) layout.placed p laid.layout_of.places placed.1 in

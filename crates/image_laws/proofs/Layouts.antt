@@ -42,7 +42,7 @@ pub is_plan : (m : ImageInputs) (layout : Layout) → IsLaid m layout → IsPlan
 unfolding plan_with plan_of lead_of
 is_plan m layout laid =
     let sections = out_sections m.files (map atom_of (kept_of m)) in
-    let bytes = made_bytes m.slots (sizes_of m.command m.libs) in
+    let bytes = made_bytes m.slots (sizes_of m.command m.libs (length m.info)) in
     record {
       first = record { name = codes "__TEXT"; parts = text_parts sections bytes };
       later = later_groups sections bytes;
@@ -218,7 +218,7 @@ unfolding image_sections plan_with plan_of spaced atoms_of
 own_is m layout way placed laid e =
     let plan = plan_for m in
     let sections = out_sections m.files (map atom_of (kept_of m)) in
-    own_found plan.atoms plan.base 0 plan.lead sections m.slots (sizes_of m.command m.libs) way placed (record { none = refl; have_atoms = have_atoms m.files (map atom_of (kept_of m)) })
+    own_found plan.atoms plan.base 0 plan.lead sections m.slots (sizes_of m.command m.libs (length m.info)) way placed (record { none = refl; have_atoms = have_atoms m.files (map atom_of (kept_of m)) })
     (subst (λ (ss : List PlacedSection). own_section ss way ≡ Some placed) laid.layout_of.sections e)
 
 -- where there is none, nothing is needed in that way
@@ -226,7 +226,7 @@ pub own_none : (m : ImageInputs) (layout : Layout) (way : Way) → IsLaid m layo
 unfolding image_sections plan_with plan_of spaced atoms_of
 own_none m layout way laid e =
     let plan = plan_for m in
-    own_missing plan.atoms plan.base 0 plan.lead (out_sections m.files (map atom_of (kept_of m))) m.slots (sizes_of m.command m.libs) way
+    own_missing plan.atoms plan.base 0 plan.lead (out_sections m.files (map atom_of (kept_of m))) m.slots (sizes_of m.command m.libs (length m.info)) way
     (subst (λ (ss : List PlacedSection). own_section ss way ≡ None) laid.layout_of.sections e)
 
 -- it has bytes, and no atoms

@@ -6,9 +6,12 @@ pub mod ChainWords
 pub mod Commanding
 pub mod Complete
 pub mod Entering
+pub mod Entries
+pub mod EntryPlaces
 pub mod First
 pub mod Fronted
 pub mod Goals
+pub mod InfoPlace
 pub mod Layouts
 pub mod Listed
 pub mod Listing
@@ -27,5 +30,7 @@ pub mod Stated
 pub mod Stubbing
 pub mod Telling
 pub mod Turned
+pub mod Unwinding
+pub mod Unwound
 pub mod Units
 pub mod Walk

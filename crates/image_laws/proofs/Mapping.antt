@@ -21,6 +21,7 @@ use Rattle.image_laws.proofs.Begun.{beside_atoms, commands_list, image_long, is_
 use Rattle.image_laws.proofs.Blank.{zero_byte}
 use Rattle.image_laws.proofs.First.{IsFirst, first_there, found_at, own}
 use Rattle.image_laws.proofs.Fronted.{are_there, places_there}
+use Rattle.image_laws.proofs.InfoPlace.{info_solid}
 use Rattle.image_laws.proofs.Layouts.{HasPlace, beside_rows, held_in_layout, is_plan, own_solid, place_before, same_section}
 use Rattle.image_laws.proofs.Listed.{other_list}
 use Rattle.image_laws.proofs.Planned.{all_fit, in_turn, last_empty}
@@ -116,7 +117,8 @@ section_zeros m image of section k rising among zeros low =
           let one = λ (other : PlacedSection) (there : HasPlace m of.layout other place). same_section m of.layout section other place laid here there in
           let zero : get_or image place 0 ≡ 0 =
           beside_atoms m image of place (beside_rows m of.layout place rising laid (λ other key there listed solid. clash (one other there) solid))
-          ∙ zero_byte m of.layout of.chains (front_of m of.layout of.fixups of.chains) place laid (omega arith) before (λ way other e there. clash (one other there) (own_solid m of.layout way other laid e)) in
+          ∙ zero_byte m of.layout of.chains (front_of m of.layout of.fixups of.chains) place laid (omega arith) before (λ way other e there. clash (one other there) (own_solid m of.layout way other laid e))
+          (λ other e there. clash (one other there) (info_solid m of.layout other laid e)) in
           byte_stored image address by.segment held.open_to within ∙ slice_get-get_or image place 0 (omega arith) ∙ ap Some zero
       | inr past ↦ byte_past image address by.segment held.open_to past
     ]

@@ -22,7 +22,7 @@ use Rattle.chain_laws.proofs.Standing.{Stands, number_stands}
 use Rattle.field_laws.specs.Memory.{AreInMemory}
 use Rattle.field_laws.proofs.Numbers.{long_there}
 use Rattle.image_make.specs.Made.{ImageInputs, front_of}
-use Rattle.image_make.specs.Parts.{linkedit_offset, own_bytes, slot_word}
+use Rattle.image_make.specs.Parts.{info_section, linkedit_offset, own_bytes, slot_word}
 use Rattle.image_make.proofs.RoomLemmas.{counts, front_room}
 use Rattle.ref_meet.specs.Mets.{word_at}
 use Rattle.image_read.specs.Fixups.{long_at}
@@ -30,7 +30,8 @@ use Rattle.image_read.specs.Mapped.{mapped}
 use Rattle.image_read.specs.Meaning.{long_in}
 use Rattle.image_laws.specs.Means.{AreRising, Imaged}
 use Rattle.image_laws.proofs.Begun.{beside_atoms, image_long}
-use Rattle.image_laws.proofs.Blank.{chains_byte, own_byte, own_long}
+use Rattle.image_laws.proofs.Blank.{chains_byte, info_byte, own_byte, own_long}
+use Rattle.image_laws.proofs.InfoPlace.{info_bare, info_in, info_is, info_solid}
 use Rattle.image_laws.proofs.Layouts.{HasPlace, beside_rows, own_bare, own_in, own_is, own_solid, place_before, same_section, stored_place}
 use Rattle.image_laws.proofs.Mapping.{section_stored}
 
@@ -62,6 +63,27 @@ own_there m image of way placed rising e = λ k low.
     ∙ slice_get-get_or image place 0 (omega (arith, before, whole))
     ∙ ap Some (beside_atoms m image of place beside ∙ own_byte m of.layout of.chains (front_of m of.layout of.fixups of.chains) way placed k laid count.room e low)
     ∙ sym (slice_get-get_or bytes k 0 low)
+
+-- and so does `__unwind_info`
+pub info_in_memory : (m : ImageInputs) (image : List ℕ) (of : Imaged m image) (placed : PlacedSection) → AreRising m → info_section of.layout.sections ≡ Some placed → AreInMemory image placed.address m.info
+info_in_memory m image of placed rising e = λ k low.
+    let laid = of.is_image.laid in
+    let place = placed.file_offset + k in
+    let among = info_in of.layout placed e in
+    let solid = info_solid m of.layout placed laid e in
+    let sized = (info_is m of.layout placed laid e).sized in
+    let within : k < placed.size = omega (arith, low, sized) in
+    let has : HasPlace m of.layout placed place = stored_place m of.layout placed place laid among solid (omega arith) (omega arith) in
+    let before = place_before m of.layout placed place laid has in
+    let whole = image_long m image of in
+    let count = counts m of.layout of.fixups of.chains laid in
+    let beside = beside_rows m of.layout place rising laid (λ other key there listed full.
+    let same = same_section m of.layout placed other place laid has there in
+    no_key other.section.atoms key (ap (λ (s : PlacedSection). s.section.atoms) (sym same) ∙ info_bare m of.layout placed laid e) listed) in
+    section_stored m image of placed k rising among solid within
+    ∙ slice_get-get_or image place 0 (omega (arith, before, whole))
+    ∙ ap Some (beside_atoms m image of place beside ∙ info_byte m of.layout of.chains (front_of m of.layout of.fixups of.chains) placed k laid count.room e low)
+    ∙ sym (slice_get-get_or m.info k 0 low)
 
 -- the chains stand behind all else
 pub chains_there : (m : ImageInputs) (image : List ℕ) (of : Imaged m image) → AreRising m → take (length of.chains.blob) (drop (linkedit_offset of.layout.segments) image) ≡ of.chains.blob

@@ -12,7 +12,7 @@ use Rattle.sect_place.specs.declared.layout.PlacedSection.{PlacedSection}
 use Rattle.sect_place.specs.Addresses.{address_in}
 use Rattle.patch.specs.declared.range.PlacedWork.{PlacedWork}
 use Rattle.image_make.specs.declared.kept.KeptAtom.{KeptAtom}
-use Rattle.image_make.specs.Made.{IsMade, ImageInputs, entry_offset, rows_of, scene_of}
+use Rattle.image_make.specs.Made.{IsMadeWith, ImageInputs, entry_offset, rows_of, scene_of}
 use Rattle.image_read.specs.Mapped.{mapped}
 use Rattle.image_laws.specs.Entry.{BeginsAt}
 use Rattle.image_laws.specs.Means.{AreRising, AreZeros, HasGoals, Imaged, IsGoalAt, IsSectionInMemory, IsZerofill}
@@ -26,7 +26,7 @@ use Rattle.image_laws.proofs.Rowed.{atom_within, kept_found, row_in}
 
 -- ---- the layout
 
-pub with_layout : (m : ImageInputs) (image : List ℕ) → IsMade m (Ok image) → Imaged m image
+pub with_layout : (m : ImageInputs) (image : List ℕ) → IsMadeWith m (Ok image) → Imaged m image
 with_layout m image made = record { layout = made.0; fixups = made.1; chains = made.2; is_image = made.3 }
 
 -- ---- sections

@@ -95,7 +95,7 @@ slots_reached m layout laid =
     let small = laid.small in
     let all : AreWithin (base_of m.command) m.slots layout.sections =
     subst (λ (ss : List PlacedSection). AreWithin (base_of m.command) m.slots ss) (sym laid.layout_of.sections)
-    (within plan.atoms (base_of m.command) 0 plan.lead sections m.slots (sizes_of m.command m.libs) (record { none = refl; have_atoms = have_atoms m.files (map atom_of (kept_of m)) }) (omega (arith, small)) (sections_aligned plan)) in
+    (within plan.atoms (base_of m.command) 0 plan.lead sections m.slots (sizes_of m.command m.libs (length m.info)) (record { none = refl; have_atoms = have_atoms m.files (map atom_of (kept_of m)) }) (omega (arith, small)) (sections_aligned plan)) in
     are_reached m.command m.slots layout.sections all
 
 -- the slot that a stub loads

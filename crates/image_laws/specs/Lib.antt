@@ -1,3 +1,4 @@
 pub mod Entry
 pub mod Means
 pub mod References
+pub mod Unwinding

@@ -1,5 +1,5 @@
 //! What holds of images that were made. Each function is a law, which its contract states, and does nothing.
-ghost use Rattle.std.specs.Prelude.{◌≡◌, ◌≢◌, ℕ, ◌<◌, ◌^◌, ◌⊎◌, false, All, Contains, List, Ok, Some};
+ghost use Rattle.std.specs.Prelude.{◌≡◌, ◌≢◌, ℕ, ◌<◌, ◌^◌, ◌⊎◌, false, All, Contains, List, [], None, Ok, Some};
 ghost use Rattle.mo_types.specs.Loaded.{IsWholeFile};
 ghost use Rattle.mo_types.specs.declared.goal.Goal.{Goal};
 ghost use Rattle.mo_types.specs.declared.goal.Goal.TheVariants.{Header};
@@ -12,7 +12,8 @@ ghost use Rattle.fixup_chain.specs.declared.chains.Fixup.{Fixup};
 ghost use Rattle.patch.specs.declared.range.PlacedWork.{PlacedWork};
 ghost use Rattle.ref_meet.specs.Addresses.{address_by, entry_address};
 ghost use Rattle.image_make.specs.declared.kept.KeptAtom.{KeptAtom};
-ghost use Rattle.image_make.specs.Made.{IsLaid, IsMade, ImageInputs, kept_of, mets_of, rows_of, scene_of};
+ghost use Rattle.image_make.specs.Made.{IsLaid, IsMadeWith, ImageInputs, kept_of, mets_of, rows_of, scene_of};
+ghost use Rattle.image_make.specs.Parts.{info_section};
 ghost use Rattle.image_read.specs.Fixups.{fixup_at};
 ghost use Rattle.image_read.specs.Held.{AtomMap, Held};
 ghost use Rattle.image_read.specs.Reaches.{IsStub};
@@ -22,10 +23,14 @@ ghost use Rattle.image_laws.specs.Entry.{BeginsAt};
 ghost use Rattle.image_laws.specs.Means.{AreRising, AreZeros, HasGoals, Imaged, IsGoalAt};
 ghost use Rattle.image_laws.specs.Means.{IsInMemory, IsSectionInMemory, IsWritten, IsZerofill, KeepsOtherBytes};
 ghost use Rattle.image_laws.specs.References.{AreFillable, AreOffsets, IsReferenceOf, IsServed, StubsHaveSlots, TellsGoal, section_of};
+ghost use Rattle.image_laws.specs.Unwinding.{AreUnwindable, IsEntryServed, IsInNoFunction, TellsEntry, TellsUnwinding};
+ghost use Rattle.unwind_link.specs.declared.kept.KeptUnwind.{KeptUnwind};
+ghost use Rattle.unwind_out.specs.Law.{IsQuiet};
+ghost use Rattle.unwind_out.specs.Lookup.{unwind};
 
 /// An image that is made has a layout, pointers and chains, of which the other laws speak.
 pub fn images_have_a_layout()
-    ensures { (m : ImageInputs) (image : List ℕ) → IsMade m (Ok image) → Imaged m image }
+    ensures { (m : ImageInputs) (image : List ℕ) → IsMadeWith m (Ok image) → Imaged m image }
 {}
 
 /// Once an image is loaded, each of its sections stands at its address: the bytes that the file has at the section's place,
@@ -96,4 +101,16 @@ pub fn references_tell_their_goals()
         → AreOffsets (scene_of m of.layout) offsets
         → Contains (rows_of m of.layout) row → (is : IsReferenceOf m row reference) → IsServed m of.layout row reference
         → TellsGoal m of.layout image offsets (section_of is) row reference }
+{}
+
+/// Once an image is loaded, its section `__unwind_info` tells of the functions of kept entries: at each place of one where it
+/// begins, how it is unwound, its language-specific data, and the slot by which the loader leads to its personality. Of any
+/// other place it tells nothing, and an image without entries has no such section.
+pub fn unwind_info_tells_of_kept_entries()
+    ensures told { (m : ImageInputs) (image : List ℕ) (of : Imaged m image) → AreUnwindable m → m.unwinds ≢ [] → TellsUnwinding m of.layout image }
+    ensures each { (m : ImageInputs) (image : List ℕ) (of : Imaged m image) (entry : KeptUnwind)
+        → AreUnwindable m → AreFillable (scene_of m of.layout) of.fixups → Contains m.unwinds entry → IsEntryServed m entry → TellsEntry m of.layout image entry }
+    ensures others { (m : ImageInputs) (image : List ℕ) (of : Imaged m image) (offset : ℕ)
+        → AreUnwindable m → m.unwinds ≢ [] → IsInNoFunction m of.layout image offset → IsQuiet (unwind m.info offset) }
+    ensures none { (m : ImageInputs) (layout : Layout) → IsLaid m layout → m.unwinds ≡ [] → info_section layout.sections ≡ None }
 {}

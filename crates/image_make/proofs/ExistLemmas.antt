@@ -1,5 +1,5 @@
 -- Each plan has an image, or a reason why there is none.
-use Rattle.std.proofs.Common.{◌≡◌, ◌≢◌, ℕ, ◌-◌, ◌<◌, ◌≤◌, ◌^◌, ◌⊎◌, inl, inr, pos, ℤ, Bool, true, false, List, [], length, replicate, take, drop, Option, Some, None, Ok, Err, refl, arith, if◌then◌else◌}
+use Rattle.std.proofs.Common.{◌≡◌, ◌≢◌, ℕ, ◌-◌, ◌<◌, ◌≤◌, ◌^◌, ◌⊎◌, inl, inr, pos, ℤ, Bool, true, false, List, [], ◌∷◌, length, replicate, take, drop, Option, Some, None, Ok, Err, refl, sym, ◌∙◌, arith, if◌then◌else◌}
 use Rattle.std.specs.Prelude.{◌==◌, All, slice_get}
 use Rattle.std.specs.Option.{option_map_or}
 use Rattle.std.proofs.lemmas.Bool.{cases_lt}
@@ -36,16 +36,21 @@ use Rattle.patch.proofs.ExistLemmas.{AreBytes, all_from_bytes, bytes_from_all, b
 use Rattle.ref_meet.specs.Mets.{mets_of}
 use Rattle.ref_meet.specs.Pointers.{AreFixups, all_fixups}
 use Rattle.ref_meet.proofs.PairLemmas.{up_exists}
+use Rattle.unwind_link.specs.declared.kept.KeptUnwind.{KeptUnwind}
 use Rattle.image_make.specs.Atoms.{AreLow, AreRising}
-use Rattle.image_make.specs.Made.{IsLaid, IsMade, ImageInputs, binds_of, blank, kept_of, plan_for, rows_of, scene_of}
+use Rattle.image_make.specs.Frames.{HaveFrames}
+use Rattle.image_make.specs.Made.{IsFirstInfo, IsLaid, IsMade, IsMadeWith, ImageInputs, binds_of, blank, kept_of, rows_of, scene_of, with_info}
 use Rattle.image_make.specs.Parts.{linkedit_offset, whole_size}
 use Rattle.image_make.specs.Whole.{AreBytesIn}
 use Rattle.image_make.specs.declared.fault.MakeFault.TheVariants.{Place, Range}
 use Rattle.image_make.specs.declared.unfit.AtomFault.{AtomFault}
+use Rattle.image_make.specs.inner.Filled.{IsLayFault}
+use Rattle.image_make.specs.inner.Laying.{IsPlacedWith, plan_sized}
 use Rattle.image_make.specs.inner.Unfit.{first_of}
 use Rattle.image_make.proofs.AloneLemmas.{least_alike}
 use Rattle.image_make.proofs.BindLemmas.{few_imports}
 use Rattle.image_make.proofs.FieldLemmas.{are_work}
+use Rattle.image_make.proofs.LayLemmas.{bare_fault, entries_ready, first_fault, first_info, laid_bare, laid_with, later_fault, some_info}
 use Rattle.image_make.proofs.RoomLemmas.{blank_long}
 use Rattle.image_make.proofs.SetLemmas.{overlong_is}
 use Rattle.image_make.proofs.SpreadLemmas.{are_spread}
@@ -53,10 +58,11 @@ use Rattle.image_make.proofs.UnfitLemmas.{both_unfit, field_unfit, pointer_unfit
 
 -- ---- a layout
 
-pub a_layout : (m : ImageInputs) → image_size (plan_for m) < 2 ^ 32 → (layout : Layout) × IsLaid m layout
-a_layout m small =
-    let sorted = sorted_exists (on_total (λ (p : Placed). p.atom) compare_keys_total) (image_places (plan_for m)) in (
-      record { segments = image_segments m.command (plan_for m); sections = image_sections (plan_for m); placed = sorted.0 },
+a_layout : (m : ImageInputs) (unwind : ℕ) → image_size (plan_sized m unwind) < 2 ^ 32 → (layout : Layout) × IsPlacedWith m unwind layout
+a_layout m unwind small =
+    let plan = plan_sized m unwind in
+    let sorted = sorted_exists (on_total (λ (p : Placed). p.atom) compare_keys_total) (image_places plan) in (
+      record { segments = image_segments m.command plan; sections = image_sections plan; placed = sorted.0 },
       record { layout_of = record { segments = refl; sections = refl; places = sorted.1; order = sorted.2 }; small = small },
     )
 
@@ -90,12 +96,12 @@ row_bytes files row low = all_from_bytes (bytes_of files row) (by (slice_get fil
 
 -- ---- an image, or why there is none
 
--- an answer that isn't want of memory
-abbrev pub IsAnswered : ImageInputs → Type 0
-IsAnswered m =
-    ((image : List ℕ) × IsMade m (Ok image))
-    ⊎ (((value : ℤ) × IsMade m (Err (Place (ImageSize value))))
-    ⊎ ((atom : Option AtomKey) × (fault : RangeFault) × IsMade m (Err (Range atom fault))))
+-- an answer of a layout that isn't want of memory
+abbrev pub IsAnsweredWith : ImageInputs → Type 0
+IsAnsweredWith m =
+    ((image : List ℕ) × IsMadeWith m (Ok image))
+    ⊎ (((value : ℤ) × IsMadeWith m (Err (Place (ImageSize value))))
+    ⊎ ((atom : Option AtomKey) × (fault : RangeFault) × IsMadeWith m (Err (Range atom fault))))
 
 -- what fields give over some bytes
 abbrev Filled : ImageInputs → Layout → List ChainWord → List ℕ → Type 0
@@ -114,16 +120,16 @@ told m layout whole bytes rising low is =
     let long = length-replicate {A = ℕ} (linkedit_offset layout.segments) 0 in
     filled m layout [] (replicate (linkedit_offset layout.segments) 0) whole bytes rising low is (omega (arith, long))
 
-with_chains : (m : ImageInputs) (layout : Layout) (fixups : List Fixup) (chains : Chains) → IsWholeLoaded (record { files = m.files }) → AreBytesIn m.files → AreRising (kept_of m) → AreLow (kept_of m) → IsLaid m layout → AreFixups (scene_of m layout) (rows_of m layout) fixups → AreChains layout fixups chains → IsAnswered m
+with_chains : (m : ImageInputs) (layout : Layout) (fixups : List Fixup) (chains : Chains) → IsWholeLoaded (record { files = m.files }) → AreBytesIn m.files → AreRising (kept_of m) → AreLow (kept_of m) → IsLaid m layout → AreFixups (scene_of m layout) (rows_of m layout) fixups → AreChains layout fixups chains → IsAnsweredWith m
 with_chains m layout fixups chains whole bytes rising low is pointers chained = elim (cases_lt (whole_size (base_of m.command) layout chains) (2 ^ 32)) [
   | inl few ↦ small few (filled m layout chains.words (blank m layout fixups chains) whole bytes rising low is (let long = blank_long m layout fixups chains in omega (arith, long)))
   | inr long ↦ large long (told m layout whole bytes rising low is)
 ]
   where
-    unfit : (words : List ChainWord) (key : AtomKey) (fault : RangeFault) → IsLeastFault m.files (mets_of (scene_of m layout) words) (rows_of m layout) key fault → IsAnswered m
+    unfit : (words : List ChainWord) (key : AtomKey) (fault : RangeFault) → IsLeastFault m.files (mets_of (scene_of m layout) words) (rows_of m layout) key fault → IsAnsweredWith m
     unfit words key fault least = inr (inr (Some key, fault, (layout, field_unfit m layout fixups chains key fault rising is pointers chained (least_alike (scene_of m layout) words [] (rows_of m layout) key fault least))))
 
-    small : whole_size (base_of m.command) layout chains < 2 ^ 32 → Filled m layout chains.words (blank m layout fixups chains) → IsAnswered m
+    small : whole_size (base_of m.command) layout chains < 2 ^ 32 → Filled m layout chains.words (blank m layout fixups chains) → IsAnsweredWith m
     small few (inl (new, beside, placed, low_bytes)) = inl (
       new,
       (
@@ -140,12 +146,12 @@ with_chains m layout fixups chains whole bytes rising low is pointers chained = 
     )
     small few (inr (key, fault, least)) = unfit chains.words key fault least
 
-    large : 2 ^ 32 ≤ whole_size (base_of m.command) layout chains → Filled m layout [] (replicate (linkedit_offset layout.segments) 0) → IsAnswered m
+    large : 2 ^ 32 ≤ whole_size (base_of m.command) layout chains → Filled m layout [] (replicate (linkedit_offset layout.segments) 0) → IsAnsweredWith m
     large long (inl (new, beside, placed, low_bytes)) =
-        inr (inl (pos (whole_size (base_of m.command) layout chains), inr (overlong_is m layout fixups chains new is pointers chained long placed)))
+        inr (inl (pos (whole_size (base_of m.command) layout chains), overlong_is m layout fixups chains new is pointers chained long placed))
     large long (inr (key, fault, least)) = unfit [] key fault least
 
-with_fault : (m : ImageInputs) (layout : Layout) (fixups : List Fixup) (why : ChainFault) → IsWholeLoaded (record { files = m.files }) → AreBytesIn m.files → AreRising (kept_of m) → AreLow (kept_of m) → ¬ AreMany (binds_of m) → IsLaid m layout → AreFixups (scene_of m layout) (rows_of m layout) fixups → why ≢ chain.OutOfMemory → IsCause layout fixups why → IsAnswered m
+with_fault : (m : ImageInputs) (layout : Layout) (fixups : List Fixup) (why : ChainFault) → IsWholeLoaded (record { files = m.files }) → AreBytesIn m.files → AreRising (kept_of m) → AreLow (kept_of m) → ¬ AreMany (binds_of m) → IsLaid m layout → AreFixups (scene_of m layout) (rows_of m layout) fixups → why ≢ chain.OutOfMemory → IsCause layout fixups why → IsAnsweredWith m
 with_fault m layout fixups (chain.Limit limit) whole bytes rising low few is pointers some cause = absurd (few_imports m layout fixups whole.files pointers few cause.1)
 with_fault m layout fixups chain.OutOfMemory whole bytes rising low few is pointers some cause = absurd (some refl)
 with_fault m layout fixups (chain.Range None place kind value) whole bytes rising low few is pointers some cause =
@@ -155,25 +161,71 @@ with_fault m layout fixups (chain.Range (Some key) place kind value) whole bytes
     pointer : AtomFault
     pointer = record { key = key; fault = record { file_place = place; kind = kind; value = value } }
 
-    by : Filled m layout [] (replicate (linkedit_offset layout.segments) 0) → IsAnswered m
+    by : Filled m layout [] (replicate (linkedit_offset layout.segments) 0) → IsAnsweredWith m
     by (inl (new, beside, placed, low_bytes)) = inr (inr (Some key, record { file_place = place; kind = kind; value = value }, (layout, pointer_unfit m layout fixups (Some key) (record { file_place = place; kind = kind; value = value }) new whole.files rising is pointers cause placed)))
     by (inr (other, fault, least)) =
         let field : AtomFault = record { key = other; fault = fault } in
         inr (inr (Some (first_of (record { key = key; fault = record { file_place = place; kind = kind; value = value } }) field).key, (first_of (record { key = key; fault = record { file_place = place; kind = kind; value = value } }) field).fault, (layout, both_unfit m layout fixups (record { key = key; fault = record { file_place = place; kind = kind; value = value } }) field whole.files rising is pointers cause least)))
 
-pub answered : (m : ImageInputs) → IsWholeLoaded (record { files = m.files }) → AreBytesIn m.files → AreRising (kept_of m) → AreLow (kept_of m) → ¬ AreMany (binds_of m) → IsAnswered m
-answered m whole bytes rising low few = elim (cases_lt (image_size (plan_for m)) (2 ^ 32)) [
-  | inl small ↦ laid (a_layout m small)
-  | inr many ↦ inr (inl (pos (image_size (plan_for m)), inl (many, refl)))
-]
+laid_answer : (m : ImageInputs) (layout : Layout) → IsWholeLoaded (record { files = m.files }) → AreBytesIn m.files → AreRising (kept_of m) → AreLow (kept_of m) → ¬ AreMany (binds_of m) → IsLaid m layout → IsAnsweredWith m
+laid_answer m layout whole bytes rising low few is =
+    let order = up_exists (λ (fixup : Fixup). fixup.address) (all_fixups (scene_of m layout) (rows_of m layout)) (are_spread m layout whole.files rising is) in
+    chained (order.0, record { apart = order.2; all = order.1 })
   where
-    chained : (layout : Layout) → IsLaid m layout → (fixups : List Fixup) × AreFixups (scene_of m layout) (rows_of m layout) fixups → IsAnswered m
-    chained layout is (fixups, pointers) = elim (an_answer layout fixups) [
+    chained : (fixups : List Fixup) × AreFixups (scene_of m layout) (rows_of m layout) fixups → IsAnsweredWith m
+    chained (fixups, pointers) = elim (an_answer layout fixups) [
       | inl (chains, are) ↦ with_chains m layout fixups chains whole bytes rising low is pointers are
       | inr (why, some, cause) ↦ with_fault m layout fixups why whole bytes rising low few is pointers some cause
     ]
 
-    laid : (layout : Layout) × IsLaid m layout → IsAnswered m
-    laid (layout, is) =
-        let order = up_exists (λ (fixup : Fixup). fixup.address) (all_fixups (scene_of m layout) (rows_of m layout)) (are_spread m layout whole.files rising is) in
-        chained layout is (order.0, record { apart = order.2; all = order.1 })
+-- ---- the bytes of `__unwind_info`
+
+-- an answer that isn't want of memory
+abbrev pub IsAnswered : ImageInputs → Type 0
+IsAnswered m =
+    ((image : List ℕ) × IsMade m (Ok image))
+    ⊎ (((value : ℤ) × IsMade m (Err (Place (ImageSize value))))
+    ⊎ ((atom : Option AtomKey) × (fault : RangeFault) × IsMade m (Err (Range atom fault))))
+
+answered_by : (m : ImageInputs) (info : List ℕ) → IsAnsweredWith (with_info m info) → IsAnswered m
+answered_by m info (inl (image, is)) = inl (image, (info, is))
+answered_by m info (inr (inl (value, is))) = inr (inl (value, inr (info, is)))
+answered_by m info (inr (inr (atom, fault, is))) = inr (inr (atom, fault, (info, is)))
+
+pub answered : (m : ImageInputs) → IsWholeLoaded (record { files = m.files }) → AreBytesIn m.files → AreRising (kept_of m) → AreLow (kept_of m) → HaveFrames m → ¬ AreMany (binds_of m) → IsAnswered m
+answered m whole bytes rising low frames few = by m.unwinds refl
+  where
+    here : (info : List ℕ) (layout : Layout) → IsLaid (with_info m info) layout → IsAnswered m
+    here info layout is = answered_by m info (laid_answer (with_info m info) layout whole bytes rising low few is)
+
+    -- with so many bytes it is too large
+    large : (unwind : ℕ) → IsLayFault m (Place (ImageSize (pos (image_size (plan_sized m unwind))))) → IsAnswered m
+    large unwind is = inr (inl (pos (image_size (plan_sized m unwind)), inl is))
+
+    bare : m.unwinds ≡ [] → IsAnswered m
+    bare none = elim (cases_lt (image_size (plan_sized m 0)) (2 ^ 32)) [
+      | inl small ↦ let one = a_layout m 0 small in here [] one.0 (laid_bare m one.0 none one.1)
+      | inr many ↦ large 0 (bare_fault m (Place (ImageSize (pos (image_size (plan_sized m 0))))) none (many, refl))
+    ]
+
+    later : (m.unwinds ≡ [] → ⊥) → (info : List ℕ) → IsFirstInfo m info → IsAnswered m
+    later some info first = elim (cases_lt (image_size (plan_sized m (length info))) (2 ^ 32)) [
+      | inl small ↦
+          let one = a_layout m (length info) small in
+          let other = some_info (scene_of m one.0) m.unwinds (entries_ready m (length info) one.0 whole rising low frames one.1) in
+          here other.0 one.0 (laid_with m info other.0 one.0 whole rising frames some first one.1 other.1)
+      | inr many ↦ large (length info) (later_fault m info (length info) (Place (ImageSize (pos (image_size (plan_sized m (length info)))))) first refl (many, refl))
+    ]
+
+    framed : (m.unwinds ≡ [] → ⊥) → IsAnswered m
+    framed some = elim (cases_lt (image_size (plan_sized m 1)) (2 ^ 32)) [
+      | inl small ↦
+          let one = a_layout m 1 small in
+          let info = some_info (scene_of m one.0) m.unwinds (entries_ready m 1 one.0 whole rising low frames one.1) in
+          later some info.0 (first_info m one.0 info.0 some one.1 info.1)
+      | inr many ↦ large 1 (first_fault m (Place (ImageSize (pos (image_size (plan_sized m 1))))) some (many, refl))
+    ]
+
+    by : (unwinds : List KeptUnwind) → m.unwinds ≡ unwinds → IsAnswered m
+    by [] e = bare e
+    by (entry ∷ more) e = framed (λ none. let both = sym e ∙ none in cc)

@@ -83,7 +83,7 @@ pub laid_own : (m : ImageInputs) (layout : Layout) (way : Way) → IsLaid m layo
 unfolding plan_with plan_of image_sections spaced atoms_of
 laid_own m layout way laid =
     subst (λ (there : List PlacedSection). HasOwnSection there m.slots way) (sym laid.layout_of.sections)
-    (has_own _ _ _ _ (out_sections m.files (map atom_of (kept_of m))) m.slots (sizes_of m.command m.libs) way (record { none = refl; have_atoms = have_atoms m.files (map atom_of (kept_of m)) }))
+    (has_own _ _ _ _ (out_sections m.files (map atom_of (kept_of m))) m.slots (sizes_of m.command m.libs (length m.info)) way (record { none = refl; have_atoms = have_atoms m.files (map atom_of (kept_of m)) }))
 
 pub laid_within : (m : ImageInputs) (layout : Layout) → IsLaid m layout → AreWithin (base_of m.command) m.slots layout.sections
 unfolding plan_with plan_of image_sections spaced atoms_of
@@ -91,7 +91,7 @@ laid_within m layout laid =
     let plan = plan_for m in
     let small = laid.small in
     subst (λ (there : List PlacedSection). AreWithin (base_of m.command) m.slots there) (sym laid.layout_of.sections)
-    (within plan.atoms (base_of m.command) 0 plan.lead (out_sections m.files (map atom_of (kept_of m))) m.slots (sizes_of m.command m.libs) (record { none = refl; have_atoms = have_atoms m.files (map atom_of (kept_of m)) }) (omega (arith, small)) (sections_aligned plan))
+    (within plan.atoms (base_of m.command) 0 plan.lead (out_sections m.files (map atom_of (kept_of m))) m.slots (sizes_of m.command m.libs (length m.info)) (record { none = refl; have_atoms = have_atoms m.files (map atom_of (kept_of m)) }) (omega (arith, small)) (sections_aligned plan))
 
 pub laid_room : (m : ImageInputs) (layout : Layout) → IsLaid m layout → HaveRoom (starts_of layout.sections) m.slots
 laid_room m layout laid = have_room m.command m.slots layout.sections (laid_within m layout laid)
@@ -105,5 +105,5 @@ unfolding plan_with plan_of image_sections spaced atoms_of own_section
 laid_is m layout way p laid e =
     let plan = plan_for m in
     let there : own_section (image_sections plan) way ≡ Some p = ap (λ (ss : List PlacedSection). own_section ss way) (sym laid.layout_of.sections) ∙ e in
-    let own = own_found plan.atoms (base_of m.command) 0 plan.lead (out_sections m.files (map atom_of (kept_of m))) m.slots (sizes_of m.command m.libs) way p (record { none = refl; have_atoms = have_atoms m.files (map atom_of (kept_of m)) }) there in
+    let own = own_found plan.atoms (base_of m.command) 0 plan.lead (out_sections m.files (map atom_of (kept_of m))) m.slots (sizes_of m.command m.libs (length m.info)) way p (record { none = refl; have_atoms = have_atoms m.files (map atom_of (kept_of m)) }) there in
     (own.is, own.sized, (find_some (is_own way) layout.sections p e).0)

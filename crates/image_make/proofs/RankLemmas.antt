@@ -1,5 +1,5 @@
--- In each segment the sections with bytes stand first, and none is aligned to more than a page.
-use Rattle.std.proofs.Common.{◌≡◌, ℕ, ◌≤◌, ◌==◌, ◌⊎◌, Bool, true, false, codes, List, [], ◌∷◌, ◌++◌, map, inl, inr, refl, sym, ap, ◌∙◌, subst, arith, append-nil, append_assoc, if◌then◌else◌}
+-- In each segment the sections with bytes stand first, or the last one has some, and none is aligned to more than a page.
+use Rattle.std.proofs.Common.{◌≡◌, ◌≢◌, ℕ, ◌≤◌, ◌==◌, ◌⊎◌, Bool, true, false, codes, List, [], ◌∷◌, ◌++◌, map, inl, inr, refl, sym, ap, ◌∙◌, subst, arith, append-nil, append_assoc, if◌then◌else◌}
 use Rattle.std.specs.Prelude.{All}
 use Rattle.std.specs.List.{AllByRecursion, filter, flat_map, list_any}
 use Rattle.std.specs.Str.{bytes_eq}
@@ -16,7 +16,7 @@ use Rattle.sect_list.specs.OutSections.{in_order, is_in, is_of, is_regular, lead
 use Rattle.sect_list.proofs.Listed.{names_equal}
 use Rattle.sect_list.proofs.Low.{all_low, appended}
 use Rattle.sect_list.proofs.Once.{Apart, apart_append}
-use Rattle.sect_place.specs.Arrangement.{MadeBytes, chosen, constant_parts, group_named, groups_of, is_chosen, is_code, own, runs, runs_from, text_parts, with_atoms, writable_parts}
+use Rattle.sect_place.specs.Arrangement.{MadeBytes, chosen, constant_parts, group_named, groups_of, is_chosen, is_code, own, runs, runs_from, section_of, text_parts, with_atoms, writable_parts}
 use Rattle.sect_place.specs.declared.part.Choice.{Choice}
 use Rattle.sect_place.specs.declared.part.Choice.TheVariants.{Code, BesideCode, Constant, Writable, Elsewhere}
 use Rattle.sect_place.specs.declared.part.Group.{Group}
@@ -171,6 +171,18 @@ pub record IsStored (parts : List Part) : Type 0 where
   pub first : FilesFirst parts
   pub low : (part : Part) → In part parts → part.section.align ≤ 14
 
+-- the last one has bytes of its own
+pub record EndsFull (parts : List Part) : Type 0 where
+  pub before : List Part
+  pub last : Part
+  pub joined : parts ≡ before ++ last ∷ []
+  pub solid : is_zerofill last.section.kind ≡ false
+  pub full : last.fixed ≢ 0
+
+-- either way those with bytes have places in the file
+abbrev pub HaveFilePlaces : List Part → Type 0
+HaveFilePlaces parts = IsStored parts ⊎ EndsFull parts
+
 -- sections whose order in each segment is known, and whose alignments are
 record AreParts (parts : List Part) : Type 0 where
   pub ranks : Pairs PartRank parts
@@ -189,13 +201,13 @@ chosen_parts choice ss pairs low = record {
 own_solid : (made : Made) (bytes : ℕ) (part : Part) → In part (own made bytes) → (is_zerofill part.section.kind ≡ false) × (part.section.align ≤ 14)
 own_solid made bytes part h = by made (bytes == 0) h
   where
-    of_kind : (made : Made) → (is_zerofill (Rattle.sect_place.specs.Arrangement.section_of made).kind ≡ false) × ((Rattle.sect_place.specs.Arrangement.section_of made).align ≤ 14)
+    of_kind : (made : Made) → (is_zerofill (section_of made).kind ≡ false) × ((section_of made).align ≤ 14)
     of_kind Stubs = (refl, omega arith)
     of_kind UnwindInfo = (refl, omega arith)
     of_kind Got = (refl, omega arith)
     of_kind ThreadPtrs = (refl, omega arith)
 
-    by : (made : Made) (b : Bool) → In part (if b then [] else record { section = Rattle.sect_place.specs.Arrangement.section_of made; fixed = bytes } ∷ []) → (is_zerofill part.section.kind ≡ false) × (part.section.align ≤ 14)
+    by : (made : Made) (b : Bool) → In part (if b then [] else record { section = section_of made; fixed = bytes } ∷ []) → (is_zerofill part.section.kind ≡ false) × (part.section.align ≤ 14)
     by made true k = absurd k
     by made false (inl e) = subst (λ (p : Part). (is_zerofill p.section.kind ≡ false) × (p.section.align ≤ 14)) e (of_kind made)
     by made false (inr k) = absurd k
@@ -247,16 +259,26 @@ writable_in : (s : OutSection) → is_chosen Writable s ≡ true → is_in (code
 unfolding is_chosen
 writable_in s e = e
 
-text_stored : (ss : List OutSection) (bytes : MadeBytes) → bytes.unwind ≡ 0 → Pairs InRank ss → All (λ (s : OutSection). s.align ≤ 14) ss → IsStored (text_parts ss bytes)
+text_stored : (ss : List OutSection) (bytes : MadeBytes) → Pairs InRank ss → All (λ (s : OutSection). s.align ≤ 14) ss → HaveFilePlaces (text_parts ss bytes)
 unfolding text_parts
-text_stored ss bytes none pairs low =
-    let beside : IsStored (chosen BesideCode ss) = of_one (codes "__TEXT") (chosen BesideCode ss) (chosen_in BesideCode (codes "__TEXT") ss beside_in_text) (chosen_parts BesideCode ss pairs low) in
-    let stubs : IsStored (own Stubs bytes.stubs ++ chosen BesideCode ss) = solid_before (own Stubs bytes.stubs) (chosen BesideCode ss) (own_solid Stubs bytes.stubs) beside in
-    let all : IsStored (chosen Code ss ++ (own Stubs bytes.stubs ++ chosen BesideCode ss)) = solid_before (chosen Code ss) (own Stubs bytes.stubs ++ chosen BesideCode ss) (code_solid ss low pairs) stubs in
-    let turned : IsStored (chosen Code ss ++ own Stubs bytes.stubs ++ chosen BesideCode ss) = subst (λ (ps : List Part). IsStored ps) (sym (append_assoc (chosen Code ss) (own Stubs bytes.stubs) (chosen BesideCode ss))) all in
-    let no_own : own UnwindInfo bytes.unwind ≡ [] = rw none refl in
-    subst (λ (ps : List Part). IsStored (chosen Code ss ++ own Stubs bytes.stubs ++ chosen BesideCode ss ++ ps)) (sym no_own)
-    (subst (λ (ps : List Part). IsStored ps) (sym (append-nil (chosen Code ss ++ own Stubs bytes.stubs ++ chosen BesideCode ss))) turned)
+text_stored ss bytes pairs low = by (bytes.unwind == 0) refl
+  where
+    front : List Part
+    front = chosen Code ss ++ own Stubs bytes.stubs ++ chosen BesideCode ss
+
+    info : Part
+    info = record { section = section_of UnwindInfo; fixed = bytes.unwind }
+
+    stored : IsStored front
+    stored =
+        let beside : IsStored (chosen BesideCode ss) = of_one (codes "__TEXT") (chosen BesideCode ss) (chosen_in BesideCode (codes "__TEXT") ss beside_in_text) (chosen_parts BesideCode ss pairs low) in
+        let stubs : IsStored (own Stubs bytes.stubs ++ chosen BesideCode ss) = solid_before (own Stubs bytes.stubs) (chosen BesideCode ss) (own_solid Stubs bytes.stubs) beside in
+        let all : IsStored (chosen Code ss ++ (own Stubs bytes.stubs ++ chosen BesideCode ss)) = solid_before (chosen Code ss) (own Stubs bytes.stubs ++ chosen BesideCode ss) (code_solid ss low pairs) stubs in
+        subst (λ (ps : List Part). IsStored ps) (sym (append_assoc (chosen Code ss) (own Stubs bytes.stubs) (chosen BesideCode ss))) all
+
+    by : (b : Bool) → (bytes.unwind == 0) ≡ b → HaveFilePlaces (front ++ (if b then [] else info ∷ []))
+    by true e = inl (subst (λ (ps : List Part). IsStored ps) (sym (append-nil front)) stored)
+    by false e = inr (record { before = front; last = info; joined = refl; solid = refl; full = λ z. false≢true (sym e ∙ ap (λ (n : ℕ). n == 0) z) })
 
 constant_stored : (ss : List OutSection) (bytes : MadeBytes) → Pairs InRank ss → All (λ (s : OutSection). s.align ≤ 14) ss → IsStored (constant_parts ss bytes)
 unfolding constant_parts
@@ -281,11 +303,11 @@ pairs_right R [] ys pairs = pairs
 pairs_right R (x ∷ xs) ys pairs = pairs_right R xs ys pairs.1
 
 abbrev GroupStored : Group → Type 0
-GroupStored group = IsStored group.parts
+GroupStored group = HaveFilePlaces group.parts
 
 named_stored : (name : List ℕ) (parts : List Part) → IsStored parts → AllByRecursion GroupStored (group_named name parts)
 named_stored name [] stored = tt
-named_stored name (part ∷ parts) stored = (stored, tt)
+named_stored name (part ∷ parts) stored = (inl stored, tt)
 
 runs_stored : (name : List ℕ) (run parts : List Part) → ((part : Part) → In part run → part.section.segment ≡ name) → AreParts (run ++ parts) → AllByRecursion GroupStored (runs_from name run parts)
 runs_stored name run [] same are =
@@ -312,18 +334,18 @@ runs_stored name run (part ∷ parts) same are =
 
 -- ---- all segments
 
-pub groups_stored : (ss : List OutSection) (bytes : MadeBytes) → bytes.unwind ≡ 0 → Pairs InRank ss → All (λ (s : OutSection). s.align ≤ 14) ss → AllByRecursion (λ (group : Group). IsStored group.parts) (groups_of ss bytes)
+pub groups_stored : (ss : List OutSection) (bytes : MadeBytes) → Pairs InRank ss → All (λ (s : OutSection). s.align ≤ 14) ss → AllByRecursion (λ (group : Group). HaveFilePlaces group.parts) (groups_of ss bytes)
 unfolding groups_of runs
-groups_stored ss bytes none pairs low =
+groups_stored ss bytes pairs low =
     let text : List Group = record { name = codes "__TEXT"; parts = text_parts ss bytes } ∷ [] in
     let constant : List Group = group_named (codes "__DATA_CONST") (constant_parts ss bytes) in
     let writable : List Group = group_named (codes "__DATA") (writable_parts ss bytes) in
     let others : List Group = runs_from [] [] (chosen Elsewhere ss) in
     appended GroupStored (text ++ constant ++ writable) others
     (appended GroupStored (text ++ constant) writable
-    (appended GroupStored text constant (text_stored ss bytes none pairs low, tt) (named_stored (codes "__DATA_CONST") (constant_parts ss bytes) (constant_stored ss bytes pairs low)))
+    (appended GroupStored text constant (text_stored ss bytes pairs low, tt) (named_stored (codes "__DATA_CONST") (constant_parts ss bytes) (constant_stored ss bytes pairs low)))
     (named_stored (codes "__DATA") (writable_parts ss bytes) (writable_stored ss bytes pairs low)))
     (runs_stored [] [] (chosen Elsewhere ss) (λ p h. absurd h) (chosen_parts Elsewhere ss pairs low))
 
-pub all_stored : (files : List LoadedFile) (atoms : List Atom) (bytes : MadeBytes) → bytes.unwind ≡ 0 → All (λ (atom : Atom). atom.align ≤ 14) atoms → AllByRecursion (λ (group : Group). IsStored group.parts) (groups_of (out_sections files atoms) bytes)
-all_stored files atoms bytes none low = groups_stored (out_sections files atoms) bytes none (sections_ranked files atoms) (all_low files atoms low)
+pub all_stored : (files : List LoadedFile) (atoms : List Atom) (bytes : MadeBytes) → All (λ (atom : Atom). atom.align ≤ 14) atoms → AllByRecursion (λ (group : Group). HaveFilePlaces group.parts) (groups_of (out_sections files atoms) bytes)
+all_stored files atoms bytes low = groups_stored (out_sections files atoms) bytes (sections_ranked files atoms) (all_low files atoms low)

@@ -9,7 +9,7 @@ use Rattle.load_cmds.specs.Sizes.{other_size}
 use Rattle.load_cmds.proofs.Lengths.{commands_length}
 use Rattle.sect_list.specs.OutSections.{out_sections}
 use Rattle.sect_place.specs.Arrangement.{parts_count, text_parts}
-use Rattle.sect_place.specs.Layout.{IsLayoutOf, Plan, end_of_image, first_segments, image_sections, image_segments, image_size, lead_of, linkedit, made_bytes, others_of, pagezero, plan_of}
+use Rattle.sect_place.specs.Layout.{Plan, end_of_image, first_segments, image_sections, image_segments, lead_of, linkedit, made_bytes, others_of, pagezero, plan_of}
 use Rattle.sect_place.specs.Places.{file_bytes, group_end, groups_end, groups_file, groups_sections, groups_segments, page_up, part_end, parts_sections}
 use Rattle.sect_place.specs.Whole.{IsWholeLayout}
 use Rattle.sect_place.specs.declared.layout.Layout.{Layout}
@@ -25,7 +25,6 @@ use Rattle.image_make.specs.Flags.{bound_flags}
 use Rattle.image_make.specs.Parts.{blank_of, linkedit_address, linkedit_offset, parts_of, parts_there}
 use Rattle.fixup_chain.specs.declared.chains.Chains.{Chains}
 use Rattle.fixup_chain.specs.declared.chains.Fixup.{Fixup}
-use Rattle.image_make.specs.declared.kept.KeptAtom.{KeptAtom}
 
 -- ---- how many segments and sections there are
 
@@ -100,14 +99,7 @@ base_small false = omega arith
 pub whole_layout : (m : ImageInputs) (layout : Layout) → IsLaid m layout → IsWholeLayout layout
 unfolding plan_with plan_of
 whole_layout m layout laid =
-    whole_finished m.command (plan_for m) (out_sections m.files (map atom_of (kept_of m))) (made_bytes m.slots (sizes_of m.command m.libs)) (Ok layout) refl (base_small m.command.dylib) refl laid.layout_of.segments laid.layout_of.sections laid.small
-
--- what the steps gave is laid out
-pub laid_by : (m : ImageInputs) (kept : List KeptAtom) (layout : Layout) → kept ≡ kept_of m → IsLayoutOf m.command (plan_with m.command m.libs m.files kept m.slots m.islands) layout → image_size (plan_with m.command m.libs m.files kept m.slots m.islands) < 2 ^ 32 → IsLaid m layout
-laid_by m kept layout is layout_of small = record {
-  layout_of = subst (λ (ks : List KeptAtom). IsLayoutOf m.command (plan_with m.command m.libs m.files ks m.slots m.islands) layout) is layout_of;
-  small = subst (λ (ks : List KeptAtom). image_size (plan_with m.command m.libs m.files ks m.slots m.islands) < 2 ^ 32) is small;
-}
+    whole_finished m.command (plan_for m) (out_sections m.files (map atom_of (kept_of m))) (made_bytes m.slots (sizes_of m.command m.libs (length m.info))) (Ok layout) refl (base_small m.command.dylib) refl laid.layout_of.segments laid.layout_of.sections laid.small
 
 lead_is : (m : ImageInputs) → 32 + (other_size parts_there m.command m.libs + 72 * (length (plan_for m).groups + others_of m.command) + 80 * parts_count (plan_for m).groups) ≤ (plan_for m).lead
 unfolding plan_with plan_of lead_of
@@ -119,7 +111,7 @@ unfolding plan_with plan_of
 lead_room m =
     let plan = plan_for m in
     let sections = out_sections m.files (map atom_of (kept_of m)) in
-    let bytes = made_bytes m.slots (sizes_of m.command m.libs) in
+    let bytes = made_bytes m.slots (sizes_of m.command m.libs (length m.info)) in
     let ends = first_end plan.atoms plan.base 0 plan.lead (record { name = codes "__TEXT"; parts = text_parts sections bytes }) (later_groups sections bytes) in
     subst (λ (gs : List Group). (plan.base + plan.lead ≤ groups_end plan.atoms plan.base plan.lead gs) × (plan.lead ≤ groups_file plan.atoms plan.base 0 plan.lead gs)) (sym (groups_split sections bytes)) (ends.0, omega (arith, ends.1))
 

@@ -1,5 +1,5 @@
 -- Each row of an image is an atom of one of its sections.
-use Rattle.std.proofs.Common.{◌≡◌, ℕ, ◌+◌, ◌≤◌, Bool, true, false, not, List, [], ◌∷◌, get_or, map, Option, Some, None, Contains, refl, sym, ap, ◌∙◌, arith, subst}
+use Rattle.std.proofs.Common.{◌≡◌, ℕ, ◌+◌, ◌≤◌, Bool, true, false, not, List, [], ◌∷◌, get_or, length, map, Option, Some, None, Contains, refl, sym, ap, ◌∙◌, arith, subst}
 use Rattle.std.specs.List.{filter}
 use Rattle.std.specs.List.Sorted.{IsStrictlySortedBy}
 use Rattle.std.specs.Option.{option_and_then, option_map}
@@ -47,7 +47,7 @@ pub placed_once : (m : ImageInputs) (layout : Layout) → AreRising (kept_of m) 
 unfolding plan_with
 placed_once m layout rising laid =
     let atoms = map atom_of (kept_of m) in
-    once layout.placed (layout_rises atoms (out_sections m.files atoms) m.slots m.islands (sizes_of m.command m.libs) m.command layout (listed_once m.files atoms (rising_atoms (kept_of m) rising)) laid.layout_of)
+    once layout.placed (layout_rises atoms (out_sections m.files atoms) m.slots m.islands (sizes_of m.command m.libs (length m.info)) m.command layout (listed_once m.files atoms (rising_atoms (kept_of m) rising)) laid.layout_of)
 
 -- ---- a row
 

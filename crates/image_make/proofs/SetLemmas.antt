@@ -37,7 +37,7 @@ use Rattle.sect_place.specs.declared.layout.Layout.{Layout}
 use Rattle.sect_place.specs.declared.layout.PlacedSection.{PlacedSection}
 use Rattle.sect_place.specs.declared.size.PlaceFault.TheVariants.{ImageSize}
 use Rattle.image_make.specs.Flags.{bound_flags, flag_if, is_flat, is_weak}
-use Rattle.image_make.specs.Made.{IsFilledImage, IsLaid, IsMade, IsOverlong, IsUnfit, ImageInputs, blank, entry_offset, front_of, rows_of, scene_of, told_mets}
+use Rattle.image_make.specs.Made.{IsFilledImage, IsLaid, IsMadeWith, IsOverlong, IsUnfit, ImageInputs, blank, entry_offset, front_of, rows_of, scene_of, told_mets}
 use Rattle.image_make.specs.Parts.{blank_of, image_parts, linkedit_address, linkedit_offset, parts_of, whole_size}
 use Rattle.image_make.specs.declared.fault.MakeFault.{MakeFault}
 use Rattle.image_make.specs.declared.fault.MakeFault.TheVariants.{Place, Range, OutOfMemory}
@@ -118,7 +118,7 @@ fill_fault m laid words fault is fill =
     subst (λ (work : List PlacedWork). IsFillFault m.files (mets_of (scene_of m (layout_of laid)) words) work fault) is.work
     (subst (λ (scene : Scene). IsFillFault scene.files (mets_of scene words) laid.work.now fault) is.scene fill)
 
-made_fault : (m : ImageInputs) (layout : Layout) (fixups : List Fixup) (chains : Chains) (words : List ChainWord) (fault : MakeFault) → AreGood m → IsLaid m layout → AreFixups (scene_of m layout) (rows_of m layout) fixups → AreChains layout fixups chains → IsFillFault m.files (mets_of (scene_of m layout) words) (rows_of m layout) fault → IsMade m (Err fault)
+made_fault : (m : ImageInputs) (layout : Layout) (fixups : List Fixup) (chains : Chains) (words : List ChainWord) (fault : MakeFault) → AreGood m → IsLaid m layout → AreFixups (scene_of m layout) (rows_of m layout) fixups → AreChains layout fixups chains → IsFillFault m.files (mets_of (scene_of m layout) words) (rows_of m layout) fault → IsMadeWith m (Err fault)
 made_fault m layout fixups chains words (Range atom fault) good laid pointers chained (key, named, least) = (
   layout,
   subst (λ (o : Option AtomKey). IsUnfit m layout o fault) (sym named)
@@ -128,7 +128,7 @@ made_fault m layout fixups chains words (Place fault) good laid pointers chained
 made_fault m layout fixups chains words OutOfMemory good laid pointers chained fill = tt
 
 -- a fault of a field, where pointers have chains
-pub laid_fault : (m : ImageInputs) (laid : code.Laid) (chains : Chains) (words : List ChainWord) (fault : MakeFault) → IsLaidOut m laid → AreChains (layout_of laid) laid.fixups.now chains → IsFillFault laid.scene.now.loaded.now.files (mets_of (ready.scene_of laid.scene.now) words) laid.work.now fault → IsMade m (Err fault)
+pub laid_fault : (m : ImageInputs) (laid : code.Laid) (chains : Chains) (words : List ChainWord) (fault : MakeFault) → IsLaidOut m laid → AreChains (layout_of laid) laid.fixups.now chains → IsFillFault laid.scene.now.loaded.now.files (mets_of (ready.scene_of laid.scene.now) words) laid.work.now fault → IsMadeWith m (Err fault)
 laid_fault m laid chains words fault is chained fill = made_fault m (layout_of laid) laid.fixups.now chains words fault is.good is.is_laid is.pointers chained (fill_fault m laid words fault is fill)
 
 placed_told : (m : ImageInputs) (laid : code.Laid) (image : List ℕ) → IsLaidOut m laid → All (IsPlaced laid.scene.now.loaded.now.files (mets_of (ready.scene_of laid.scene.now) []) 0 image) laid.work.now → All (IsPlaced m.files (mets_of (scene_of m (layout_of laid)) []) 0 image) (rows_of m (layout_of laid))
@@ -156,24 +156,24 @@ overlong_is m layout fixups chains image laid pointers chained long placed = rec
     no_fault e f = cc
 
 pub laid_long : (m : ImageInputs) (laid : code.Laid) (chains : Chains) (image : List ℕ) (value : ℕ) → IsLaidOut m laid → AreChains (layout_of laid) laid.fixups.now chains → 2 ^ 32 ≤ whole_size laid.scene.now.base (layout_of laid) chains → value ≡ whole_size laid.scene.now.base (layout_of laid) chains
-    → All (IsPlaced laid.scene.now.loaded.now.files (mets_of (ready.scene_of laid.scene.now) []) 0 image) laid.work.now → IsMade m (Err (Place (ImageSize (pos value))))
+    → All (IsPlaced laid.scene.now.loaded.now.files (mets_of (ready.scene_of laid.scene.now) []) 0 image) laid.work.now → IsMadeWith m (Err (Place (ImageSize (pos value))))
 laid_long m laid chains image value is chained long size placed =
     let base = base_is m laid is in
     let there = placed_told m laid image is placed in
     let same : value ≡ whole_size (base_of m.command) (layout_of laid) chains = size ∙ ap (λ (b : ℕ). whole_size b (layout_of laid) chains) base in
     let large : 2 ^ 32 ≤ whole_size (base_of m.command) (layout_of laid) chains = subst (λ (b : ℕ). 2 ^ 32 ≤ whole_size b (layout_of laid) chains) base long in
-    subst (λ (n : ℕ). IsMade m (Err (Place (ImageSize (pos n))))) (sym same)
-    (inr (overlong_is m (layout_of laid) laid.fixups.now chains image is.is_laid is.pointers chained large there))
+    subst (λ (n : ℕ). IsMadeWith m (Err (Place (ImageSize (pos n))))) (sym same)
+    (overlong_is m (layout_of laid) laid.fixups.now chains image is.is_laid is.pointers chained large there)
 
 -- ---- a pointer that is out of range
 
-pub slot_made : (m : ImageInputs) (laid : code.Laid) (fault : RangeFault) → IsLaidOut m laid → IsRefused (layout_of laid) laid.fixups.now (chain.Range None fault.file_place fault.kind fault.value) → IsMade m (Err (Range None fault))
+pub slot_made : (m : ImageInputs) (laid : code.Laid) (fault : RangeFault) → IsLaidOut m laid → IsRefused (layout_of laid) laid.fixups.now (chain.Range None fault.file_place fault.kind fault.value) → IsMadeWith m (Err (Range None fault))
 slot_made m laid fault is refused = (layout_of laid, slot_unfit m (layout_of laid) laid.fixups.now fault is.good.whole.files is.good.rising is.is_laid is.pointers refused)
 
-pub pointer_made : (m : ImageInputs) (laid : code.Laid) (pointer : AtomFault) (image : List ℕ) → IsLaidOut m laid → IsRefused (layout_of laid) laid.fixups.now (chain.Range (Some pointer.key) pointer.fault.file_place pointer.fault.kind pointer.fault.value) → All (IsPlaced laid.scene.now.loaded.now.files (mets_of (ready.scene_of laid.scene.now) []) 0 image) laid.work.now → IsMade m (Err (of_atom pointer))
+pub pointer_made : (m : ImageInputs) (laid : code.Laid) (pointer : AtomFault) (image : List ℕ) → IsLaidOut m laid → IsRefused (layout_of laid) laid.fixups.now (chain.Range (Some pointer.key) pointer.fault.file_place pointer.fault.kind pointer.fault.value) → All (IsPlaced laid.scene.now.loaded.now.files (mets_of (ready.scene_of laid.scene.now) []) 0 image) laid.work.now → IsMadeWith m (Err (of_atom pointer))
 pointer_made m laid pointer image is refused placed = (layout_of laid, pointer_unfit m (layout_of laid) laid.fixups.now (Some pointer.key) pointer.fault image is.good.whole.files is.good.rising is.is_laid is.pointers refused (placed_told m laid image is placed))
 
-first_made : (m : ImageInputs) (layout : Layout) (fixups : List Fixup) (pointer : AtomFault) (field : MakeFault) → AreGood m → IsLaid m layout → AreFixups (scene_of m layout) (rows_of m layout) fixups → IsRefused layout fixups (chain.Range (Some pointer.key) pointer.fault.file_place pointer.fault.kind pointer.fault.value) → IsFillFault m.files (told_mets m layout) (rows_of m layout) field → IsMade m (Err (first_with pointer field))
+first_made : (m : ImageInputs) (layout : Layout) (fixups : List Fixup) (pointer : AtomFault) (field : MakeFault) → AreGood m → IsLaid m layout → AreFixups (scene_of m layout) (rows_of m layout) fixups → IsRefused layout fixups (chain.Range (Some pointer.key) pointer.fault.file_place pointer.fault.kind pointer.fault.value) → IsFillFault m.files (told_mets m layout) (rows_of m layout) field → IsMadeWith m (Err (first_with pointer field))
 first_made m layout fixups pointer (Range (Some key) fault) good laid pointers refused (other, named, least) =
     let same : other ≡ key = cc named in
     (layout, both_unfit m layout fixups pointer (record { key = key; fault = fault }) good.whole.files good.rising laid pointers refused (subst (λ (k : AtomKey). IsLeastFault m.files (told_mets m layout) (rows_of m layout) k fault) same least))
@@ -181,7 +181,7 @@ first_made m layout fixups pointer (Range None fault) good laid pointers refused
 first_made m layout fixups pointer (Place fault) good laid pointers refused never = absurd never
 first_made m layout fixups pointer OutOfMemory good laid pointers refused fill = tt
 
-pub laid_first : (m : ImageInputs) (laid : code.Laid) (pointer : AtomFault) (field : MakeFault) → IsLaidOut m laid → IsRefused (layout_of laid) laid.fixups.now (chain.Range (Some pointer.key) pointer.fault.file_place pointer.fault.kind pointer.fault.value) → IsFillFault laid.scene.now.loaded.now.files (mets_of (ready.scene_of laid.scene.now) []) laid.work.now field → IsMade m (Err (first_with pointer field))
+pub laid_first : (m : ImageInputs) (laid : code.Laid) (pointer : AtomFault) (field : MakeFault) → IsLaidOut m laid → IsRefused (layout_of laid) laid.fixups.now (chain.Range (Some pointer.key) pointer.fault.file_place pointer.fault.kind pointer.fault.value) → IsFillFault laid.scene.now.loaded.now.files (mets_of (ready.scene_of laid.scene.now) []) laid.work.now field → IsMadeWith m (Err (first_with pointer field))
 laid_first m laid pointer field is refused fill = first_made m (layout_of laid) laid.fixups.now pointer field is.good is.is_laid is.pointers refused (fill_fault m laid [] field is fill)
 
 -- ---- the image
@@ -193,26 +193,26 @@ front_is m laid chains flags front is flag front_by =
     ∙ ap (λ (scene : Scene). commands_of (layout_of laid) (parts_of flags (option_map (λ (address : ℕ). address - scene.base) (entry_address scene m.entry)) (layout_of laid) chains) m.command m.libs) is.scene
     ∙ ap (λ (n : ℕ). commands_of (layout_of laid) (parts_of n (entry_offset m (layout_of laid)) (layout_of laid) chains) m.command m.libs) flag
 
-pub laid_parts : (m : ImageInputs) (laid : code.Laid) (chains : Chains) (front : List ℕ) → IsLaidOut m laid → AreChains (layout_of laid) laid.fixups.now chains → whole_size laid.scene.now.base (layout_of laid) chains < 2 ^ 32 → front ≡ front_of m (layout_of laid) laid.fixups.now chains → AreReadyParts (layout_of laid) m.slots chains front
+pub laid_parts : (m : ImageInputs) (laid : code.Laid) (chains : Chains) (front : List ℕ) → IsLaidOut m laid → AreChains (layout_of laid) laid.fixups.now chains → whole_size laid.scene.now.base (layout_of laid) chains < 2 ^ 32 → front ≡ front_of m (layout_of laid) laid.fixups.now chains → AreReadyParts (layout_of laid) m.slots m.info chains front
 laid_parts m laid chains front is chained few front_by = record {
   slots = record {
     room = laid_room m (layout_of laid) is.is_laid;
     reached = (base_of m.command, laid_reach m (layout_of laid) is.is_laid);
     words = words_rise (layout_of laid) laid.fixups.now chains is.pointers.apart chained;
   };
-  apart = subst (λ (bytes : List ℕ). LieApart (record { size = linkedit_offset (layout_of laid).segments + length chains.blob; parts = image_parts (layout_of laid) m.slots chains bytes })) (sym front_by) (parts_apart m (layout_of laid) laid.fixups.now chains is.good.low is.is_laid);
+  apart = subst (λ (bytes : List ℕ). LieApart (record { size = linkedit_offset (layout_of laid).segments + length chains.blob; parts = image_parts (layout_of laid) m.slots m.info chains bytes })) (sym front_by) (parts_apart m (layout_of laid) laid.fixups.now chains is.good.low is.is_laid);
   few = file_few m (layout_of laid) chains is.is_laid (subst (λ (b : ℕ). whole_size b (layout_of laid) chains < 2 ^ 32) (base_is m laid is) few);
 }
 
-pub laid_made : (m : ImageInputs) (laid : code.Laid) (chains : Chains) (front old : List ℕ) (answer : Result (List ℕ) MakeFault) → IsLaidOut m laid → AreChains (layout_of laid) laid.fixups.now chains → whole_size laid.scene.now.base (layout_of laid) chains < 2 ^ 32 → front ≡ front_of m (layout_of laid) laid.fixups.now chains → old ≡ blank_of (layout_of laid) m.slots chains front
-    → IsFilled laid.scene.now.loaded.now.files (mets_of (ready.scene_of laid.scene.now) chains.words) laid.work.now old answer → IsMade m answer
+pub laid_made : (m : ImageInputs) (laid : code.Laid) (chains : Chains) (front old : List ℕ) (answer : Result (List ℕ) MakeFault) → IsLaidOut m laid → AreChains (layout_of laid) laid.fixups.now chains → whole_size laid.scene.now.base (layout_of laid) chains < 2 ^ 32 → front ≡ front_of m (layout_of laid) laid.fixups.now chains → old ≡ blank_of (layout_of laid) m.slots m.info chains front
+    → IsFilled laid.scene.now.loaded.now.files (mets_of (ready.scene_of laid.scene.now) chains.words) laid.work.now old answer → IsMadeWith m answer
 laid_made m laid chains front old (Err fault) is chained few front_by old_by fill = laid_fault m laid chains chains.words fault is chained fill
 laid_made m laid chains front old (Ok image) is chained few front_by old_by fill =
     let layout = layout_of laid in
     let filled : IsFilledImage m.files (mets_of (scene_of m layout) chains.words) (rows_of m layout) old image =
     subst (λ (work : List PlacedWork). IsFilledImage m.files (mets_of (scene_of m layout) chains.words) work old image) is.work
     (subst (λ (scene : Scene). IsFilledImage scene.files (mets_of scene chains.words) laid.work.now old image) is.scene fill) in
-    let blanks : old ≡ blank m layout laid.fixups.now chains = old_by ∙ ap (blank_of layout m.slots chains) front_by in (
+    let blanks : old ≡ blank m layout laid.fixups.now chains = old_by ∙ ap (blank_of layout m.slots m.info chains) front_by in (
       layout,
       laid.fixups.now,
       chains,
@@ -224,10 +224,10 @@ laid_made m laid chains front old (Ok image) is chained few front_by old_by fill
       },
     )
 
-pub blank_behind : (layout : Layout) (slots : Slots) (chains : Chains) (front old : List ℕ) → old ≡ blank_of layout slots chains front → linkedit_offset layout.segments ≤ length old
+pub blank_behind : (layout : Layout) (slots : Slots) (info : List ℕ) (chains : Chains) (front old : List ℕ) → old ≡ blank_of layout slots info chains front → linkedit_offset layout.segments ≤ length old
 unfolding blank_of
-blank_behind layout slots chains front old is =
-    let parts : Parts = record { size = linkedit_offset layout.segments + length chains.blob; parts = image_parts layout slots chains front } in
+blank_behind layout slots info chains front old is =
+    let parts : Parts = record { size = linkedit_offset layout.segments + length chains.blob; parts = image_parts layout slots info chains front } in
     let long = length-joined parts in
     let same = ap length is in
     omega (arith, long, same)

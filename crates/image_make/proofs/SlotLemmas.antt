@@ -15,7 +15,7 @@ use Rattle.image_join.specs.declared.parts.Part.{Part}
 use Rattle.sect_place.specs.declared.layout.Layout.{Layout}
 use Rattle.slot_plan.specs.declared.list.Slots.{Slots}
 use Rattle.slot_plan.specs.declared.need.Way.TheVariants.{Got, Stub, Tlv}
-use Rattle.image_make.specs.Parts.{blank_of, image_parts, linkedit_offset, own_part, slot_word}
+use Rattle.image_make.specs.Parts.{blank_of, image_parts, info_part, linkedit_offset, own_part, slot_word}
 
 pub slots_start : (words : List ChainWord) (start : ℕ) (goals : List Goal) → IsGrowing (slot_word words start) [] [] (enumerate_from 0 goals) 0
 slots_start words start goals = grow_start (slot_word words start) [] (enumerate_from 0 goals)
@@ -34,22 +34,26 @@ pub ruleset slots = (slots_start)
 
 -- ---- all parts, one behind the other
 
-pub all_parts : (layout : Layout) (slots : Slots) (chains : Chains) (front : List ℕ) (offset : ℕ) (none one two three four five : List Part) → offset ≡ linkedit_offset layout.segments → none ≡ [] → one ≡ none ++ record { from = 0; bytes = front } ∷ [] → two ≡ one ++ own_part layout slots chains.words Stub → three ≡ two ++ own_part layout slots chains.words Got → four ≡ three ++ own_part layout slots chains.words Tlv → five ≡ four ++ record { from = offset; bytes = chains.blob } ∷ [] → five ≡ image_parts layout slots chains front
+pub all_parts : (layout : Layout) (slots : Slots) (info : List ℕ) (chains : Chains) (front : List ℕ) (offset : ℕ) (none one two three four five six : List Part) → offset ≡ linkedit_offset layout.segments → none ≡ [] → one ≡ none ++ record { from = 0; bytes = front } ∷ [] → two ≡ one ++ own_part layout slots chains.words Stub → three ≡ two ++ info_part layout info → four ≡ three ++ own_part layout slots chains.words Got → five ≡ four ++ own_part layout slots chains.words Tlv → six ≡ five ++ record { from = offset; bytes = chains.blob } ∷ []
+    → six ≡ image_parts layout slots info chains front
 unfolding image_parts
-all_parts layout slots chains front offset none one two three four five place empty a b c d e =
+all_parts layout slots info chains front offset none one two three four five six place empty a b c d e f =
     let first : List Part = record { from = 0; bytes = front } ∷ [] in
     let last : List Part = record { from = linkedit_offset layout.segments; bytes = chains.blob } ∷ [] in
     let stubs = own_part layout slots chains.words Stub in
+    let unwound = info_part layout info in
     let got = own_part layout slots chains.words Got in
     let tlv = own_part layout slots chains.words Tlv in
     let start : one ≡ first = a ∙ ap (λ (ps : List Part). ps ++ first) empty in
-    let ends : five ≡ four ++ last = e ∙ ap (λ (n : ℕ). four ++ record { from = n; bytes = chains.blob } ∷ []) place in
-    ends ∙ ap (λ (ps : List Part). ps ++ last) (d ∙ ap (λ (ps : List Part). ps ++ tlv) (c ∙ ap (λ (ps : List Part). ps ++ got) (b ∙ ap (λ (ps : List Part). ps ++ stubs) start)))
-    ∙ append_assoc ((first ++ stubs) ++ got) tlv last ∙ append_assoc (first ++ stubs) got (tlv ++ last) ∙ append_assoc first stubs (got ++ (tlv ++ last))
+    let ends : six ≡ five ++ last = f ∙ ap (λ (n : ℕ). five ++ record { from = n; bytes = chains.blob } ∷ []) place in
+    let text : three ≡ (first ++ stubs) ++ unwound = c ∙ ap (λ (ps : List Part). ps ++ unwound) (b ∙ ap (λ (ps : List Part). ps ++ stubs) start) in
+    ends ∙ ap (λ (ps : List Part). ps ++ last) (e ∙ ap (λ (ps : List Part). ps ++ tlv) (d ∙ ap (λ (ps : List Part). ps ++ got) text))
+    ∙ append_assoc (((first ++ stubs) ++ unwound) ++ got) tlv last ∙ append_assoc ((first ++ stubs) ++ unwound) got (tlv ++ last)
+    ∙ append_assoc (first ++ stubs) unwound (got ++ (tlv ++ last)) ∙ append_assoc first stubs (unwound ++ (got ++ (tlv ++ last)))
 
-pub lie_apart : (layout : Layout) (slots : Slots) (chains : Chains) (front : List ℕ) (size : ℕ) (parts : List Part) → size ≡ linkedit_offset layout.segments + length chains.blob → parts ≡ image_parts layout slots chains front → LieApart (record { size = linkedit_offset layout.segments + length chains.blob; parts = image_parts layout slots chains front }) → LieApart (record { size = size; parts = parts })
-lie_apart layout slots chains front size parts long are apart = rw (long, are) apart
+pub lie_apart : (layout : Layout) (slots : Slots) (info : List ℕ) (chains : Chains) (front : List ℕ) (size : ℕ) (parts : List Part) → size ≡ linkedit_offset layout.segments + length chains.blob → parts ≡ image_parts layout slots info chains front → LieApart (record { size = linkedit_offset layout.segments + length chains.blob; parts = image_parts layout slots info chains front }) → LieApart (record { size = size; parts = parts })
+lie_apart layout slots info chains front size parts long are apart = rw (long, are) apart
 
-pub blank_is : (layout : Layout) (slots : Slots) (chains : Chains) (front : List ℕ) (size : ℕ) (parts : List Part) → size ≡ linkedit_offset layout.segments + length chains.blob → parts ≡ image_parts layout slots chains front → joined (record { size = size; parts = parts }) ≡ blank_of layout slots chains front
+pub blank_is : (layout : Layout) (slots : Slots) (info : List ℕ) (chains : Chains) (front : List ℕ) (size : ℕ) (parts : List Part) → size ≡ linkedit_offset layout.segments + length chains.blob → parts ≡ image_parts layout slots info chains front → joined (record { size = size; parts = parts }) ≡ blank_of layout slots info chains front
 unfolding blank_of
-blank_is layout slots chains front size parts long are = rw (long, are) refl
+blank_is layout slots info chains front size parts long are = rw (long, are) refl

@@ -1,5 +1,5 @@
 -- Sections with bytes stand one behind the other in the file, up to the end of the last segment.
-use Rattle.std.proofs.Common.{◌≡◌, ℕ, ◌+◌, ◌-◌, ◌*◌, ◌≤◌, ◌^◌, ◌==◌, ◌&&◌, not, Bool, true, false, List, [], ◌∷◌, ◌++◌, inl, inr, refl, sym, ap, ◌∙◌, subst, arith}
+use Rattle.std.proofs.Common.{◌≡◌, ◌≢◌, ℕ, ◌+◌, ◌-◌, ◌*◌, ◌≤◌, ◌^◌, ◌==◌, ◌&&◌, not, Bool, true, false, List, [], ◌∷◌, ◌++◌, inl, inr, refl, sym, ap, ◌∙◌, subst, arith, if◌then◌else◌}
 use Rattle.std.specs.List.{AllByRecursion, filter}
 use Rattle.std.proofs.lemmas.Bool.{cases_Bool, eqb-true, false≢true}
 use Rattle.std.proofs.lemmas.Nat.{pow-add}
@@ -8,14 +8,14 @@ use Rattle.mo_types.specs.Whole.{is_zerofill}
 use Rattle.mo_types.specs.declared.atom.Atom.{Atom}
 use Rattle.mo_types.specs.declared.key.AtomKey.{AtomKey}
 use Rattle.tlv_plan.specs.Template.{aligned}
-use Rattle.tlv_plan.proofs.Walk.{aligned_least}
+use Rattle.tlv_plan.proofs.Walk.{after_end, aligned_least}
 use Rattle.sect_place.specs.Places.{file_bytes, group_end, groups_file, groups_sections, is_filled, page_up, part_end, part_from, parts_filled, parts_sections, placed_section}
 use Rattle.sect_place.specs.declared.layout.PlacedSection.{PlacedSection}
 use Rattle.sect_place.specs.declared.part.Group.{Group}
 use Rattle.sect_place.specs.declared.part.Part.{Part}
 use Rattle.sect_place.proofs.Spread.{aligned_order, filled_bounds, part_bounds}
 use Rattle.image_make.specs.Rows.{has_bytes}
-use Rattle.image_make.proofs.RankLemmas.{FilesFirst, IsStored}
+use Rattle.image_make.proofs.RankLemmas.{FilesFirst, HaveFilePlaces}
 
 -- from an offset of the file on, each behind the one before, up to an end
 abbrev pub FileChain : ℕ → List PlacedSection → ℕ → Type 0
@@ -104,25 +104,69 @@ parts_chain atoms start file at filled stop from (part ∷ parts) first low begi
     all_zeros zeros p (inl e) = subst (λ (q : Part). is_zerofill q.section.kind ≡ true) e zeros
     all_zeros zeros p (inr h) = first.0 p h zeros
 
+-- one that has bytes of its own
+last_filled : (atoms : List AtomKey → List Atom) (at : ℕ) (last : Part) → is_zerofill last.section.kind ≡ false → last.fixed ≢ 0 → is_filled atoms at last ≡ true
+unfolding is_filled part_end
+last_filled atoms at last solid full = by (part_end atoms at last == part_from at last) refl
+  where
+    by : (b : Bool) → (part_end atoms at last == part_from at last) ≡ b → (not (is_zerofill last.section.kind) && not b) ≡ true
+    by true e =
+        let same : part_end atoms at last ≡ part_from at last = eqb-true (part_end atoms at last) (part_from at last) e in
+        let after = after_end (part_from at last) (atoms last.section.atoms) in
+        absurd (full (omega (arith, same, after)))
+    by false e = rw solid refl
+
+-- where it is the last one, zeros before it are in the file too
+full_chain : (atoms : List AtomKey → List Atom) (start file at filled stop from : ℕ) (before : List Part) (last : Part) → is_zerofill last.section.kind ≡ false → last.fixed ≢ 0 → start ≤ at → page_up (parts_filled atoms filled at (before ++ last ∷ [])) ≤ stop → from ≤ file + (at - start)
+    → FileChain from (filter has_bytes (parts_sections atoms start file at (before ++ last ∷ []))) (file + (stop - start))
+unfolding parts_sections placed_section parts_filled
+full_chain atoms start file at filled stop from [] last solid full begins ends behind =
+    let bounds = part_bounds atoms at last in
+    let there : not (is_zerofill last.section.kind) ≡ true = ap not solid in
+    let is = last_filled atoms at last solid full in
+    let most : page_up (part_end atoms at last) ≤ stop = rw is at ends in
+    let pages = (aligned_least 14 (part_end atoms at last)).enough in
+    rw (there, solid) (omega (arith, behind, begins, bounds.0), omega (arith, begins, bounds.0, bounds.1, pages, most))
+full_chain atoms start file at filled stop from (part ∷ before) last solid full begins ends behind =
+    let bounds = part_bounds atoms at part in
+    let next : ℕ = if is_filled atoms at part then part_end atoms at part else filled in
+    elim (cases_Bool (is_zerofill part.section.kind)) [
+      | inl zeros ↦
+          let there : not (is_zerofill part.section.kind) ≡ false = ap not zeros in
+          let rest = full_chain atoms start file (part_end atoms at part) next stop from before last solid full (omega (arith, begins, bounds.0, bounds.1)) ends (omega (arith, behind, begins, bounds.0, bounds.1)) in
+          rw there rest
+      | inr some ↦
+          let there : not (is_zerofill part.section.kind) ≡ true = ap not some in
+          let rest = full_chain atoms start file (part_end atoms at part) next stop (file + (part_from at part - start) + (part_end atoms at part - part_from at part)) before last solid full (omega (arith, begins, bounds.0, bounds.1)) ends (omega (arith, begins, bounds.0, bounds.1)) in
+          rw (there, some) (omega (arith, behind, begins, bounds.0), rest)
+    ]
+
+segment_chain : (atoms : List AtomKey → List Atom) (start file at filled stop from : ℕ) (parts : List Part) → HaveFilePlaces parts → start ≤ filled → filled ≤ at → at ≤ page_up filled → page_up (parts_filled atoms filled at parts) ≤ stop → from ≤ file + (at - start)
+    → FileChain from (filter has_bytes (parts_sections atoms start file at parts)) (file + (stop - start))
+segment_chain atoms start file at filled stop from parts (inl stored) begins before within ends behind = parts_chain atoms start file at filled stop from parts stored.first stored.low begins before within ends behind
+segment_chain atoms start file at filled stop from parts (inr full) begins before within ends behind =
+    subst (λ (ps : List Part). FileChain from (filter has_bytes (parts_sections atoms start file at ps)) (file + (stop - start))) (sym full.joined)
+    (full_chain atoms start file at filled stop from full.before full.last full.solid full.full (omega (arith, begins, before)) (subst (λ (ps : List Part). page_up (parts_filled atoms filled at ps) ≤ stop) full.joined ends) behind)
+
 -- ---- all segments
 
-pub groups_chain : (atoms : List AtomKey → List Atom) (at file lead : ℕ) (groups : List Group) → AllByRecursion (λ (group : Group). IsStored group.parts) groups → FileChain file (filter has_bytes (groups_sections atoms at file lead groups)) (groups_file atoms at file lead groups)
+pub groups_chain : (atoms : List AtomKey → List Atom) (at file lead : ℕ) (groups : List Group) → AllByRecursion (λ (group : Group). HaveFilePlaces group.parts) groups → FileChain file (filter has_bytes (groups_sections atoms at file lead groups)) (groups_file atoms at file lead groups)
 unfolding groups_sections groups_file file_bytes
 groups_chain atoms at file lead [] stored = omega arith
 groups_chain atoms at file lead (group ∷ groups) stored =
     let next = page_up (group_end atoms at lead group) in
     let past = file + file_bytes atoms at lead group in
-    let here = parts_chain atoms at file (at + lead) (at + lead) (page_up (parts_filled atoms (at + lead) (at + lead) group.parts)) file group.parts stored.0.first stored.0.low (omega arith) (omega arith) (aligned_least 14 (at + lead)).enough (omega arith) (omega arith) in
+    let here = segment_chain atoms at file (at + lead) (at + lead) (page_up (parts_filled atoms (at + lead) (at + lead) group.parts)) file group.parts stored.0 (omega arith) (omega arith) (aligned_least 14 (at + lead)).enough (omega arith) (omega arith) in
     subst (λ (ss : List PlacedSection). FileChain file ss (groups_file atoms next past 0 groups)) (sym (filter_join has_bytes (parts_sections atoms at file (at + lead) group.parts) (groups_sections atoms next past 0 groups)))
     (join file past (groups_file atoms next past 0 groups) (filter has_bytes (parts_sections atoms at file (at + lead) group.parts)) (filter has_bytes (groups_sections atoms next past 0 groups)) here (groups_chain atoms next past 0 groups stored.1))
 
 -- the first one has its lead before all sections
-pub first_chain : (atoms : List AtomKey → List Atom) (at file lead : ℕ) (group : Group) (groups : List Group) → AllByRecursion (λ (g : Group). IsStored g.parts) (group ∷ groups) → FileChain (file + lead) (filter has_bytes (groups_sections atoms at file lead (group ∷ groups))) (groups_file atoms at file lead (group ∷ groups))
+pub first_chain : (atoms : List AtomKey → List Atom) (at file lead : ℕ) (group : Group) (groups : List Group) → AllByRecursion (λ (g : Group). HaveFilePlaces g.parts) (group ∷ groups) → FileChain (file + lead) (filter has_bytes (groups_sections atoms at file lead (group ∷ groups))) (groups_file atoms at file lead (group ∷ groups))
 unfolding groups_sections groups_file file_bytes
 first_chain atoms at file lead group groups stored =
     let next = page_up (group_end atoms at lead group) in
     let past = file + file_bytes atoms at lead group in
-    let here = parts_chain atoms at file (at + lead) (at + lead) (page_up (parts_filled atoms (at + lead) (at + lead) group.parts)) (file + lead) group.parts stored.0.first stored.0.low (omega arith) (omega arith) (aligned_least 14 (at + lead)).enough (omega arith) (omega arith) in
+    let here = segment_chain atoms at file (at + lead) (at + lead) (page_up (parts_filled atoms (at + lead) (at + lead) group.parts)) (file + lead) group.parts stored.0 (omega arith) (omega arith) (aligned_least 14 (at + lead)).enough (omega arith) (omega arith) in
     subst (λ (ss : List PlacedSection). FileChain (file + lead) ss (groups_file atoms next past 0 groups)) (sym (filter_join has_bytes (parts_sections atoms at file (at + lead) group.parts) (groups_sections atoms next past 0 groups)))
     (join (file + lead) past (groups_file atoms next past 0 groups) (filter has_bytes (parts_sections atoms at file (at + lead) group.parts)) (filter has_bytes (groups_sections atoms next past 0 groups)) here (groups_chain atoms next past 0 groups stored.1))
 

@@ -1,8 +1,9 @@
--- Stubs stand before slots in the file, and these before those of thread-local variables.
-use Rattle.std.proofs.Common.{◌≡◌, ◌≢◌, ℕ, ◌+◌, ◌*◌, ◌≤◌, ◌⊎◌, ◌++◌, ◌==◌, Bool, true, false, not, codes, List, [], ◌∷◌, length, map, Some, All, refl, sym, ap, ap₂, ◌∙◌, subst, inl, inr, arith, append_assoc, if◌then◌else◌}
+-- Where the linker's own sections stand in the file: stubs before `__unwind_info`, this before slots, and these before those of
+-- thread-local variables.
+use Rattle.std.proofs.Common.{◌≡◌, ◌≢◌, ℕ, ◌+◌, ◌<◌, ◌≤◌, ◌⊎◌, ◌++◌, ◌==◌, Bool, true, false, not, codes, List, [], ◌∷◌, length, map, Some, refl, sym, ap, ◌∙◌, subst, inl, inr, arith, append_assoc, if◌then◌else◌, eq-eqb}
 use Rattle.std.specs.List.{filter, flat_map}
 use Rattle.std.specs.Str.{bytes_eq}
-use Rattle.std.proofs.lemmas.Bool.{cases_Bool}
+use Rattle.std.proofs.lemmas.Bool.{false≢true}
 use Rattle.std.proofs.lemmas.List.Elements.{All-contains}
 use Rattle.list_lemmas.proofs.Members.{Contains_from_in, In, from_filter, from_map, in_either, in_filter, in_left, in_right}
 use Rattle.mo_types.specs.Whole.{is_zerofill}
@@ -12,7 +13,7 @@ use Rattle.mo_types.specs.declared.out_section.OutSection.{OutSection}
 use Rattle.sect_list.specs.OutSections.{out_sections}
 use Rattle.sect_place.specs.Arrangement.{MadeBytes, chosen, constant_parts, group_named, groups_of, own, runs, runs_from, section_of, text_parts, with_atoms, writable_parts}
 use Rattle.sect_place.specs.Layout.{image_sections, made_bytes, plan_of}
-use Rattle.sect_place.specs.Places.{file_bytes, group_end, groups_file, groups_sections, page_up, parts_sections}
+use Rattle.sect_place.specs.Places.{file_bytes, group_end, groups_file, groups_sections, page_up, part_end, parts_sections, placed_section}
 use Rattle.sect_place.specs.declared.layout.Layout.{Layout}
 use Rattle.sect_place.specs.declared.layout.PlacedSection.{PlacedSection}
 use Rattle.sect_place.specs.declared.part.Choice.{Choice}
@@ -22,9 +23,8 @@ use Rattle.sect_place.specs.declared.part.Made.{Made}
 use Rattle.sect_place.specs.declared.part.Made.TheVariants as made
 use Rattle.sect_place.specs.declared.part.Part.{Part}
 use Rattle.slot_plan.specs.declared.need.Way.{Way}
-use Rattle.slot_plan.specs.declared.need.Way.TheVariants.{Got, Stub, Tlv}
 use Rattle.slot_place.specs.Places.{HaveAtoms, made_for, own_section}
-use Rattle.slot_place.proofs.SectionLemmas.{placed_groups}
+use Rattle.slot_place.proofs.SectionLemmas.{placed_groups, placed_parts}
 use Rattle.image_make.specs.Atoms.{AreLow, atom_of}
 use Rattle.image_make.specs.Made.{IsLaid, ImageInputs, kept_of, plan_for, plan_with, sizes_of}
 use Rattle.image_make.specs.Parts.{linkedit_offset}
@@ -107,16 +107,16 @@ writable_only sections bytes part have h none = elim (in_either (own made.Thread
   | inr b ↦ chosen_only sections choice.Writable (made.ThreadPtrs ∷ []) part have b none
 ]
 
-text_only : (sections : List OutSection) (bytes : MadeBytes) (part : Part) → HaveAtoms sections → In part (text_parts sections bytes) → IsOwnOnly (made.Stubs ∷ made.UnwindInfo ∷ []) part
-unfolding text_parts
-text_only sections bytes part have h none = elim (in_either ((chosen choice.Code sections ++ own made.Stubs bytes.stubs) ++ chosen choice.BesideCode sections) (own made.UnwindInfo bytes.unwind) part h) [
-  | inr d ↦ own_only made.UnwindInfo bytes.unwind (made.Stubs ∷ made.UnwindInfo ∷ []) part (inr (inl refl)) d none
-  | inl abc ↦ elim (in_either (chosen choice.Code sections ++ own made.Stubs bytes.stubs) (chosen choice.BesideCode sections) part abc) [
-    | inr c ↦ chosen_only sections choice.BesideCode (made.Stubs ∷ made.UnwindInfo ∷ []) part have c none
-    | inl ab ↦ elim (in_either (chosen choice.Code sections) (own made.Stubs bytes.stubs) part ab) [
-      | inl a ↦ chosen_only sections choice.Code (made.Stubs ∷ made.UnwindInfo ∷ []) part have a none
-      | inr b ↦ own_only made.Stubs bytes.stubs (made.Stubs ∷ made.UnwindInfo ∷ []) part (inl refl) b none
-    ]
+-- those of `__TEXT` before `__unwind_info`
+abbrev text_front : List OutSection → MadeBytes → List Part
+text_front sections bytes = chosen choice.Code sections ++ own made.Stubs bytes.stubs ++ chosen choice.BesideCode sections
+
+front_only : (sections : List OutSection) (bytes : MadeBytes) (part : Part) → HaveAtoms sections → In part (text_front sections bytes) → IsOwnOnly (made.Stubs ∷ []) part
+front_only sections bytes part have h none = elim (in_either (chosen choice.Code sections ++ own made.Stubs bytes.stubs) (chosen choice.BesideCode sections) part h) [
+  | inr c ↦ chosen_only sections choice.BesideCode (made.Stubs ∷ []) part have c none
+  | inl ab ↦ elim (in_either (chosen choice.Code sections) (own made.Stubs bytes.stubs) part ab) [
+    | inl a ↦ chosen_only sections choice.Code (made.Stubs ∷ []) part have a none
+    | inr b ↦ own_only made.Stubs bytes.stubs (made.Stubs ∷ []) part (inl refl) b none
   ]
 ]
 
@@ -133,6 +133,13 @@ groups_join atoms at file (group ∷ a) b =
           ∙ sym (append_assoc (parts_sections atoms at file (at + 0) group.parts) (groups_sections atoms (page_up (group_end atoms at 0 group)) (file + file_bytes atoms at 0 group) 0 a) (groups_sections atoms rest.0 rest.1 0 b)),
     )
 
+parts_join : (atoms : List AtomKey → List Atom) (start file at : ℕ) (a b : List Part) → (next : ℕ) × (parts_sections atoms start file at (a ++ b) ≡ parts_sections atoms start file at a ++ parts_sections atoms start file next b)
+unfolding parts_sections
+parts_join atoms start file at [] b = (at, refl)
+parts_join atoms start file at (part ∷ a) b =
+    let rest = parts_join atoms start file (part_end atoms at part) a b in
+    (rest.0, ap (λ (ss : List PlacedSection). placed_section atoms start file at part ∷ ss) rest.1)
+
 first_sections : (atoms : List AtomKey → List Atom) (at file lead : ℕ) (group : Group) (groups : List Group) → (next : ℕ) × (past : ℕ) × (groups_sections atoms at file lead (group ∷ groups) ≡ parts_sections atoms at file (at + lead) group.parts ++ groups_sections atoms next past 0 groups)
 unfolding groups_sections
 first_sections atoms at file lead group groups = (page_up (group_end atoms at lead group), file + file_bytes atoms at lead group, refl)
@@ -147,135 +154,163 @@ only_groups atoms at file lead groups whichs each p h none =
     let one = each placed.part placed.planned (ap (λ (s : OutSection). s.atoms) (sym placed.same) ∙ none) in
     (one.0, one.1, placed.same ∙ one.2)
 
-only_text : (atoms : List AtomKey → List Atom) (start file at : ℕ) (parts : List Part) (whichs : List Made) → ((part : Part) → In part parts → IsOwnOnly whichs part) → AreOnly whichs (parts_sections atoms start file at parts)
-only_text atoms start file at parts whichs each p h none =
-    let placed = Rattle.slot_place.proofs.SectionLemmas.placed_parts atoms start file at parts p h in
+only_parts : (atoms : List AtomKey → List Atom) (start file at : ℕ) (parts : List Part) (whichs : List Made) → ((part : Part) → In part parts → IsOwnOnly whichs part) → AreOnly whichs (parts_sections atoms start file at parts)
+only_parts atoms start file at parts whichs each p h none =
+    let placed = placed_parts atoms start file at parts p h in
     let one = each placed.part placed.planned (ap (λ (s : OutSection). s.atoms) (sym placed.same) ∙ none) in
     (one.0, one.1, placed.same ∙ one.2)
 
--- all sections, by their segments
-record AreSplit (all : List PlacedSection) : Type 0 where
+-- all sections: those of `__TEXT` before `__unwind_info`, this one, and those of the other segments
+pub record AreSplit (atoms : List AtomKey → List Atom) (bytes : MadeBytes) (all : List PlacedSection) : Type 0 where
   pub text : List PlacedSection
+  pub unwound : List PlacedSection
   pub constant : List PlacedSection
   pub writable : List PlacedSection
   pub others : List PlacedSection
-  pub joined : all ≡ text ++ (constant ++ (writable ++ others))
-  pub in_text : AreOnly (made.Stubs ∷ made.UnwindInfo ∷ []) text
+  pub joined : all ≡ text ++ (unwound ++ (constant ++ (writable ++ others)))
+  pub in_text : AreOnly (made.Stubs ∷ []) text
+  pub in_unwound : AreOnly (made.UnwindInfo ∷ []) unwound
   pub in_constant : AreOnly (made.Got ∷ []) constant
   pub in_writable : AreOnly (made.ThreadPtrs ∷ []) writable
   pub in_others : AreOnly [] others
+  pub start : ℕ
+  pub file : ℕ
+  pub at : ℕ
+  pub planned : unwound ≡ parts_sections atoms start file at (own made.UnwindInfo bytes.unwind)
 
-split : (atoms : List AtomKey → List Atom) (at file lead : ℕ) (sections : List OutSection) (bytes : MadeBytes) → HaveAtoms sections → AreSplit (groups_sections atoms at file lead (groups_of sections bytes))
-unfolding groups_of runs
+split : (atoms : List AtomKey → List Atom) (at file lead : ℕ) (sections : List OutSection) (bytes : MadeBytes) → HaveAtoms sections → AreSplit atoms bytes (groups_sections atoms at file lead (groups_of sections bytes))
+unfolding groups_of runs text_parts
 split atoms at file lead sections bytes have =
-    let text : Group = record { name = codes "__TEXT"; parts = text_parts sections bytes } in
+    let front : List Part = text_front sections bytes in
+    let info : List Part = own made.UnwindInfo bytes.unwind in
+    let text : Group = record { name = codes "__TEXT"; parts = front ++ info } in
     let constant = group_named (codes "__DATA_CONST") (constant_parts sections bytes) in
     let writable = group_named (codes "__DATA") (writable_parts sections bytes) in
     let others = runs_from [] [] (chosen choice.Elsewhere sections) in
     let first = first_sections atoms at file lead text ((constant ++ writable) ++ others) in
+    let halves = parts_join atoms at file (at + lead) front info in
     let second = groups_join atoms first.0 first.1 constant (writable ++ others) in
     let third = groups_join atoms second.0 second.1 writable others in
-    let same : groups_sections atoms first.0 first.1 0 ((constant ++ writable) ++ others) ≡ groups_sections atoms first.0 first.1 0 constant ++ (groups_sections atoms second.0 second.1 0 writable ++ groups_sections atoms third.0 third.1 0 others) =
+    let rest : List PlacedSection = groups_sections atoms first.0 first.1 0 constant ++ (groups_sections atoms second.0 second.1 0 writable ++ groups_sections atoms third.0 third.1 0 others) in
+    let same : groups_sections atoms first.0 first.1 0 ((constant ++ writable) ++ others) ≡ rest =
     ap (λ (gs : List Group). groups_sections atoms first.0 first.1 0 gs) (append_assoc constant writable others) ∙ second.2 ∙ ap (λ (ss : List PlacedSection). groups_sections atoms first.0 first.1 0 constant ++ ss) third.2 in
+    let first_parts : List PlacedSection = parts_sections atoms at file (at + lead) front in
+    let last_part : List PlacedSection = parts_sections atoms at file halves.0 info in
+    let near : parts_sections atoms at file (at + lead) (front ++ info) ++ rest ≡ first_parts ++ (last_part ++ rest) =
+    ap (λ (ss : List PlacedSection). ss ++ rest) halves.1 ∙ append_assoc first_parts last_part rest in
     record {
-      text = parts_sections atoms at file (at + lead) (text_parts sections bytes);
+      text = first_parts;
+      unwound = last_part;
       constant = groups_sections atoms first.0 first.1 0 constant;
       writable = groups_sections atoms second.0 second.1 0 writable;
       others = groups_sections atoms third.0 third.1 0 others;
-      joined = first.2 ∙ ap (λ (ss : List PlacedSection). parts_sections atoms at file (at + lead) (text_parts sections bytes) ++ ss) same;
-      in_text = only_text atoms at file (at + lead) (text_parts sections bytes) (made.Stubs ∷ made.UnwindInfo ∷ []) (λ part h. text_only sections bytes part have h);
+      joined = first.2 ∙ ap (λ (ss : List PlacedSection). parts_sections atoms at file (at + lead) (front ++ info) ++ ss) same ∙ near;
+      in_text = only_parts atoms at file (at + lead) front (made.Stubs ∷ []) (λ part h. front_only sections bytes part have h);
+      in_unwound = only_parts atoms at file halves.0 info (made.UnwindInfo ∷ []) (λ part h. own_only made.UnwindInfo bytes.unwind (made.UnwindInfo ∷ []) part (inl refl) h);
       in_constant = only_groups atoms first.0 first.1 0 constant (made.Got ∷ []) (λ part h. constant_only sections bytes part have (named_parts (codes "__DATA_CONST") (constant_parts sections bytes) part h));
       in_writable = only_groups atoms second.0 second.1 0 writable (made.ThreadPtrs ∷ []) (λ part h. writable_only sections bytes part have (named_parts (codes "__DATA") (writable_parts sections bytes) part h));
       in_others = only_groups atoms third.0 third.1 0 others [] (λ part h. elim (runs_parts [] [] (chosen choice.Elsewhere sections) part h) [ inl none ↦ absurd none | inr a ↦ chosen_only sections choice.Elsewhere [] part have a ]);
+      start = at;
+      file = file;
+      at = halves.0;
+      planned = refl;
     }
 
--- one of the linker's own is where it belongs
+-- ---- one of the linker's own is where it belongs
 
 abbrev kind_of : Made → ℕ
 kind_of which = (section_of which).kind
 
-not_among : (which other : Made) (p : PlacedSection) → p.section ≡ section_of which → p.section ≡ section_of other → (kind_of which == kind_of other) ≡ false → ⊥
-not_among which other p is alike differ = Rattle.std.proofs.lemmas.Bool.false≢true (sym differ ∙ Rattle.std.proofs.Common.eq-eqb (kind_of which) (kind_of other) (ap (λ (s : OutSection). s.kind) (sym is ∙ alike)))
+differ : (which other : Made) → section_of which ≡ section_of other → (kind_of which == kind_of other) ≡ false → ⊥
+differ which other same apart = false≢true (sym apart ∙ eq-eqb (kind_of which) (kind_of other) (ap (λ (s : OutSection). s.kind) same))
 
-stubs_in : (all : List PlacedSection) (split : AreSplit all) (p : PlacedSection) → In p all → p.section ≡ section_of made.Stubs → In p split.text
-stubs_in all split p h is = elim (in_either split.text (split.constant ++ (split.writable ++ split.others)) p (subst (λ (ss : List PlacedSection). In p ss) split.joined h)) [
-  | inl a ↦ a
-  | inr rest ↦ absurd (elim (in_either split.constant (split.writable ++ split.others) p rest) [
-    | inl b ↦ got (split.in_constant p b none)
-    | inr more ↦ elim (in_either split.writable split.others p more) [
-      | inl c ↦ tlv (split.in_writable p c none)
-      | inr d ↦ other (split.in_others p d none)
-    ]
-  ])
-]
-  where
-    none : p.section.atoms ≡ []
-    none = ap (λ (s : OutSection). s.atoms) is
+alike : (which other : Made) → section_of which ≡ section_of other → which ≡ other
+alike made.Stubs made.Stubs e = refl
+alike made.Stubs made.UnwindInfo e = absurd (differ made.Stubs made.UnwindInfo e refl)
+alike made.Stubs made.Got e = absurd (differ made.Stubs made.Got e refl)
+alike made.Stubs made.ThreadPtrs e = absurd (differ made.Stubs made.ThreadPtrs e refl)
+alike made.UnwindInfo made.Stubs e = absurd (differ made.UnwindInfo made.Stubs e refl)
+alike made.UnwindInfo made.UnwindInfo e = refl
+alike made.UnwindInfo made.Got e = absurd (differ made.UnwindInfo made.Got e refl)
+alike made.UnwindInfo made.ThreadPtrs e = absurd (differ made.UnwindInfo made.ThreadPtrs e refl)
+alike made.Got made.Stubs e = absurd (differ made.Got made.Stubs e refl)
+alike made.Got made.UnwindInfo e = absurd (differ made.Got made.UnwindInfo e refl)
+alike made.Got made.Got e = refl
+alike made.Got made.ThreadPtrs e = absurd (differ made.Got made.ThreadPtrs e refl)
+alike made.ThreadPtrs made.Stubs e = absurd (differ made.ThreadPtrs made.Stubs e refl)
+alike made.ThreadPtrs made.UnwindInfo e = absurd (differ made.ThreadPtrs made.UnwindInfo e refl)
+alike made.ThreadPtrs made.Got e = absurd (differ made.ThreadPtrs made.Got e refl)
+alike made.ThreadPtrs made.ThreadPtrs e = refl
 
-    got : (which : Made) × In which (made.Got ∷ []) × (p.section ≡ section_of which) → ⊥
-    got (which, inl e, alike) = not_among made.Stubs made.Got p is (alike ∙ ap section_of (sym e)) refl
-    got (which, inr never, alike) = never
+-- where each of the linker's own is
+abbrev pub piece : {atoms : List AtomKey → List Atom} {bytes : MadeBytes} {all : List PlacedSection} → AreSplit atoms bytes all → Made → List PlacedSection
+piece split made.Stubs = split.text
+piece split made.UnwindInfo = split.unwound
+piece split made.Got = split.constant
+piece split made.ThreadPtrs = split.writable
 
-    tlv : (which : Made) × In which (made.ThreadPtrs ∷ []) × (p.section ≡ section_of which) → ⊥
-    tlv (which, inl e, alike) = not_among made.Stubs made.ThreadPtrs p is (alike ∙ ap section_of (sym e)) refl
-    tlv (which, inr never, alike) = never
-
-    other : (which : Made) × In which [] × (p.section ≡ section_of which) → ⊥
-    other (which, never, alike) = never
-
-got_in : (all : List PlacedSection) (split : AreSplit all) (p : PlacedSection) → In p all → p.section ≡ section_of made.Got → In p split.constant
-got_in all split p h is = elim (in_either split.text (split.constant ++ (split.writable ++ split.others)) p (subst (λ (ss : List PlacedSection). In p ss) split.joined h)) [
-  | inl a ↦ absurd (text (split.in_text p a none))
-  | inr rest ↦ elim (in_either split.constant (split.writable ++ split.others) p rest) [
-    | inl b ↦ b
-    | inr more ↦ absurd (elim (in_either split.writable split.others p more) [
-      | inl c ↦ tlv (split.in_writable p c none)
-      | inr d ↦ other (split.in_others p d none)
-    ])
-  ]
-]
-  where
-    none : p.section.atoms ≡ []
-    none = ap (λ (s : OutSection). s.atoms) is
-
-    text : (which : Made) × In which (made.Stubs ∷ made.UnwindInfo ∷ []) × (p.section ≡ section_of which) → ⊥
-    text (which, inl e, alike) = not_among made.Got made.Stubs p is (alike ∙ ap section_of (sym e)) refl
-    text (which, inr (inl e), alike) = not_among made.Got made.UnwindInfo p is (alike ∙ ap section_of (sym e)) refl
-    text (which, inr (inr never), alike) = never
-
-    tlv : (which : Made) × In which (made.ThreadPtrs ∷ []) × (p.section ≡ section_of which) → ⊥
-    tlv (which, inl e, alike) = not_among made.Got made.ThreadPtrs p is (alike ∙ ap section_of (sym e)) refl
-    tlv (which, inr never, alike) = never
-
-    other : (which : Made) × In which [] × (p.section ≡ section_of which) → ⊥
-    other (which, never, alike) = never
-
-tlv_in : (all : List PlacedSection) (split : AreSplit all) (p : PlacedSection) → In p all → p.section ≡ section_of made.ThreadPtrs → In p split.writable
-tlv_in all split p h is = elim (in_either split.text (split.constant ++ (split.writable ++ split.others)) p (subst (λ (ss : List PlacedSection). In p ss) split.joined h)) [
-  | inl a ↦ absurd (text (split.in_text p a none))
-  | inr rest ↦ elim (in_either split.constant (split.writable ++ split.others) p rest) [
-    | inl b ↦ absurd (got (split.in_constant p b none))
-    | inr more ↦ elim (in_either split.writable split.others p more) [
-      | inl c ↦ c
-      | inr d ↦ absurd (other (split.in_others p d none))
+-- a section without atoms is one of the linker's own
+pub made_in : (atoms : List AtomKey → List Atom) (bytes : MadeBytes) (all : List PlacedSection) (split : AreSplit atoms bytes all) (p : PlacedSection) → In p all → p.section.atoms ≡ [] → (which : Made) × (p.section ≡ section_of which) × In p (piece split which)
+made_in atoms bytes all split p h none = elim (in_either split.text (split.unwound ++ (split.constant ++ (split.writable ++ split.others))) p (subst (λ (ss : List PlacedSection). In p ss) split.joined h)) [
+  | inl a ↦ here made.Stubs a (split.in_text p a none)
+  | inr more ↦ elim (in_either split.unwound (split.constant ++ (split.writable ++ split.others)) p more) [
+    | inl b ↦ here made.UnwindInfo b (split.in_unwound p b none)
+    | inr later ↦ elim (in_either split.constant (split.writable ++ split.others) p later) [
+      | inl c ↦ here made.Got c (split.in_constant p c none)
+      | inr last ↦ elim (in_either split.writable split.others p last) [
+        | inl d ↦ here made.ThreadPtrs d (split.in_writable p d none)
+        | inr other ↦ absurd (split.in_others p other none).1
+      ]
     ]
   ]
 ]
   where
-    none : p.section.atoms ≡ []
-    none = ap (λ (s : OutSection). s.atoms) is
+    here : (which : Made) → In p (piece split which) → (one : Made) × In one (which ∷ []) × (p.section ≡ section_of one) → (one : Made) × (p.section ≡ section_of one) × In p (piece split one)
+    here which there (one, inl e, is) = (which, is ∙ ap section_of (sym e), there)
+    here which there (one, inr never, is) = absurd never
 
-    text : (which : Made) × In which (made.Stubs ∷ made.UnwindInfo ∷ []) × (p.section ≡ section_of which) → ⊥
-    text (which, inl e, alike) = not_among made.ThreadPtrs made.Stubs p is (alike ∙ ap section_of (sym e)) refl
-    text (which, inr (inl e), alike) = not_among made.ThreadPtrs made.UnwindInfo p is (alike ∙ ap section_of (sym e)) refl
-    text (which, inr (inr never), alike) = never
+made_none : (which : Made) → (section_of which).atoms ≡ []
+made_none made.Stubs = refl
+made_none made.UnwindInfo = refl
+made_none made.Got = refl
+made_none made.ThreadPtrs = refl
 
-    got : (which : Made) × In which (made.Got ∷ []) × (p.section ≡ section_of which) → ⊥
-    got (which, inl e, alike) = not_among made.ThreadPtrs made.Got p is (alike ∙ ap section_of (sym e)) refl
-    got (which, inr never, alike) = never
+in_piece : (atoms : List AtomKey → List Atom) (bytes : MadeBytes) (all : List PlacedSection) (split : AreSplit atoms bytes all) (which : Made) (p : PlacedSection) → In p all → p.section ≡ section_of which → In p (piece split which)
+in_piece atoms bytes all split which p h is =
+    let one = made_in atoms bytes all split p h (ap (λ (s : OutSection). s.atoms) is ∙ made_none which) in
+    subst (λ (w : Made). In p (piece split w)) (alike one.0 which (sym one.1 ∙ is)) one.2
 
-    other : (which : Made) × In which [] × (p.section ≡ section_of which) → ⊥
-    other (which, never, alike) = never
+-- their order
+abbrev pub rank : Made → ℕ
+rank made.Stubs = 0
+rank made.UnwindInfo = 1
+rank made.Got = 2
+rank made.ThreadPtrs = 3
+
+after_text : (atoms : List AtomKey → List Atom) (bytes : MadeBytes) (all : List PlacedSection) (split : AreSplit atoms bytes all) (which : Made) (p : PlacedSection) → 0 < rank which → In p (piece split which) → In p (split.unwound ++ (split.constant ++ (split.writable ++ split.others)))
+after_text atoms bytes all split made.Stubs p later h = absurd (omega (arith, later))
+after_text atoms bytes all split made.UnwindInfo p later h = in_left split.unwound (split.constant ++ (split.writable ++ split.others)) p h
+after_text atoms bytes all split made.Got p later h = in_right split.unwound (split.constant ++ (split.writable ++ split.others)) p (in_left split.constant (split.writable ++ split.others) p h)
+after_text atoms bytes all split made.ThreadPtrs p later h =
+    in_right split.unwound (split.constant ++ (split.writable ++ split.others)) p (in_right split.constant (split.writable ++ split.others) p (in_left split.writable split.others p h))
+
+after_unwound : (atoms : List AtomKey → List Atom) (bytes : MadeBytes) (all : List PlacedSection) (split : AreSplit atoms bytes all) (which : Made) (p : PlacedSection) → 1 < rank which → In p (piece split which) → In p (split.constant ++ (split.writable ++ split.others))
+after_unwound atoms bytes all split made.Stubs p later h = absurd (omega (arith, later))
+after_unwound atoms bytes all split made.UnwindInfo p later h = absurd (omega (arith, later))
+after_unwound atoms bytes all split made.Got p later h = in_left split.constant (split.writable ++ split.others) p h
+after_unwound atoms bytes all split made.ThreadPtrs p later h = in_right split.constant (split.writable ++ split.others) p (in_left split.writable split.others p h)
+
+after_constant : (atoms : List AtomKey → List Atom) (bytes : MadeBytes) (all : List PlacedSection) (split : AreSplit atoms bytes all) (which : Made) (p : PlacedSection) → 2 < rank which → In p (piece split which) → In p (split.writable ++ split.others)
+after_constant atoms bytes all split made.Stubs p later h = absurd (omega (arith, later))
+after_constant atoms bytes all split made.UnwindInfo p later h = absurd (omega (arith, later))
+after_constant atoms bytes all split made.Got p later h = absurd (omega (arith, later))
+after_constant atoms bytes all split made.ThreadPtrs p later h = in_left split.writable split.others p h
+
+most_rank : (which : Made) → rank which ≤ 3
+most_rank made.Stubs = omega arith
+most_rank made.UnwindInfo = omega arith
+most_rank made.Got = omega arith
+most_rank made.ThreadPtrs = omega arith
 
 -- ---- of an image
 
@@ -284,32 +319,40 @@ unfolding plan_with plan_of image_sections groups_of
 laid_chain m layout low laid =
     let plan = plan_for m in
     let atoms = map atom_of (kept_of m) in
-    let bytes = made_bytes m.slots (sizes_of m.command m.libs) in
-    let chain = first_chain plan.atoms plan.base 0 plan.lead (record { name = codes "__TEXT"; parts = text_parts (out_sections m.files atoms) bytes }) _ (all_stored m.files atoms bytes refl (low_atoms (kept_of m) low)) in
+    let bytes = made_bytes m.slots (sizes_of m.command m.libs (length m.info)) in
+    let chain = first_chain plan.atoms plan.base 0 plan.lead (record { name = codes "__TEXT"; parts = text_parts (out_sections m.files atoms) bytes }) _ (all_stored m.files atoms bytes (low_atoms (kept_of m) low)) in
     let lead : 0 + plan.lead ≡ plan.lead = omega arith in
     let there = subst (λ (ss : List PlacedSection). FileChain (0 + plan.lead) (filter has_bytes ss) (groups_file plan.atoms plan.base 0 plan.lead plan.groups)) (sym laid.layout_of.sections) chain in
     subst (λ (n : ℕ). FileChain n (filter has_bytes layout.sections) (linkedit_offset layout.segments)) lead
     (subst (λ (n : ℕ). FileChain (0 + plan.lead) (filter has_bytes layout.sections) n) (sym (layout_end m layout laid)) there)
 
-laid_split : (m : ImageInputs) (layout : Layout) → IsLaid m layout → AreSplit layout.sections
+pub laid_split : (m : ImageInputs) (layout : Layout) → IsLaid m layout → AreSplit (plan_for m).atoms (made_bytes m.slots (sizes_of m.command m.libs (length m.info))) layout.sections
 unfolding plan_with plan_of image_sections
 laid_split m layout laid =
-    subst AreSplit (sym laid.layout_of.sections)
-    (split (plan_for m).atoms (plan_for m).base 0 (plan_for m).lead (out_sections m.files (map atom_of (kept_of m))) (made_bytes m.slots (sizes_of m.command m.libs)) (have_atoms m.files (map atom_of (kept_of m))))
+    let bytes = made_bytes m.slots (sizes_of m.command m.libs (length m.info)) in
+    subst (λ (ss : List PlacedSection). AreSplit (plan_for m).atoms bytes ss) (sym laid.layout_of.sections)
+    (split (plan_for m).atoms (plan_for m).base 0 (plan_for m).lead (out_sections m.files (map atom_of (kept_of m))) bytes (have_atoms m.files (map atom_of (kept_of m))))
 
-solid : (which : Made) (p : PlacedSection) → p.section ≡ section_of which → (is_zerofill (kind_of which) ≡ false) → has_bytes p ≡ true
-solid which p is full = ap (λ (s : OutSection). not (is_zerofill s.kind)) is ∙ ap not full
+-- a section of the layout that is one of the linker's own
+abbrev pub IsOwn : Layout → Made → PlacedSection → Type 0
+IsOwn layout which p = (p.section ≡ section_of which) × In p layout.sections
 
-made_solid : (way : Way) → is_zerofill (kind_of (made_for way)) ≡ false
-made_solid Got = refl
-made_solid Stub = refl
-made_solid Tlv = refl
+pub own_is : (m : ImageInputs) (layout : Layout) (way : Way) (p : PlacedSection) → IsLaid m layout → own_section layout.sections way ≡ Some p → IsOwn layout (made_for way) p
+own_is m layout way p laid e = let is = laid_is m layout way p laid e in (is.0, is.2)
 
--- an own section stands behind the header and before `__LINKEDIT`
-pub own_within : (m : ImageInputs) (layout : Layout) (way : Way) (p : PlacedSection) → AreLow (kept_of m) → IsLaid m layout → own_section layout.sections way ≡ Some p → ((plan_for m).lead ≤ p.file_offset) × (p.file_offset + p.size ≤ linkedit_offset layout.segments)
-own_within m layout way p low laid e =
-    let is = laid_is m layout way p laid e in
-    chain_within (plan_for m).lead (linkedit_offset layout.segments) (filter has_bytes layout.sections) p (laid_chain m layout low laid) (in_filter has_bytes layout.sections p is.2 (solid (made_for way) p is.0 (made_solid way)))
+made_solid : (which : Made) → is_zerofill (kind_of which) ≡ false
+made_solid made.Stubs = refl
+made_solid made.UnwindInfo = refl
+made_solid made.Got = refl
+made_solid made.ThreadPtrs = refl
+
+solid : (which : Made) (p : PlacedSection) → p.section ≡ section_of which → has_bytes p ≡ true
+solid which p is = ap (λ (s : OutSection). not (is_zerofill s.kind)) is ∙ ap not (made_solid which)
+
+-- it stands behind the header and before `__LINKEDIT`
+pub made_within : (m : ImageInputs) (layout : Layout) (which : Made) (p : PlacedSection) → AreLow (kept_of m) → IsLaid m layout → IsOwn layout which p → ((plan_for m).lead ≤ p.file_offset) × (p.file_offset + p.size ≤ linkedit_offset layout.segments)
+made_within m layout which p low laid is =
+    chain_within (plan_for m).lead (linkedit_offset layout.segments) (filter has_bytes layout.sections) p (laid_chain m layout low laid) (in_filter has_bytes layout.sections p is.1 (solid which p is.0))
 
 turn : (m : ImageInputs) (layout : Layout) (xs ys : List PlacedSection) (p q : PlacedSection) → AreLow (kept_of m) → IsLaid m layout → layout.sections ≡ xs ++ ys → In p xs → In q ys → has_bytes p ≡ true → has_bytes q ≡ true → StandsBefore p q
 turn m layout xs ys p q low laid is h k one two =
@@ -317,23 +360,35 @@ turn m layout xs ys p q low laid is h k one two =
     (subst (λ (ss : List PlacedSection). FileChain (plan_for m).lead ss (linkedit_offset layout.segments)) (ap (filter has_bytes) is ∙ filter_join has_bytes xs ys) (laid_chain m layout low laid))
     (in_filter has_bytes xs p h one) (in_filter has_bytes ys q k two)
 
-pub stubs_first : (m : ImageInputs) (layout : Layout) (way : Way) (p q : PlacedSection) → AreLow (kept_of m) → IsLaid m layout → own_section layout.sections Stub ≡ Some p → (way ≡ Stub → ⊥) → own_section layout.sections way ≡ Some q → StandsBefore p q
-stubs_first m layout Got p q low laid e apart f =
-    let split = laid_split m layout laid in
-    let one = laid_is m layout Stub p laid e in
-    let two = laid_is m layout Got q laid f in
-    turn m layout split.text (split.constant ++ (split.writable ++ split.others)) p q low laid split.joined (stubs_in layout.sections split p one.2 one.0) (in_left split.constant (split.writable ++ split.others) q (got_in layout.sections split q two.2 two.0)) (solid made.Stubs p one.0 refl) (solid made.Got q two.0 refl)
-stubs_first m layout Tlv p q low laid e apart f =
-    let split = laid_split m layout laid in
-    let one = laid_is m layout Stub p laid e in
-    let two = laid_is m layout Tlv q laid f in
-    turn m layout split.text (split.constant ++ (split.writable ++ split.others)) p q low laid split.joined (stubs_in layout.sections split p one.2 one.0) (in_right split.constant (split.writable ++ split.others) q (in_left split.writable split.others q (tlv_in layout.sections split q two.2 two.0))) (solid made.Stubs p one.0 refl) (solid made.ThreadPtrs q two.0 refl)
-stubs_first m layout Stub p q low laid e apart f = absurd (apart refl)
+-- and before those that are later in their order
+pub made_turn : (m : ImageInputs) (layout : Layout) (first later : Made) (p q : PlacedSection) → AreLow (kept_of m) → IsLaid m layout → rank first < rank later → IsOwn layout first p → IsOwn layout later q → StandsBefore p q
+made_turn m layout first later p q low laid order is next = by first order (in_piece atoms bytes layout.sections split first p is.1 is.0)
+  where
+    atoms : List AtomKey → List Atom
+    atoms = (plan_for m).atoms
 
-pub got_next : (m : ImageInputs) (layout : Layout) (p q : PlacedSection) → AreLow (kept_of m) → IsLaid m layout → own_section layout.sections Got ≡ Some p → own_section layout.sections Tlv ≡ Some q → StandsBefore p q
-got_next m layout p q low laid e f =
-    let split = laid_split m layout laid in
-    let one = laid_is m layout Got p laid e in
-    let two = laid_is m layout Tlv q laid f in
-    turn m layout (split.text ++ split.constant) (split.writable ++ split.others) p q low laid (split.joined ∙ sym (append_assoc split.text split.constant (split.writable ++ split.others)))
-    (in_right split.text split.constant p (got_in layout.sections split p one.2 one.0)) (in_left split.writable split.others q (tlv_in layout.sections split q two.2 two.0)) (solid made.Got p one.0 refl) (solid made.ThreadPtrs q two.0 refl)
+    bytes : MadeBytes
+    bytes = made_bytes m.slots (sizes_of m.command m.libs (length m.info))
+
+    split : AreSplit atoms bytes layout.sections
+    split = laid_split m layout laid
+
+    there : In q (piece split later)
+    there = in_piece atoms bytes layout.sections split later q next.1 next.0
+
+    past_text : layout.sections ≡ (split.text ++ split.unwound) ++ (split.constant ++ (split.writable ++ split.others))
+    past_text = split.joined ∙ sym (append_assoc split.text split.unwound (split.constant ++ (split.writable ++ split.others)))
+
+    past_constant : layout.sections ≡ ((split.text ++ split.unwound) ++ split.constant) ++ (split.writable ++ split.others)
+    past_constant = past_text ∙ sym (append_assoc (split.text ++ split.unwound) split.constant (split.writable ++ split.others))
+
+    in_turn : (xs ys : List PlacedSection) → layout.sections ≡ xs ++ ys → In p xs → In q ys → StandsBefore p q
+    in_turn xs ys joined h k = turn m layout xs ys p q low laid joined h k (solid first p is.0) (solid later q next.0)
+
+    by : (which : Made) → rank which < rank later → In p (piece split which) → StandsBefore p q
+    by made.Stubs behind h = in_turn split.text (split.unwound ++ (split.constant ++ (split.writable ++ split.others))) split.joined h (after_text atoms bytes layout.sections split later q behind there)
+    by made.UnwindInfo behind h =
+        in_turn (split.text ++ split.unwound) (split.constant ++ (split.writable ++ split.others)) past_text (in_right split.text split.unwound p h) (after_unwound atoms bytes layout.sections split later q behind there)
+    by made.Got behind h =
+        in_turn ((split.text ++ split.unwound) ++ split.constant) (split.writable ++ split.others) past_constant (in_right (split.text ++ split.unwound) split.constant p h) (after_constant atoms bytes layout.sections split later q behind there)
+    by made.ThreadPtrs behind h = absurd (let most = most_rank later in omega (arith, behind, most))

@@ -222,7 +222,7 @@ rows_in m layout rising low laid =
     let plan = plan_for m in
     let atoms = map atom_of (kept_of m) in
     let chain : FileChain 0 (filter has_bytes (groups_sections plan.atoms plan.base 0 plan.lead plan.groups)) (groups_file plan.atoms plan.base 0 plan.lead plan.groups) =
-    groups_chain plan.atoms plan.base 0 plan.lead plan.groups (all_stored m.files atoms (made_bytes m.slots (sizes_of m.command m.libs)) refl (low_atoms (kept_of m) low)) in
+    groups_chain plan.atoms plan.base 0 plan.lead plan.groups (all_stored m.files atoms (made_bytes m.slots (sizes_of m.command m.libs (length m.info))) (low_atoms (kept_of m) low)) in
     let here : FileChain 0 (filter has_bytes layout.sections) (groups_file plan.atoms plan.base 0 plan.lead plan.groups) =
     subst (λ (ss : List PlacedSection). FileChain 0 (filter has_bytes ss) (groups_file plan.atoms plan.base 0 plan.lead plan.groups)) (sym laid.layout_of.sections) chain in
     sections_turn m.files (section_rows layout.placed (kept_of m)) 0 (linkedit_offset layout.segments) (filter has_bytes layout.sections)

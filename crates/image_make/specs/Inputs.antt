@@ -1,6 +1,7 @@
 -- What the code makes an image of, as definitions have it.
+use Rattle.std.specs.Prelude.{ℕ, List, []}
 use Rattle.resolve.specs.Table.{goals_of}
-use Rattle.image_make.specs.Made.{ImageInputs}
+use Rattle.image_make.specs.Made.{ImageInputs, with_info}
 use Rattle.image_make.specs.declared.making.ImageInputs as code
 
 abbrev pub inputs_of : code.ImageInputs → ImageInputs
@@ -16,4 +17,10 @@ inputs_of inputs = record {
   entry = inputs.entry.now;
   slots = inputs.slots.now;
   islands = inputs.islands.now;
+  unwinds = inputs.unwinds.now;
+  info = [];
 }
+
+-- with these bytes of `__unwind_info`
+abbrev pub inputs_with : code.ImageInputs → List ℕ → ImageInputs
+inputs_with inputs info = with_info (inputs_of inputs) info

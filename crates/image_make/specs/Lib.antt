@@ -3,6 +3,7 @@ pub mod inner
 pub mod Atoms
 pub mod Faults
 pub mod Flags
+pub mod Frames
 pub mod Inputs
 pub mod Near
 pub mod Parts

@@ -1,7 +1,7 @@
--- What stands in an image beside its atoms: the header with the load commands, stubs, slots, and the chains of pointers
--- (`loader.h`, `fixup-chains.h`).
-use Rattle.std.specs.Prelude.{ℕ, ◌+◌, ◌-◌, true, false, List, [], ◌∷◌, ◌++◌, length, slice_get, unwrap_or, Option}
-use Rattle.std.specs.List.{enumerate_from, flat_map}
+-- What stands in an image beside its atoms: the header with the load commands, stubs, `__unwind_info`, slots, and the chains
+-- of pointers (`loader.h`, `compact_unwind_encoding.h`, `fixup-chains.h`).
+use Rattle.std.specs.Prelude.{ℕ, ◌≡◌, ◌≢◌, ◌+◌, ◌-◌, true, false, List, [], ◌∷◌, ◌++◌, length, slice_get, unwrap_or, MatchOption, Option}
+use Rattle.std.specs.List.{enumerate_from, find, flat_map}
 use Rattle.std.specs.Option.{option_map_or}
 use Rattle.fixup_chain.specs.declared.chains.ChainWord.{ChainWord}
 use Rattle.fixup_chain.specs.declared.chains.Chains.{Chains}
@@ -13,10 +13,12 @@ use Rattle.load_cmds.specs.declared.parts.PartSizes.{PartSizes}
 use Rattle.mo_bytes.specs.Number.{number_bytes}
 use Rattle.mo_types.specs.declared.goal.Goal.{Goal}
 use Rattle.ref_meet.specs.Mets.{word_at}
+use Rattle.sect_place.specs.Arrangement.{section_of}
 use Rattle.sect_place.specs.declared.layout.Layout.{Layout}
 use Rattle.sect_place.specs.declared.layout.PlacedSection.{PlacedSection}
 use Rattle.sect_place.specs.declared.layout.Segment.{Segment}
-use Rattle.slot_place.specs.Places.{goals_for, own_section, start_in, starts_of, unit_at}
+use Rattle.sect_place.specs.declared.part.Made.TheVariants.{UnwindInfo}
+use Rattle.slot_place.specs.Places.{goals_for, is_made_as, own_section, start_in, starts_of, unit_at}
 use Rattle.slot_place.specs.Stubs.{stubs_bytes}
 use Rattle.slot_plan.specs.declared.list.Slots.{Slots}
 use Rattle.slot_plan.specs.declared.need.Way.{Way}
@@ -85,14 +87,27 @@ own_part layout slots words way =
     option_map_or (λ (placed : PlacedSection). record { from = placed.file_offset; bytes = own_bytes layout slots words way } ∷ [])
     (own_section layout.sections way) []
 
+-- `__unwind_info`, where the image has it
+unfoldable pub info_section : List PlacedSection → Option PlacedSection
+info_section sections = find (λ (placed : PlacedSection). is_made_as (section_of UnwindInfo) placed.section) sections
+
+-- The image has that section where there are bytes for it, with as many, and else has none.
+abbrev pub HasInfoSection : List PlacedSection → List ℕ → Type 0
+HasInfoSection sections info = MatchOption (info_section sections) (info ≡ []) (λ placed. (info ≢ []) × (placed.size ≡ length info))
+
+-- that section as a part of the image, with its bytes
+unfoldable pub info_part : Layout → List ℕ → List Part
+info_part layout info =
+    option_map_or (λ (placed : PlacedSection). record { from = placed.file_offset; bytes = info } ∷ []) (info_section layout.sections) []
+
 -- all parts, in the order of the image
-unfoldable pub image_parts : Layout → Slots → Chains → List ℕ → List Part
-image_parts layout slots chains front =
+unfoldable pub image_parts : Layout → Slots → List ℕ → Chains → List ℕ → List Part
+image_parts layout slots info chains front =
     record { from = 0; bytes = front }
-    ∷ (own_part layout slots chains.words Stub ++ (own_part layout slots chains.words Got ++ (own_part layout slots chains.words Tlv
-    ++ record { from = linkedit_offset layout.segments; bytes = chains.blob } ∷ [])))
+    ∷ (own_part layout slots chains.words Stub ++ (info_part layout info ++ (own_part layout slots chains.words Got
+    ++ (own_part layout slots chains.words Tlv ++ record { from = linkedit_offset layout.segments; bytes = chains.blob } ∷ []))))
 
 -- the image before its atoms are written: these parts, and zeros
-unfoldable pub blank_of : Layout → Slots → Chains → List ℕ → List ℕ
-blank_of layout slots chains front =
-    joined (record { size = linkedit_offset layout.segments + length chains.blob; parts = image_parts layout slots chains front })
+unfoldable pub blank_of : Layout → Slots → List ℕ → Chains → List ℕ → List ℕ
+blank_of layout slots info chains front =
+    joined (record { size = linkedit_offset layout.segments + length chains.blob; parts = image_parts layout slots info chains front })

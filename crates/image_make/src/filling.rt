@@ -18,10 +18,12 @@ use ref_meet::{AtomReferences, FileOrders, Scene};
 use std::alloc::Global;
 use std::thread::Threads;
 
-/// What is laid out: where everything stands, the atoms with bytes, and the pointers that the loader fills in.
+/// What is laid out: where everything stands, the bytes of `__unwind_info`, the atoms with bytes, and the pointers that the
+/// loader fills in.
 #[derive(Clone, Copy)]
 pub(crate) struct Laid<'a> {
     pub scene: &'a Scene<'a>,
+    pub info: &'a Bytes,
     pub orders: &'a FileOrders,
     pub work: &'a [PlacedWork],
     pub fixups: &'a [Fixup],

@@ -4,6 +4,7 @@ ghost use Rattle.fixup_chain.specs.Chained.{AreMany};
 ghost use Rattle.fixup_chain.specs.declared.chains.Chains.{Chains};
 ghost use Rattle.fixup_chain.specs.declared.chains.Fixup.{Fixup};
 ghost use Rattle.image_make.specs.Atoms.{AreLow, AreRising};
+ghost use Rattle.image_make.specs.Frames.{HaveFrames};
 ghost use Rattle.image_make.specs.Made.{ImageInputs, IsChained, IsLaid, IsMade, binds_of, blank, kept_of, mets_of, rows_of, told_mets};
 ghost use Rattle.image_make.specs.Parts as parts;
 ghost use Rattle.image_make.specs.Whole.{AreBytesIn};
@@ -29,7 +30,7 @@ pub fn what_is_laid_is_work()
 /// There is an image, or the reason why there is none: too many bytes, or a value that is out of range.
 pub fn an_image_or_a_fault_exists()
     ensures { (m : ImageInputs) → IsWholeLoaded (record { files = m.files }) → AreBytesIn m.files → AreRising (kept_of m) → AreLow (kept_of m)
-        → ¬ AreMany (binds_of m)
+        → HaveFrames m → ¬ AreMany (binds_of m)
         → ((image : List ℕ) × IsMade m (Ok image))
         ⊎ (((value : ℤ) × IsMade m (Err (Place (ImageSize value))))
         ⊎ ((atom : Option AtomKey) × (fault : RangeFault) × IsMade m (Err (Range atom fault)))) }

@@ -1,25 +1,23 @@
 //! Where everything of an image stands.
-ghost use Rattle.std.specs.Prelude.{◌≡◌, ◌<◌, ◌^◌, IfErr, IfOk};
-ghost use Rattle.std.specs.List.{AllPairs};
-ghost use Rattle.sect_place.specs.Addresses.{AreOnce};
+ghost use Rattle.std.specs.Prelude.{◌≡◌, ◌≢◌, [], IfErr, IfOk};
 ghost use Rattle.image_make.specs.Atoms.{AreLow, AreRising};
-ghost use Rattle.image_make.specs.Parts as parts;
-ghost use Rattle.image_make.specs.inner.Filled.{IsPlanFault};
-ghost use Rattle.mo_types.specs.Loaded.{IsBefore};
-ghost use Rattle.mo_types.specs.declared.loaded.LoadedFile.{LoadedFile};
-ghost use Rattle.sect_place.specs.Layout.{IsLayoutOf, image_size};
+ghost use Rattle.image_make.specs.Frames.{HaveFrames};
+ghost use Rattle.image_make.specs.Inputs.{inputs_of, inputs_with};
+ghost use Rattle.image_make.specs.Made.{IsLaid, kept_of};
+ghost use Rattle.image_make.specs.inner.Filled.{IsLayFault, IsPlanFault};
+ghost use Rattle.image_make.specs.inner.Laying.{AreReadySections, IsFirstSize, IsPlacedWith, plan_sized};
+ghost use Rattle.mo_types.specs.Loaded.{IsWholeLoaded};
+ghost use Rattle.sect_place.specs.Addresses.{AreOnce};
 ghost use Rattle.sect_place.specs.Whole.{IsWholeLayout};
-ghost use Rattle.image_make.specs.Made as spec;
 
 use crate::fault::MakeFault;
+use crate::frames::{info_of, info_size};
 use crate::kept::KeptList;
-use command_line::Command;
-use lib_bind::Libraries;
+use crate::making::ImageInputs;
 use load_cmds::{PartKinds, other_size};
-use mo_types::Loaded;
+use mo_types::{Bytes, OutSections};
 use sect_list::out_sections;
-use sect_place::{IslandPlan, Layout, PlaceFault, PlaceSizes, place};
-use slot_plan::Slots;
+use sect_place::{Layout, PlaceFault, PlaceSizes, place};
 use std::alloc::Global;
 
 /// Which parts of `__LINKEDIT` are there: exports, symbols, the UUID and the signature come with a later version.
@@ -31,35 +29,119 @@ pub(crate) const PARTS_THERE: PartKinds = PartKinds {
     signature: false,
 };
 
-/// Where everything of an image with some atoms stands, or how many bytes it would have, where these are 2^32 or more.
-pub(crate) fn lay_out(
+/// Where everything of an image stands, and the bytes of its `__unwind_info`.
+#[derive(Drop)]
+pub(crate) struct Laying {
+    pub layout: Layout,
+    pub info: Bytes,
+}
+
+// Where everything of an image with some atoms stands, with so many bytes of `__unwind_info`, or how many bytes it would
+// have, where these are 2^32 or more.
+fn placed(
     alloc: Global,
-    command: &Command,
-    libs: &Libraries,
-    loaded: &Loaded,
+    inputs: &ImageInputs,
     kept: &KeptList,
-    slots: &Slots,
-    islands: &IslandPlan,
+    sections: &OutSections,
+    unwind: u64,
 ) -> Result<Layout, MakeFault>
-    requires files { AllPairs (λ (a : LoadedFile) (b : LoadedFile). IsBefore a.id b.id) loaded.now.files }
-    requires rising { AreRising kept.now }
-    requires low { AreLow kept.now }
-    ensures layout_of { IfOk result (λ layout.
-        IsLayoutOf command.now (spec.plan_with command.now libs.now loaded.now.files kept.now slots.now islands.now) layout) }
-    ensures small { IfOk result (λ layout. image_size (spec.plan_with command.now libs.now loaded.now.files kept.now slots.now islands.now) < 2 ^ 32) }
-    ensures whole { IfOk result IsWholeLayout }
-    ensures once { IfOk result (λ layout. AreOnce layout.placed) }
-    ensures fault { IfErr result (IsPlanFault (spec.plan_with command.now libs.now loaded.now.files kept.now slots.now islands.now)) }
+    requires { AreReadySections (inputs_of inputs.now) kept.now sections.now }
+    ensures placed { IfOk result (IsPlacedWith (inputs_of inputs.now) unwind) }
+    ensures fault { IfErr result (IsPlanFault (plan_sized (inputs_of inputs.now) unwind)) }
 {
-    let atoms = kept.atoms();
-    let sections = out_sections(alloc, loaded, atoms)?;
+    let command = inputs.command;
     let sizes = PlaceSizes {
-        commands: other_size(PARTS_THERE, command, libs),
-        unwind: 0,
+        commands: other_size(PARTS_THERE, command, inputs.libs),
+        unwind,
     };
-    match place(alloc, atoms, &sections, slots, islands, &sizes, command) {
+    match place(
+        alloc,
+        kept.atoms(),
+        sections,
+        inputs.slots,
+        inputs.islands,
+        &sizes,
+        command,
+    ) {
         Ok(layout) => Ok(layout),
         Err(PlaceFault::OutOfMemory) => Err(MakeFault::OutOfMemory),
         Err(fault) => Err(MakeFault::Place(fault)),
+    }
+}
+
+// How many bytes `__unwind_info` has, by where everything stands with one byte of it.
+fn first_size(
+    alloc: Global,
+    inputs: &ImageInputs,
+    kept: &KeptList,
+    sections: &OutSections,
+) -> Result<u64, MakeFault>
+    requires some { inputs.now.unwinds.now ≢ [] }
+    requires ready { AreReadySections (inputs_of inputs.now) kept.now sections.now }
+    ensures size { IfOk result (IsFirstSize (inputs_of inputs.now)) }
+    ensures fault { IfErr result (IsLayFault (inputs_of inputs.now)) }
+{
+    let layout = placed(alloc, inputs, kept, sections, 1)?;
+    info_size(alloc, inputs, &layout)
+}
+
+// Where everything stands with `__unwind_info`, and its bytes.
+fn laid_with_info(
+    alloc: Global,
+    inputs: &ImageInputs,
+    kept: &KeptList,
+    sections: &OutSections,
+) -> Result<Laying, MakeFault>
+    requires some { inputs.now.unwinds.now ≢ [] }
+    requires ready { AreReadySections (inputs_of inputs.now) kept.now sections.now }
+    ensures laid { IfOk result (λ laying. IsLaid (inputs_with inputs.now laying.info) laying.layout) }
+    ensures fault { IfErr result (IsLayFault (inputs_of inputs.now)) }
+{
+    let size = first_size(alloc, inputs, kept, sections)?;
+    let layout = placed(alloc, inputs, kept, sections, size)?;
+    let info = info_of(alloc, inputs, &layout)?;
+    Ok(Laying { layout, info })
+}
+
+// Where everything stands without it.
+fn laid_without(
+    alloc: Global,
+    inputs: &ImageInputs,
+    kept: &KeptList,
+    sections: &OutSections,
+) -> Result<Laying, MakeFault>
+    requires none { inputs.now.unwinds.now ≡ [] }
+    requires ready { AreReadySections (inputs_of inputs.now) kept.now sections.now }
+    ensures laid { IfOk result (λ laying. IsLaid (inputs_with inputs.now laying.info) laying.layout) }
+    ensures fault { IfErr result (IsLayFault (inputs_of inputs.now)) }
+{
+    let layout = placed(alloc, inputs, kept, sections, 0)?;
+    let info = Bytes::new();
+    Ok(Laying { layout, info })
+}
+
+/// Where everything of an image with some atoms stands, with `__unwind_info` where it has unwind entries, or why there is no
+/// such place. It is placed twice with them, as the rows of `__unwind_info` hang on addresses: first with one byte, and then
+/// with as many as rows have.
+pub(crate) fn lay_out(
+    alloc: Global,
+    inputs: &ImageInputs,
+    kept: &KeptList,
+) -> Result<Laying, MakeFault>
+    requires whole { IsWholeLoaded inputs.now.loaded.now }
+    requires rising { AreRising (kept_of (inputs_of inputs.now)) }
+    requires low { AreLow (kept_of (inputs_of inputs.now)) }
+    requires frames { HaveFrames (inputs_of inputs.now) }
+    requires kept { kept.now ≡ kept_of (inputs_of inputs.now) }
+    ensures laid { IfOk result (λ laying. IsLaid (inputs_with inputs.now laying.info) laying.layout) }
+    ensures whole { IfOk result (λ laying. IsWholeLayout laying.layout) }
+    ensures once { IfOk result (λ laying. AreOnce laying.layout.placed) }
+    ensures fault { IfErr result (IsLayFault (inputs_of inputs.now)) }
+{
+    let sections = out_sections(alloc, inputs.loaded, kept.atoms())?;
+    if inputs.unwinds.is_empty() {
+        laid_without(alloc, inputs, kept, &sections)
+    } else {
+        laid_with_info(alloc, inputs, kept, &sections)
     }
 }

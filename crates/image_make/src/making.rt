@@ -3,8 +3,9 @@ ghost use Rattle.std.specs.Prelude.{◌≡◌, ◌+◌, ◌<◌, ◌≤◌, ◌^
 ghost use Rattle.std.specs.List.Sorted.{IsStrictlySortedBy};
 ghost use Rattle.fixup_chain.specs.Chained.{AreChains, AreMany, IsCause};
 ghost use Rattle.image_make.specs.Atoms.{AreLow, AreRising};
-ghost use Rattle.image_make.specs.Inputs.{inputs_of};
-ghost use Rattle.image_make.specs.Made.{IsMade, binds_of, kept_of};
+ghost use Rattle.image_make.specs.Frames.{HaveFrames};
+ghost use Rattle.image_make.specs.Inputs.{inputs_of, inputs_with};
+ghost use Rattle.image_make.specs.Made.{IsMade, IsMadeWith, binds_of, kept_of};
 ghost use Rattle.image_make.specs.Near.{AreNear};
 ghost use Rattle.image_make.specs.Parts as parts;
 ghost use Rattle.image_make.specs.inner.Laid.{IsEncoded, IsLaidOut, IsSized};
@@ -33,6 +34,7 @@ use slot_plan::Slots;
 use std::alloc::Global;
 use std::thread::Threads;
 use symbol_winners::SymbolTable;
+use unwind_link::KeptUnwinds;
 
 /// What an image is made of.
 #[derive(Clone, Copy)]
@@ -51,6 +53,8 @@ pub struct ImageInputs<'a> {
     pub entry: &'a Goal,
     pub slots: &'a Slots,
     pub islands: &'a IslandPlan,
+    /// The unwind entries of the kept atoms.
+    pub unwinds: &'a KeptUnwinds,
 }
 
 /// An image has fewer bytes than these.
@@ -92,10 +96,10 @@ fn overlong<R: Threads + Sync, G: Gate + Sync>(
     laid: &Laid,
     chains: &Chains,
 ) -> MakeFault
-    requires laid { IsLaidOut (inputs_of inputs.now) laid.now }
+    requires laid { IsLaidOut (inputs_with inputs.now laid.now.info.now) laid.now }
     requires chains { AreChains laid.now.scene.now.layout.now laid.now.fixups.now chains.now }
     requires long { 2 ^ 32 ≤ parts.whole_size laid.now.scene.now.base laid.now.scene.now.layout.now chains.now }
-    ensures { IsMade (inputs_of inputs.now) (Err result) }
+    ensures { IsMadeWith (inputs_with inputs.now laid.now.info.now) (Err result) }
 {
     let _ = inputs;
     match told_fault(rt, alloc, gate, threads, laid) {
@@ -114,10 +118,10 @@ fn image_with<R: Threads + Sync, G: Gate + Sync>(
     laid: &Laid,
     chains: Chains,
 ) -> Result<Bytes, MakeFault>
-    requires laid { IsLaidOut (inputs_of inputs.now) laid.now }
+    requires laid { IsLaidOut (inputs_with inputs.now laid.now.info.now) laid.now }
     requires chains { AreChains laid.now.scene.now.layout.now laid.now.fixups.now chains }
     requires few { parts.whole_size laid.now.scene.now.base laid.now.scene.now.layout.now chains < 2 ^ 32 }
-    ensures { IsMade (inputs_of inputs.now) result }
+    ensures { IsMadeWith (inputs_with inputs.now laid.now.info.now) result }
 {
     let layout = laid.scene.layout;
     let flags = inputs.flags + bound_flags(laid.fixups, layout.sections.as_slice());
@@ -132,7 +136,8 @@ fn image_with<R: Threads + Sync, G: Gate + Sync>(
     )?;
     let Chains { words, blob } = chains;
     let words = words.as_slice();
-    let blank = blank_image(alloc, layout, inputs.slots, words, blob, front)?;
+    let info = laid.info.clone()?;
+    let blank = blank_image(alloc, layout, inputs.slots, info, words, blob, front)?;
     fill_laid(rt, alloc, gate, threads, laid, words, blank)
 }
 
@@ -146,9 +151,9 @@ fn refused<R: Threads + Sync, G: Gate + Sync>(
     laid: &Laid,
     why: ChainFault,
 ) -> MakeFault
-    requires laid { IsLaidOut (inputs_of inputs.now) laid.now }
+    requires laid { IsLaidOut (inputs_with inputs.now laid.now.info.now) laid.now }
     requires cause { IsCause laid.now.scene.now.layout.now laid.now.fixups.now why }
-    ensures { IsMade (inputs_of inputs.now) (Err result) }
+    ensures { IsMadeWith (inputs_with inputs.now laid.now.info.now) (Err result) }
 {
     match why {
         ChainFault::Range {
@@ -180,9 +185,9 @@ fn image_of<R: Threads + Sync, G: Gate + Sync>(
     laid: &Laid,
     chains: Result<Chains, ChainFault>,
 ) -> Result<Bytes, MakeFault>
-    requires laid { IsLaidOut (inputs_of inputs.now) laid.now }
+    requires laid { IsLaidOut (inputs_with inputs.now laid.now.info.now) laid.now }
     requires chains { IsEncoded laid.now.scene.now.layout.now laid.now.fixups.now chains }
-    ensures { IsMade (inputs_of inputs.now) result }
+    ensures { IsMadeWith (inputs_with inputs.now laid.now.info.now) result }
 {
     match chains {
         Ok(chains) => {
@@ -197,10 +202,10 @@ fn image_of<R: Threads + Sync, G: Gate + Sync>(
 }
 
 /// The image of the atoms that are kept: its header with the load commands, stubs, slots, each atom at its place with the
-/// fields of its references, and the chains of pointers that the loader fills in, written by so many workers; or why there is
-/// none. Everything stands in one allocation, in which each byte of an object is written once. There are to be fewer than
-/// 2^24 imports. The entry and what references lead to are to lie within 2^63 bytes of the start of their atoms: these stand
-/// below 2^33 in an image, so that each address has 64 bits.
+/// fields of its references, `__unwind_info`, and the chains of pointers that the loader fills in, written by so many workers;
+/// or why there is none. Everything stands in one allocation, in which each byte of an object is written once. There are to be
+/// fewer than 2^24 imports. The entry and what references lead to are to lie within 2^63 bytes of the start of their atoms:
+/// these stand below 2^33 in an image, so that each address has 64 bits.
 pub fn make_image<R: Threads + Sync, G: Gate + Sync>(
     rt: &R,
     alloc: Global,
@@ -213,38 +218,32 @@ pub fn make_image<R: Threads + Sync, G: Gate + Sync>(
     requires rising { AreRising (kept_of (inputs_of inputs.now)) }
     requires low { AreLow (kept_of (inputs_of inputs.now)) }
     requires near { AreNear (inputs_of inputs.now) }
+    requires frames { HaveFrames (inputs_of inputs.now) }
     requires flags { inputs.now.flags < 2 ^ 31 }
     requires few { ¬ AreMany (binds_of (inputs_of inputs.now)) }
     ensures { IsMade (inputs_of inputs.now) result }
 {
     let kept = kept_atoms(alloc, inputs.loaded, inputs.symbols, inputs.keys)?;
-    let layout = lay_out(
-        alloc,
-        inputs.command,
-        inputs.libs,
-        inputs.loaded,
-        &kept,
-        inputs.slots,
-        inputs.islands,
-    )?;
-    let work = work_of(alloc, &kept, &layout)?;
+    let laying = lay_out(alloc, inputs, &kept)?;
+    let work = work_of(alloc, &kept, &laying.layout)?;
     drop(kept);
     let orders = orders_of(alloc, inputs.loaded.files.as_slice())?;
     let scene = Scene {
         loaded: inputs.loaded,
         goals: inputs.goals,
         symbols: inputs.symbols,
-        layout: &layout,
+        layout: &laying.layout,
         slots: inputs.slots,
         base: base_of(inputs.command),
     };
     let fixups = fixups_of(alloc, &scene, &orders, work.as_slice())?;
     let laid = Laid {
         scene: &scene,
+        info: &laying.info,
         orders: &orders,
         work: work.as_slice(),
         fixups: fixups.as_slice(),
     };
-    let chains = encode(alloc, &fixups, &layout);
+    let chains = encode(alloc, &fixups, &laying.layout);
     image_of(rt, alloc, gate, threads, inputs, &laid, chains)
 }

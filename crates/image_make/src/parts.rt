@@ -1,15 +1,19 @@
 //! What stands in an image beside its atoms.
 ghost use Rattle.std.specs.Prelude.{◌≡◌, ◌++◌, ℕ, IfOk, OnOk, Some, unwrap_or};
 ghost use Rattle.std.specs.List.{enumerate_from, flat_map};
+ghost use Rattle.std.specs.Option.{option_copied};
 ghost use Rattle.image_make.specs.Parts as spec;
 ghost use Rattle.image_make.specs.inner.PartsReady.{AreReadyParts, AreReadySlots};
 ghost use Rattle.mo_bytes.specs.Number.{number_bytes};
 ghost use Rattle.ref_meet.specs.Mets.{word_at};
 ghost use Rattle.ref_meet.specs.Ready.{AreInOrder};
-ghost use Rattle.slot_place.specs.Places.{HasRoom};
+ghost use Rattle.sect_place.specs.Arrangement.{section_of};
+ghost use Rattle.sect_place.specs.declared.part.Made.TheVariants.{UnwindInfo};
+ghost use Rattle.slot_place.specs.Places.{HasRoom, is_made_as};
 
 use fixup_chain::{ChainWord, WordList};
 use image_join::{Part, PartList, Parts, join};
+use mo_format::loader::S_REGULAR;
 use mo_types::{Bytes, OutOfMemory};
 use ref_meet::word_near;
 use sect_place::{Layout, PlacedSection, Segment};
@@ -144,17 +148,51 @@ fn add_own(
     Ok(())
 }
 
-/// An image with its header and load commands, stubs, slots and chains, and zeros elsewhere.
+// Whether a section is `__unwind_info`.
+fn is_info(placed: &PlacedSection) -> bool
+    ensures { result ≡ is_made_as (section_of UnwindInfo) placed.now.section }
+{
+    let section = &placed.section;
+    section.segment.as_slice() == b"__TEXT".as_slice()
+        && section.name.as_slice() == b"__unwind_info".as_slice()
+        && u32::from(section.kind) == S_REGULAR
+        && section.atoms.len() == 0
+}
+
+#[tactic(auto, unfolding(crate::specs::Parts::info_section))]
+fn info_section(sections: &[PlacedSection]) -> Option<&PlacedSection>
+    ensures { option_copied result ≡ spec.info_section sections.now }
+{
+    sections.iter().find(|placed| is_info(placed))
+}
+
+// Puts `__unwind_info` with its bytes behind other parts, if the image has it.
+#[tactic(auto, unfolding(crate::specs::Parts::info_part))]
+fn add_info(parts: &mut PartList, layout: &Layout, info: Bytes) -> Result<(), OutOfMemory>
+    ensures { OnOk result (parts.new ≡ parts.old ++ spec.info_part layout.now info) }
+{
+    let Some(section) = info_section(layout.sections.as_slice()) else {
+        return Ok(());
+    };
+    parts.push(Part {
+        from: section.file_offset,
+        bytes: info,
+    })?;
+    Ok(())
+}
+
+/// An image with its header and load commands, stubs, these bytes of `__unwind_info`, slots and chains, and zeros elsewhere.
 pub(crate) fn blank_image(
     alloc: Global,
     layout: &Layout,
     slots: &Slots,
+    info: Bytes,
     words: &[ChainWord],
     blob: Bytes,
     front: Bytes,
 ) -> Result<Vec<u8>, OutOfMemory>
-    requires { AreReadyParts layout.now slots.now (record { words = words.now; blob = blob }) front }
-    ensures { IfOk result (λ blank. blank.items ≡ spec.blank_of layout.now slots.now (record { words = words.now; blob = blob }) front) }
+    requires { AreReadyParts layout.now slots.now info (record { words = words.now; blob = blob }) front }
+    ensures { IfOk result (λ blank. blank.items ≡ spec.blank_of layout.now slots.now info (record { words = words.now; blob = blob }) front) }
 {
     let offset = linkedit_offset(layout.segments.as_slice());
     let size = offset + blob.len() as u64;
@@ -164,6 +202,7 @@ pub(crate) fn blank_image(
         bytes: front,
     })?;
     add_own(&mut parts, alloc, layout, slots, words, Way::Stub)?;
+    add_info(&mut parts, layout, info)?;
     add_own(&mut parts, alloc, layout, slots, words, Way::Got)?;
     add_own(&mut parts, alloc, layout, slots, words, Way::Tlv)?;
     parts.push(Part {

@@ -3,8 +3,8 @@ ghost use Rattle.std.specs.Prelude.{◌≡◌, Err, Some};
 ghost use Rattle.std.specs.Ordering.{is_gt};
 ghost use Rattle.fixup_chain.specs.Chained.{IsRefused};
 ghost use Rattle.fixup_chain.specs.declared.chains.ChainFault.TheVariants as chain;
-ghost use Rattle.image_make.specs.Inputs.{inputs_of};
-ghost use Rattle.image_make.specs.Made.{IsMade};
+ghost use Rattle.image_make.specs.Inputs.{inputs_with};
+ghost use Rattle.image_make.specs.Made.{IsMadeWith};
 ghost use Rattle.image_make.specs.inner.Laid.{IsLaidOut};
 ghost use Rattle.image_make.specs.inner.Unfit.{compare_faults, first_of, first_with, of_atom};
 
@@ -82,10 +82,10 @@ fn first_in_atoms<R: Threads + Sync, G: Gate + Sync>(
     laid: &Laid,
     pointer: AtomFault,
 ) -> MakeFault
-    requires laid { IsLaidOut (inputs_of inputs.now) laid.now }
+    requires laid { IsLaidOut (inputs_with inputs.now laid.now.info.now) laid.now }
     requires first { IsRefused laid.now.scene.now.layout.now laid.now.fixups.now
         (chain.Range (Some pointer.key) pointer.fault.file_place pointer.fault.kind pointer.fault.value) }
-    ensures { IsMade (inputs_of inputs.now) (Err result) }
+    ensures { IsMadeWith (inputs_with inputs.now laid.now.info.now) (Err result) }
 {
     let _ = inputs;
     match told_fault(rt, alloc, gate, threads, laid) {
@@ -104,10 +104,10 @@ pub(crate) fn first_fault<R: Threads + Sync, G: Gate + Sync>(
     laid: &Laid,
     pointer: PointerFault,
 ) -> MakeFault
-    requires laid { IsLaidOut (inputs_of inputs.now) laid.now }
+    requires laid { IsLaidOut (inputs_with inputs.now laid.now.info.now) laid.now }
     requires first { IsRefused laid.now.scene.now.layout.now laid.now.fixups.now
         (chain.Range pointer.atom pointer.fault.file_place pointer.fault.kind pointer.fault.value) }
-    ensures { IsMade (inputs_of inputs.now) (Err result) }
+    ensures { IsMadeWith (inputs_with inputs.now laid.now.info.now) (Err result) }
 {
     let fault = pointer.fault;
     match pointer.atom {

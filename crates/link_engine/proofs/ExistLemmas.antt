@@ -41,7 +41,7 @@ use Rattle.link_engine.specs.declared.stop.Stop.{Stop}
 use Rattle.link_engine.specs.declared.stop.Stop.TheVariants.{Refused}
 use Rattle.link_engine.proofs.FetchedLemmas.{fetched_bytes, inputs_bytes, map_bytes}
 use Rattle.link_engine.proofs.InputLemmas.{inputs_rise, made_below}
-use Rattle.link_engine.proofs.LoadedLemmas.{loaded_bytes, loaded_low, loaded_whole}
+use Rattle.link_engine.proofs.LoadedLemmas.{loaded_bytes, loaded_low, loaded_unwinds, loaded_whole}
 use Rattle.link_engine.proofs.PartLemmas.{contents_bytes}
 use Rattle.link_engine.proofs.RealLemmas.{inputs_end, libraries_end, opening_ends, rounds_end, words_end}
 
@@ -117,6 +117,7 @@ module _ (told : List Exchange) (bytes : AreOfBytes told) (command : Command) (f
         ordered = loaded_rises contents.inputs libs (wanted command) loaded order read;
         whole = loaded_whole contents.inputs libs (wanted command) loaded read held;
         low = loaded_low contents.inputs libs (wanted command) loaded read;
+        unwinds = loaded_unwinds contents.inputs libs (wanted command) loaded read;
         bytes = loaded_bytes contents.inputs libs (wanted command) loaded read held;
       }
 

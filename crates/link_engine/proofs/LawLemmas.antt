@@ -56,7 +56,7 @@ use Rattle.link_engine.specs.Stop.{bind_fault_for, fetch_fault_for, load_fault_f
 use Rattle.link_engine.specs.Fetched.{FetchedBy}
 use Rattle.link_engine.specs.Verdict.{IsImage, IsVerdict, IsVerdictAfter, contents_with, files_for, plan_by, plan_of}
 use Rattle.link_engine.proofs.InputLemmas.{inputs_rise}
-use Rattle.link_engine.proofs.LoadedLemmas.{loaded_cut, loaded_low, loaded_referred}
+use Rattle.link_engine.proofs.LoadedLemmas.{loaded_cut, loaded_low, loaded_referred, loaded_unwinds}
 use Rattle.link_engine.specs.Lines.{after_command}
 
 same_stop : {A : Type 0} {x y : Stop} → ◌≡◌ {A = Result A (StepFault Stop)} (Err (fault.Stop x)) (Err (fault.Stop y)) → x ≡ y
@@ -219,7 +219,7 @@ module _ (command : Command) (libs : LibraryGraph) (inputs : List Input) (loaded
   linked_one : (a b : Result (List ℕ) Refusal) → IsLinked command libs loaded.files a → IsLinked command libs loaded.files b → a ≡ b
   linked_one =
       let names = wanted command in
-      link_one command libs loaded.files (loaded_rises inputs libs names loaded order is) (loaded_cut inputs libs names loaded is) (loaded_referred inputs libs names loaded is) (loaded_low inputs libs names loaded is)
+      link_one command libs loaded.files (loaded_rises inputs libs names loaded order is) (loaded_cut inputs libs names loaded is) (loaded_referred inputs libs names loaded is) (loaded_low inputs libs names loaded is) (loaded_unwinds inputs libs names loaded is)
 
   image_one : Agree (IsImage command libs loaded.files) (IsImage command libs loaded.files)
   image_one a b p q = by a b p q

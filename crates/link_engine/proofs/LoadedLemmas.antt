@@ -1,12 +1,13 @@
--- Each file that is loaded is cut into its pieces, has its references, the form and atoms of low alignment, and is whole and has
--- bytes where it is read of bytes.
-use Rattle.std.proofs.Common.{◌≡◌, ℕ, ◌<◌, ◌^◌, false, true, Bool, nat_lt, List, All, length, Result, Ok, Err, refl, sym, subst}
-use Rattle.std.specs.Result.{IfErr}
-use Rattle.std.proofs.lemmas.Bool.{ltb-true}
+-- Each file that is loaded is cut into its pieces, has its references and unwind entries, the form and atoms of low alignment,
+-- and is whole and has bytes where it is read of bytes.
+use Rattle.std.proofs.Common.{◌≡◌, ℕ, ◌<◌, ◌^◌, false, true, Bool, nat_lt, List, All, length, Result, Ok, Err, IfOk, is_ok, refl, sym, subst}
+use Rattle.std.specs.Result.{IfErr, MatchResult}
+use Rattle.std.proofs.lemmas.Bool.{false≢true, ltb-true}
 use Rattle.std.proofs.lemmas.List.{get_or_default}
 use Rattle.std.proofs.lemmas.List.Elements.{All-weaker}
 use Rattle.list_lemmas.proofs.Members.{In, Contains_from_in, in_from_Contains}
 use Rattle.mo_types.specs.Gives.{guarded}
+use Rattle.name_ids.specs.declared.numbered.NamedFiles.{NamedFiles}
 use Rattle.mo_types.specs.Loaded.{IsWholeFile}
 use Rattle.mo_types.specs.Refs.{refs_of}
 use Rattle.mo_types.specs.declared.cause.Which.TheVariants.{Symbols}
@@ -16,8 +17,6 @@ use Rattle.mo_types.specs.declared.loaded.LoadedFile.{LoadedFile}
 use Rattle.mo_types.specs.declared.object.Object.{Object}
 use Rattle.mo_types.specs.declared.object.Section.{Section}
 use Rattle.mo_types.specs.declared.object_fault.ObjFault.TheVariants.{Limit}
-use Rattle.mo_types.specs.declared.reference.Ref.{Ref}
-use Rattle.mo_types.specs.declared.reference_fault.RefFault.{RefFault}
 use Rattle.mo_obj.proofs.WholeLemmas.{read_whole}
 use Rattle.mo_obj.specs.Features.{first_feature}
 use Rattle.mo_obj.specs.Entries.{entries_of}
@@ -25,10 +24,13 @@ use Rattle.mo_obj.specs.Object.{accepted, described, lacks, object_of}
 use Rattle.mo_obj.proofs.ReadLemmas.{bind_ok}
 use Rattle.mo_obj.specs.Read.{AreBytes, IsRead}
 use Rattle.mo_obj.specs.Relocations.{relocations_of}
+use Rattle.mo_obj.proofs.UnwindLemmas.{entries_read}
+use Rattle.unwind_read.specs.Unwinds.{unwinds_of}
 use Rattle.lib_bind.specs.declared.library.LibraryGraph.{LibraryGraph}
-use Rattle.input_files.specs.Files.{IsLow, all_ids, content_of, file_of, is_first, or_none}
+use Rattle.input_files.specs.Files.{HasUnwinds, IsLow, all_ids, content_of, file_of, is_first, or_none}
 use Rattle.member_rounds.specs.Growth.{union}
 use Rattle.member_rounds.specs.Rounds.{asks, loaded_ids, loaded_of}
+use Rattle.input_files.specs.declared.fault.LoadFault.{LoadFault}
 use Rattle.input_files.specs.declared.input.Input.{Input}
 use Rattle.member_rounds.proofs.AnswerLemmas.{loaded_only}
 use Rattle.input_files.proofs.FileLemmas.{few_ids}
@@ -57,9 +59,19 @@ few_symbols bytes object e =
     by true o d low f = ltb-true (length o.symbols) (2 ^ 24) low
     by false o d low f = no_value (Limit Symbols) d f
 
-refs_there : (r : Result (List Ref) RefFault) → IfErr r (λ fault. ⊥) → r ≡ Ok (or_none r)
-refs_there (Ok refs) none = refl
-refs_there (Err fault) none = absurd none
+all_there : {X E : Type 0} (r : Result (List X) E) → IfErr r (λ fault. ⊥) → r ≡ Ok (or_none r)
+all_there (Ok xs) none = refl
+all_there (Err fault) none = absurd none
+
+-- the rule of unwind entries holds of it
+entries_kept : (bytes : List ℕ) (object : Object) → object_of bytes ≡ Ok object → entries_of object ≡ Ok (tt {0})
+unfolding object_of accepted
+entries_kept bytes object e =
+    let read = bind_ok (described bytes) _ object e in
+    let done = bind_ok (accepted read.0.object read.0.foreign) _ object read.2 in
+    let relocs = bind_ok (relocations_of read.0.object) _ done.0 done.1 in
+    let entries = bind_ok (entries_of read.0.object) _ done.0 relocs.2 in
+    subst (λ (o : Object). entries_of o ≡ Ok (tt {0})) (same_value read.0.object object done.2) entries.1
 
 -- ---- a file
 
@@ -74,7 +86,7 @@ file_whole inputs id file few bytes is =
       object = read.whole;
       few_symbols = few_symbols content.bytes object of.read;
       atoms = refl;
-      refs = refs_there (refs_of object id) (read.refs id);
+      refs = all_there (refs_of object id) (read.refs id);
       unwinds = tt;
     })
 
@@ -89,7 +101,14 @@ file_bytes inputs id file bytes is =
     subst HasByteSections (sym of.is) (All-weaker (λ (section : Section). AreBytes section.bytes) (λ (section : Section). All (λ byte. byte < 256) section.bytes)
     (λ section are k d within. subst (λ (n : ℕ). n < 256) (get_or_default section.bytes k 0 d within) (are k)) of.object.sections read.contents)
 
--- a file has the references of its object
+-- a file has the unwind entries of its object
+file_unwinds : (inputs : List Input) (id : FileId) (file : LoadedFile) → file_of inputs id ≡ Ok file → HasUnwinds file
+file_unwinds inputs id file is =
+    let content = content_of inputs id in
+    let of : IsObjectOf id content.label content.bytes file = object_at inputs id file is in
+    subst HasUnwinds (sym of.is) (all_there (unwinds_of of.object id) (entries_read of.object id (entries_kept content.bytes of.object of.read)))
+
+-- and its references
 abbrev IsReferred : LoadedFile → Type 0
 IsReferred file = file.refs ≡ or_none (refs_of file.object file.id)
 
@@ -118,8 +137,18 @@ module _ (inputs : List Input) (libs : LibraryGraph) (wanted : List (List ℕ)) 
   pub loaded_whole : HaveBytes inputs → All IsWholeFile loaded.files
   loaded_whole are = each_loaded IsWholeFile (λ id file among read. file_whole inputs id file (few_ids inputs id among) (content_bytes inputs id are) read)
 
+  pub loaded_unwinds : All HasUnwinds loaded.files
+  loaded_unwinds = each_loaded HasUnwinds (λ id file among read. file_unwinds inputs id file read)
+
   pub loaded_low : All IsLow loaded.files
   loaded_low = each_loaded IsLow (λ id file among read. low_at inputs id file read)
 
   pub loaded_bytes : HaveBytes inputs → AreBytesIn loaded.files
   loaded_bytes are = each_loaded HasByteSections (λ id file among read. file_bytes inputs id file (content_bytes inputs id are) read)
+
+-- files that are handed on, whatever a fault is turned into
+pub named_unwinds : {F : Type 0} (Turned : LoadFault → Type 0) (inputs : List Input) (libs : LibraryGraph) (wanted : List (List ℕ)) (read : Result NamedFiles LoadFault) (result : Result NamedFiles F) → IfOk read (λ named. loaded_of inputs libs wanted ≡ Ok named.loaded) → MatchResult read (λ named. result ≡ Ok named) Turned → is_ok result ≡ is_ok read
+    → IfOk result (λ named. All HasUnwinds named.loaded.files)
+named_unwinds {F = F} Turned inputs libs wanted (Ok named) result loaded same ends = subst (λ (r : Result NamedFiles F). IfOk r (λ n. All HasUnwinds n.loaded.files)) (sym same) (loaded_unwinds inputs libs wanted named.loaded loaded)
+named_unwinds Turned inputs libs wanted (Err fault) (Ok named) loaded same ends = absurd (false≢true (sym ends))
+named_unwinds Turned inputs libs wanted (Err fault) (Err end) loaded same ends = tt

@@ -3,7 +3,7 @@ ghost use Rattle.std.specs.Prelude.{◌≡◌, All, IfOk};
 ghost use Rattle.link_engine.specs.Verdict.{IsImage, files_for};
 ghost use Rattle.link_files.specs.Names.{wanted};
 ghost use Rattle.link_steps.specs.Steps.{Meets, ReturnsAs};
-ghost use Rattle.input_files.specs.Files.{IsLow};
+ghost use Rattle.input_files.specs.Files.{HasUnwinds, IsLow};
 ghost use Rattle.mo_types.specs.Loaded.{IsWholeLoaded};
 ghost use Rattle.name_ids.specs.Names.{AreNames, numbers_of};
 
@@ -34,6 +34,7 @@ pub fn load_rounds<R: Threads + Sync, G: Gate + Sync>(
     ensures exact { ReturnsAs (λ named. named.loaded) (files_for command.now inputs.inputs libs.now) result }
     ensures whole { IfOk result (λ named. IsWholeLoaded named.loaded) }
     ensures low { IfOk result (λ named. All IsLow named.loaded.files) }
+    ensures unwinds { IfOk result (λ named. All HasUnwinds named.loaded.files) }
     ensures names { IfOk result (λ named. AreNames named.loaded.files (wanted command.now) named.numbered.names) }
     ensures numbers { IfOk result (λ named. named.numbered.numbers ≡ numbers_of named.numbered.names named.loaded.files) }
 {
@@ -53,6 +54,7 @@ pub fn image_of<R: Threads + Sync, G: Gate + Sync>(
 ) -> Result<Bytes, StepFault<Stop>>
     requires whole { IsWholeLoaded named.now.loaded }
     requires low { All IsLow named.now.loaded.files }
+    requires unwinds { All HasUnwinds named.now.loaded.files }
     requires names { AreNames named.now.loaded.files (wanted command.now) named.now.numbered.names }
     requires numbers { named.now.numbered.numbers ≡ numbers_of named.now.numbered.names named.now.loaded.files }
     ensures { Meets (IsImage command.now libs.now named.now.loaded.files) result }

@@ -20,7 +20,7 @@ use Rattle.image_make.specs.Faults.{IsFault, IsFieldFault, IsFirstFault, IsPoint
 use Rattle.image_make.specs.Made.{IsLaid, ImageInputs, kept_of, rows_of, scene_of, told_mets}
 use Rattle.image_make.proofs.AloneLemmas.{bare, bytes_bare, mets_bare, refs_bare, same_row}
 use Rattle.image_make.proofs.FieldLemmas.{Beside, HasRefs, as_met, mets_apart, refs_beside}
-use Rattle.image_make.proofs.SpreadLemmas.{of_pairs, pairs_all}
+use Rattle.image_make.proofs.PairLemmas.{of_pairs, pairs_all}
 use Rattle.mo_types.proofs.KeyOrder.{compare_keys_total}
 use Rattle.mo_types.specs.Keys.{compare_keys}
 use Rattle.mo_types.specs.declared.goal.Goal.{Goal}

@@ -1,6 +1,6 @@
 -- Loaded files are refused exactly where a cause stands.
 use Rattle.std.proofs.Common.{◌≡◌, ◌↔◌, ◌∙◌, ℕ, ℤ, pos, inl, inr, List, Option, Some, None, Err, refl, sym, ap}
-use Rattle.image_make.specs.Made.{IsMade, ImageInputs, plan_for}
+use Rattle.image_make.specs.Made.{IsMade, ImageInputs, least_info, plan_for, with_info, with_least}
 use Rattle.image_make.specs.declared.fault.MakeFault.{MakeFault}
 use Rattle.image_make.specs.declared.fault.MakeFault.TheVariants as make
 use Rattle.liveness.specs.Undefined.{undefined}
@@ -14,9 +14,9 @@ use Rattle.mo_types.specs.declared.cause.RangeKind.TheVariants.{ImageSize}
 use Rattle.mo_types.specs.declared.key.AtomKey.{AtomKey}
 use Rattle.mo_types.specs.declared.loaded.LoadedFile.{LoadedFile}
 use Rattle.resolve.specs.Goals.{goal_table}
-use Rattle.sect_place.specs.Layout.{image_size}
+use Rattle.sect_place.specs.Layout.{IsTooLarge, image_size}
 use Rattle.sect_place.specs.declared.size.PlaceFault.TheVariants as place
-use Rattle.link_files.specs.Causes.{HasNoImage, IsLost, LinkCause}
+use Rattle.link_files.specs.Causes.{HasNoImage, IsLost, IsTooLong, LinkCause}
 use Rattle.link_files.specs.Linked.{AsImage, IsLinked, making}
 use Rattle.link_files.specs.Lost.{lost_wanted, undefined_refusal}
 use Rattle.link_files.specs.Names.{wanted}
@@ -41,22 +41,27 @@ lost_stop command libs files keys why = (to, (λ c. rw (lost_from command libs f
 image_stop : (m : ImageInputs) → Stops (AsImage m) (HasNoImage m)
 image_stop m why = (to, from)
   where
+    told_long : (info : List ℕ) (value : ℤ) → IsTooLarge (image_size (plan_for (with_info m info))) (place.ImageSize value) → why ≡ refusal.Range m.command.output 0 ImageSize value → IsTooLong (with_info m info) why
+    told_long info value large told = record { long = large.0; told = told ∙ ap (λ (v : ℤ). refusal.Range m.command.output 0 ImageSize v) large.1 }
+
     by : (fault : MakeFault) → IsMade m (Err fault) → IsToldAs m.command m.files fault why → HasNoImage m why
-    by (make.Place (place.ImageSize value)) (inl large) told = inl (record { long = large.0; told = told ∙ ap (λ (v : ℤ). refusal.Range m.command.output 0 ImageSize v) large.1 })
-    by (make.Place (place.ImageSize value)) (inr overlong) told = inr (inr (inr (record { value = value; overlong = overlong; told = told })))
+    by (make.Place (place.ImageSize value)) (inl (inl large)) told = inl (inl (told_long (least_info m.unwinds) value large told))
+    by (make.Place (place.ImageSize value)) (inl (inr (info, first, large))) told = inl (inr (info, first, told_long info value large told))
+    by (make.Place (place.ImageSize value)) (inr (info, overlong)) told = inr (info, inr (inr (record { value = value; overlong = overlong; told = told })))
     by (make.Place place.OutOfMemory) is told = absurd told
-    by (make.Range None fault) is told = inr (inl (record { layout = is.0; fault = fault; unfit = is.1; told = told }))
-    by (make.Range (Some key) fault) is told = inr (inr (inl (record { layout = is.0; key = key; fault = fault; unfit = is.1; told = told })))
+    by (make.Range None fault) (info, is) told = inr (info, inl (record { layout = is.0; fault = fault; unfit = is.1; told = told }))
+    by (make.Range (Some key) fault) (info, is) told = inr (info, inr (inl (record { layout = is.0; key = key; fault = fault; unfit = is.1; told = told })))
     by make.OutOfMemory is told = absurd told
 
     to : AsImage m (Err why) → HasNoImage m why
     to made = by made.0 made.1 made.2
 
     from : HasNoImage m why → AsImage m (Err why)
-    from (inl long) = (make.Place (place.ImageSize (pos (image_size (plan_for m)))), inl (long.long, refl), long.told)
-    from (inr (inl slot)) = (make.Range None slot.fault, (slot.layout, slot.unfit), slot.told)
-    from (inr (inr (inl out))) = (make.Range (Some out.key) out.fault, (out.layout, out.unfit), out.told)
-    from (inr (inr (inr all))) = (make.Place (place.ImageSize all.value), inr all.overlong, all.told)
+    from (inl (inl long)) = (make.Place (place.ImageSize (pos (image_size (plan_for (with_least m))))), inl (inl (long.long, refl)), long.told)
+    from (inl (inr (info, first, long))) = (make.Place (place.ImageSize (pos (image_size (plan_for (with_info m info))))), inl (inr (info, first, (long.long, refl))), long.told)
+    from (inr (info, inl slot)) = (make.Range None slot.fault, (info, (slot.layout, slot.unfit)), slot.told)
+    from (inr (info, inr (inl out))) = (make.Range (Some out.key) out.fault, (info, (out.layout, out.unfit)), out.told)
+    from (inr (info, inr (inr all))) = (make.Place (place.ImageSize all.value), inr (info, all.overlong), all.told)
 
 pub link_stops : (command : Command) (libs : LibraryGraph) (files : List LoadedFile) → Stops (IsLinked command libs files) (LinkCause command libs files)
 link_stops command libs files =
@@ -66,7 +71,9 @@ link_stops command libs files =
     some_stops _ _ _ (λ symbols is.
     some_stops _ _ _ (λ keys kept.
     unless_stops _ _ _ _ (lost_stop command libs files keys) (λ found.
+    checks_stops _ _ _ _ (λ why. ((λ first. first), (λ first. first))) (λ no_dwarf.
+    checks_stops _ _ _ _ (λ why. ((λ many. many), (λ many. many))) (λ few_handlers.
     some_stops _ _ _ (λ slots are.
     checks_stops _ _ _ _ (λ why. ((λ many. many), (λ many. many))) (λ few_imports.
     checks_stops _ _ _ _ (λ why. ((λ first. first), (λ first. first))) (λ met.
-    image_stop (making command libs files symbols keys slots))))))))))
+    image_stop (making command libs files symbols keys slots))))))))))))

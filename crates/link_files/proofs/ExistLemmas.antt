@@ -40,7 +40,6 @@ use Rattle.ref_meet.specs.Binds.{binds}
 use Rattle.resolve.specs.Goals.{goal_of_name, goal_table}
 use Rattle.sect_place.specs.declared.layout.Layout.{Layout}
 use Rattle.sect_place.specs.declared.size.PlaceFault.TheVariants as place
-use Rattle.slot_needs.specs.Needs.{needs}
 use Rattle.slot_needs.specs.Unmet.{IsFirst, lesser, unmet}
 use Rattle.slot_needs.specs.declared.unmet.Unmet.{Unmet}
 use Rattle.slot_needs.proofs.UnmetLemmas.{is_first}
@@ -52,13 +51,16 @@ use Rattle.symbol_winners.specs.Duplicates.{IsDuplicate}
 use Rattle.symbol_winners.specs.SymbolTable.{IsSymbolTable, SymbolTable}
 use Rattle.symbol_winners.proofs.ExistLemmas.{duplicate_exists, table_exists}
 use Rattle.symbol_winners.proofs.NamedLemmas.{named_by}
-use Rattle.link_files.specs.Bound.{AreSlotsFor, IsImportsTold, IsUnmetTold, start_of}
+use Rattle.unwind_link.specs.Kept.{kept_unwinds}
+use Rattle.link_files.specs.Bound.{AreSlotsFor, IsImportsTold, IsUnmetTold, all_needs, start_of}
 use Rattle.link_files.specs.Linked.{AreLinkable, AsImage, IsLinked, making}
 use Rattle.link_files.specs.Lost.{undefined_refusal}
 use Rattle.link_files.specs.Names.{atoms_refusal, label_of, names_refusal, wanted}
 use Rattle.link_files.specs.Refusals.{IsDuplicateTold}
 use Rattle.link_files.specs.Resolved.{AreKept}
+use Rattle.link_files.specs.Unwinding.{AreFewPersonalities, ArePersonalitiesTold, IsEhFrameTold, handlers}
 use Rattle.link_files.proofs.KeptLemmas.{IsCut, making_low, making_rises}
+use Rattle.link_files.proofs.UnwindingLemmas.{eh_frame_exists, frames_of, personalities_exist}
 
 -- ---- names that two strong definitions have
 
@@ -138,13 +140,15 @@ told_image m (inr (inl (value, is))) = (Err (Range m.command.output 0 ImageSize 
 told_image m (inr (inr (None, fault, is))) = (Err (Range m.command.output 0 fault.kind fault.value), (make.Range None fault, is, refl))
 told_image m (inr (inr (Some key, fault, is))) = (Err (Range (label_of m.files key.file) fault.file_place fault.kind fault.value), (make.Range (Some key) fault, is, refl))
 
-image_exists : (command : Command) (libs : LibraryGraph) (files : List LoadedFile) (symbols : SymbolTable) (keys : List AtomKey) (slots : Slots) → AreLinkable files → IsSymbolTable command files symbols → IsStrictlySortedBy compare_keys keys → ¬ AreMany (binds files symbols.literals keys (goal_table files libs command) slots)
+image_exists : (command : Command) (libs : LibraryGraph) (files : List LoadedFile) (symbols : SymbolTable) (keys : List AtomKey) (slots : Slots) → AreLinkable files → IsSymbolTable command files symbols → IsStrictlySortedBy compare_keys keys
+    → AreFewPersonalities (handlers symbols.literals keys (goal_table files libs command) files) → ¬ AreMany (binds files symbols.literals keys (goal_table files libs command) slots)
     → IsSome (AsImage (making command libs files symbols keys slots))
 unfolding making
-image_exists command libs files symbols keys slots are table rises few =
+image_exists command libs files symbols keys slots are table rises few_handlers few =
     told_image (making command libs files symbols keys slots) (answered (making command libs files symbols keys slots) (whole_files files are) are.bytes
     (making_rises command libs files symbols keys slots are.ordered (are_cut files are.whole) are.low rises)
-    (making_low command libs files symbols keys slots are.low table) few)
+    (making_low command libs files symbols keys slots are.low table)
+    (frames_of command libs files symbols keys slots are.unwinds few_handlers) few)
 
 -- ---- all steps
 
@@ -158,7 +162,9 @@ link_exists command libs files are =
     let entry : Goal = goal_of_name files libs command command.entry in
     some_some (AreKept command files symbols goals) _ (kept_exist (edges_by files goals) (supports_by files goals) (roots command symbols files)) (λ keys kept.
     unless_some (undefined_refusal command libs files goals keys) _ (λ found.
-    some_some (AreSlotsFor (needs symbols.literals keys goals files (start_of command entry))) _ (slots_exist (needs symbols.literals keys goals files (start_of command entry))) (λ slots served.
+    checks_some (IsEhFrameTold files (kept_unwinds keys files)) _ (eh_frame_exists files (kept_unwinds keys files)) (λ no_dwarf.
+    checks_some (ArePersonalitiesTold (handlers symbols.literals keys goals files)) _ (personalities_exist (handlers symbols.literals keys goals files)) (λ few_handlers.
+    some_some (AreSlotsFor (all_needs symbols.literals keys goals files (start_of command entry))) _ (slots_exist (all_needs symbols.literals keys goals files (start_of command entry))) (λ slots served.
     checks_some (IsImportsTold (binds files symbols.literals keys goals slots)) _ (imports_exist (binds files symbols.literals keys goals slots)) (λ few_imports.
     checks_some (IsUnmetTold files (unmet keys goals files)) _ (unmet_exists files (unmet keys goals files)) (λ met.
-    image_exists command libs files symbols keys slots are are_symbols kept.rises few_imports)))))))))
+    image_exists command libs files symbols keys slots are are_symbols kept.rises few_handlers few_imports)))))))))))

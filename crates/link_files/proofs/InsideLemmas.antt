@@ -32,7 +32,9 @@ went_through command libs files image linked =
     let symbols = once.1 in
     let kept = symbols.follows in
     let found = unless_passed _ _ _ kept.follows in
-    let needed = found.1 in
+    let no_dwarf = checks_passed _ _ _ found.1 in
+    let few_handlers = checks_passed _ _ _ no_dwarf.1 in
+    let needed = few_handlers.1 in
     let bound = checks_passed _ _ _ needed.follows in
     let met = checks_passed _ _ _ bound.1 in
     record {
@@ -46,9 +48,12 @@ went_through command libs files image linked =
         symbols_are = symbols.is;
         kept = kept.is;
         found = none_lost command libs files goals kept.value found.0;
+        no_dwarf = no_dwarf.0;
+        few_handlers = few_handlers.0;
         slots_are = needed.is;
         few_imports = bound.0;
         met = met.0;
       };
-      made = met.1;
+      info = met.1.0;
+      made = met.1.1;
     }

@@ -18,4 +18,5 @@ pub mod OneLemmas
 mod RaceLemmas
 pub mod Refs
 pub mod UnmetLemmas
+pub mod UnwindingLemmas
 pub mod WinnerPlaces

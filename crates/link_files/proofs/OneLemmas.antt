@@ -9,7 +9,8 @@ use Rattle.image_make.specs.Made.{IsMade, ImageInputs}
 use Rattle.image_make.specs.declared.fault.MakeFault.{MakeFault}
 use Rattle.image_make.specs.declared.fault.MakeFault.TheVariants as make
 use Rattle.image_make.proofs.FieldLemmas.{HasRefs}
-use Rattle.input_files.specs.Files.{IsLow, or_none}
+use Rattle.image_make.proofs.FrameLemmas.{read_text}
+use Rattle.input_files.specs.Files.{HasUnwinds, IsLow, or_none}
 use Rattle.lib_bind.specs.declared.library.LibraryGraph.{LibraryGraph}
 use Rattle.link_steps.proofs.StepLemmas.{checks_agree, some_agree, unless_agree}
 use Rattle.link_steps.specs.Steps.{Agree}
@@ -32,7 +33,6 @@ use Rattle.mo_types.specs.declared.reference_fault.RefFault.{RefFault}
 use Rattle.ref_meet.specs.Binds.{binds}
 use Rattle.resolve.specs.Goals.{goal_of_name, goal_table}
 use Rattle.sect_place.specs.declared.size.PlaceFault.TheVariants as place
-use Rattle.slot_needs.specs.Needs.{needs}
 use Rattle.slot_needs.specs.Unmet.{unmet}
 use Rattle.slot_plan.proofs.Ordered.{one_list}
 use Rattle.slot_plan.specs.Slots.{in_got, in_stubs, in_tlv, needed}
@@ -42,17 +42,20 @@ use Rattle.symbol_winners.specs.Duplicates.{duplicate_of}
 use Rattle.symbol_winners.proofs.OneListLemmas.{is_some, neither_greater, winners_are_one}
 use Rattle.symbol_winners.specs.SymbolTable.{IsSymbolTable, SymbolTable}
 use Rattle.symbol_winners.specs.declared.winner.Winner.{Winner}
-use Rattle.link_files.specs.Bound.{AreSlotsFor, IsImportsTold, IsUnmetTold, start_of}
+use Rattle.unwind_link.specs.Kept.{kept_unwinds}
+use Rattle.link_files.specs.Bound.{AreSlotsFor, IsImportsTold, IsUnmetTold, all_needs, start_of}
 use Rattle.link_files.specs.Flags.{header_flags, is_weak_export, kind_flag, weak_flag}
 use Rattle.link_files.specs.Linked.{AreCut, AreOrdered, AreReferred, AsImage, IsLinked, making, no_islands}
 use Rattle.link_files.specs.Lost.{undefined_refusal}
 use Rattle.link_files.specs.Names.{label_of}
 use Rattle.link_files.specs.Refusals.{AreOnce, IsDuplicateTold, IsToldAs, IsTwice}
 use Rattle.link_files.specs.Resolved.{AreKept}
+use Rattle.link_files.specs.Unwinding.{ArePersonalitiesTold, IsEhFrameTold, handlers}
 use Rattle.link_files.proofs.KeptLemmas.{making_low, making_rises}
-use Rattle.link_files.proofs.MadeLemmas.{IsAnswer, IsSound, made_one}
+use Rattle.link_files.proofs.MadeLemmas.{IsAnswer, IsSoundMade, made_one}
 use Rattle.link_files.proofs.NameLemmas.{same_some}
 use Rattle.link_files.proofs.UnmetLemmas.{unmet_same}
+use Rattle.link_files.proofs.UnwindingLemmas.{eh_frame_same, personalities_same}
 
 -- ---- names that two strong definitions have
 
@@ -163,19 +166,23 @@ refs_in file is = by (refs_of file.object file.id) refl
     by (Ok refs) e = inl (e ∙ ap Ok (sym (is ∙ ap or_none e)))
     by (Err fault) e = inr (is ∙ ap or_none e)
 
--- files as they are loaded: their ids rise, and each has the pieces and the references of its object
+-- files as they are loaded: their ids rise, and each has the pieces, the references and the unwind entries of its object
 record AreLoaded (files : List LoadedFile) : Type 0 where
   ordered : AreOrdered files
   cut : AreCut files
   referred : AreReferred files
   low : All IsLow files
+  unwinds : All HasUnwinds files
 
-sound_of : (command : Command) (libs : LibraryGraph) (files : List LoadedFile) (symbols : SymbolTable) (keys : List AtomKey) (slots : Slots) → AreLoaded files → IsSymbolTable command files symbols → IsStrictlySortedBy compare_keys keys → IsSound (making command libs files symbols keys slots)
+sound_of : (command : Command) (libs : LibraryGraph) (files : List LoadedFile) (symbols : SymbolTable) (keys : List AtomKey) (slots : Slots) → AreLoaded files → IsSymbolTable command files symbols → IsStrictlySortedBy compare_keys keys → IsSoundMade (making command libs files symbols keys slots)
 unfolding making
 sound_of command libs files symbols keys slots are table rises = record {
-  rising = making_rises command libs files symbols keys slots are.ordered are.cut are.low rises;
-  low = making_low command libs files symbols keys slots are.low table;
-  refs = λ k d low. refs_in (get_or files k d) (are.referred k d low);
+  sound = record {
+    rising = making_rises command libs files symbols keys slots are.ordered are.cut are.low rises;
+    low = making_low command libs files symbols keys slots are.low table;
+    refs = λ k d low. refs_in (get_or files k d) (are.referred k d low);
+  };
+  text = read_text (making command libs files symbols keys slots) (record { rises = are.ordered; cut = are.cut; few = λ k d low. (are.low k d low).sections; unwinds = are.unwinds }) refl;
 }
 
 answer_of : (command : Command) (files : List LoadedFile) (fault : MakeFault) (why : Refusal) → IsToldAs command files fault why → IsAnswer (Err fault)
@@ -191,7 +198,7 @@ told_same command files (make.Range None fault) a b p q = p ∙ sym q
 told_same command files (make.Range (Some key) fault) a b p q = p ∙ sym q
 told_same command files make.OutOfMemory a b p q = absurd p
 
-image_same : (m : ImageInputs) → IsSound m → Agree (AsImage m) (AsImage m)
+image_same : (m : ImageInputs) → IsSoundMade m → Agree (AsImage m) (AsImage m)
 image_same m sound a b p q = by a b p q
   where
     no_fault : (image : List ℕ) (fault : MakeFault) (why : Refusal) → IsMade m (Ok image) → IsMade m (Err fault) → IsToldAs m.command m.files fault why → ⊥
@@ -228,6 +235,8 @@ parts command libs files literals winners keys flags slots = record {
   entry = goal_of_name files libs command command.entry;
   slots = slots;
   islands = no_islands;
+  unwinds = kept_unwinds keys files;
+  info = [];
 }
 
 inputs_same : (command : Command) (libs : LibraryGraph) (files : List LoadedFile) (symbols other : SymbolTable) (keys others : List AtomKey) (slots more : Slots) → IsSymbolTable command files symbols → IsSymbolTable command files other → keys ≡ others → slots ≡ more
@@ -250,17 +259,21 @@ one_link command libs files loaded =
     let entry : Goal = goal_of_name files libs command command.entry in
     some_agree _ _ _ _ (λ keys others kept again.
     let same : keys ≡ others = keys_same command files goals symbols other keys others is also kept again in
-    let needed_same : needs symbols.literals keys goals files (start_of command entry) ≡ needs other.literals others goals files (start_of command entry) =
-    ap₂ (λ (literals : List Representative) (ks : List AtomKey). needs literals ks goals files (start_of command entry)) (is.literals ∙ sym also.literals) same in
+    let literal : symbols.literals ≡ other.literals = is.literals ∙ sym also.literals in
+    let handled : handlers symbols.literals keys goals files ≡ handlers other.literals others goals files = ap₂ (λ (literals : List Representative) (ks : List AtomKey). handlers literals ks goals files) literal same in
+    let needed_same : all_needs symbols.literals keys goals files (start_of command entry) ≡ all_needs other.literals others goals files (start_of command entry) =
+    ap₂ (λ (literals : List Representative) (ks : List AtomKey). all_needs literals ks goals files (start_of command entry)) literal same in
     unless_agree _ _ _ _ (ap (undefined_refusal command libs files goals) same) (λ found.
+    checks_agree _ _ _ _ (λ a b x y. eh_frame_same files (kept_unwinds others files) a b (subst (λ (ks : List AtomKey). IsEhFrameTold files (kept_unwinds ks files) a) same x) y) (λ no_dwarf.
+    checks_agree _ _ _ _ (λ a b x y. personalities_same (handlers other.literals others goals files) a b (subst (λ (gs : List Goal). ArePersonalitiesTold gs a) handled x) y) (λ few_handlers.
     some_agree _ _ _ _ (λ slots more served serves.
-    let slot : slots ≡ more = slots_same (needs other.literals others goals files (start_of command entry)) slots more (subst (λ (ns : List Need). AreSlotsFor ns slots) needed_same served) serves in
+    let slot : slots ≡ more = slots_same (all_needs other.literals others goals files (start_of command entry)) slots more (subst (λ (ns : List Need). AreSlotsFor ns slots) needed_same served) serves in
     let bound : binds files symbols.literals keys goals slots ≡ binds files other.literals others goals more =
-    ap₂ (λ (literals : List Representative) (ks : List AtomKey). binds files literals ks goals slots) (is.literals ∙ sym also.literals) same ∙ ap (binds files other.literals others goals) slot in
+    ap₂ (λ (literals : List Representative) (ks : List AtomKey). binds files literals ks goals slots) literal same ∙ ap (binds files other.literals others goals) slot in
     checks_agree _ _ _ _ (λ a b x y. imports_same (binds files other.literals others goals more) a b (subst (λ (fs : List Fixup). IsImportsTold fs a) bound x) y) (λ few_imports.
     checks_agree _ _ _ _ (λ a b x y. unmet_same others goals files a b loaded.ordered loaded.referred (subst (λ (ks : List AtomKey). IsUnmetTold files (unmet ks goals files) a) same x) y) (λ met a b x y.
     image_same (making command libs files other others more) (sound_of command libs files other others more loaded also again.rises) a b
-    (subst (λ (m : ImageInputs). AsImage m a) (inputs_same command libs files symbols other keys others slots more is also same slot) x) y)))))))))
+    (subst (λ (m : ImageInputs). AsImage m a) (inputs_same command libs files symbols other keys others slots more is also same slot) x) y)))))))))))
 
-pub link_one : (command : Command) (libs : LibraryGraph) (files : List LoadedFile) → AreOrdered files → AreCut files → AreReferred files → All IsLow files → Agree (IsLinked command libs files) (IsLinked command libs files)
-link_one command libs files ordered cut referred low = one_link command libs files (record { ordered = ordered; cut = cut; referred = referred; low = low })
+pub link_one : (command : Command) (libs : LibraryGraph) (files : List LoadedFile) → AreOrdered files → AreCut files → AreReferred files → All IsLow files → All HasUnwinds files → Agree (IsLinked command libs files) (IsLinked command libs files)
+link_one command libs files ordered cut referred low unwinds = one_link command libs files (record { ordered = ordered; cut = cut; referred = referred; low = low; unwinds = unwinds })

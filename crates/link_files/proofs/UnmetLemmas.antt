@@ -11,7 +11,7 @@ use Rattle.std.proofs.lemmas.List.Elements.{All-contains}
 use Rattle.list_lemmas.proofs.Members.{Contains_from_in, In, from_filter, from_flat, from_map, in_from_Contains}
 use Rattle.list_lemmas.proofs.Ties.{same_number, tied_first, tied_second}
 use Rattle.atom_index.proofs.Keys.{same_key}
-use Rattle.image_make.proofs.SpreadLemmas.{of_pairs, pairs_all}
+use Rattle.image_make.proofs.PairLemmas.{of_pairs, pairs_all}
 use Rattle.input_files.specs.Files.{or_none}
 use Rattle.mo_types.proofs.KeyOrder.{compare_files_total, compare_keys_total}
 use Rattle.mo_types.specs.Keys.{compare_files, compare_keys}

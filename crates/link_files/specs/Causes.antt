@@ -3,7 +3,7 @@ use Rattle.std.specs.Prelude.{ℕ, ◌≡◌, ◌<◌, ◌≤◌, ◌^◌, ◌�
 use Rattle.std.specs.Cmp.Lexicographic.{slice_cmp}
 use Rattle.std.specs.Ordering.{is_lt, nat_cmp}
 use Rattle.fixup_chain.specs.Chained.{AreMany}
-use Rattle.image_make.specs.Made.{IsMade, IsOverlong, IsUnfit, ImageInputs, plan_for}
+use Rattle.image_make.specs.Made.{IsFirstInfo, IsMadeWith, IsOverlong, IsUnfit, ImageInputs, plan_for, with_info, with_least}
 use Rattle.liveness.specs.Undefined.{undefined}
 use Rattle.lib_bind.specs.declared.library.LibraryGraph.{LibraryGraph}
 use Rattle.link_steps.specs.Steps.{Cause, ◌>>=◌, ◌>>◌, always, passes, refuses, taken}
@@ -21,16 +21,18 @@ use Rattle.symbol_winners.specs.SymbolTable.{IsSymbolTable, SymbolTable}
 use Rattle.sect_place.specs.Layout.{image_size}
 use Rattle.sect_place.specs.declared.layout.Layout.{Layout}
 use Rattle.sect_place.specs.declared.size.PlaceFault.TheVariants.{ImageSize}
-use Rattle.slot_needs.specs.Needs.{needs}
 use Rattle.slot_needs.specs.Unmet.{unmet}
 use Rattle.slot_plan.specs.declared.list.Slots.{Slots}
-use Rattle.link_files.specs.Bound.{AreSlotsFor, HaveManyImports, NeedsAnImage, start_of}
+use Rattle.unwind_link.specs.Dwarf.{dwarfs}
+use Rattle.unwind_link.specs.Kept.{kept_unwinds}
+use Rattle.link_files.specs.Bound.{AreSlotsFor, HaveManyImports, NeedsAnImage, all_needs, start_of}
 use Rattle.link_files.specs.Linked.{making}
 use Rattle.link_files.specs.Lost.{lost_wanted}
 use Rattle.link_files.specs.Missing.{HoldsOfNone, IsFirstFile, IsWantedInVain, Misses}
 use Rattle.link_files.specs.Names.{all_names, atoms_in, label_of, wanted}
 use Rattle.link_files.specs.Refusals.{AreOnce, IsTwice}
 use Rattle.link_files.specs.Resolved.{AreKept}
+use Rattle.link_files.specs.Unwinding.{AreFewPersonalities, AreManyPersonalities, LeavesToEhFrame, handlers}
 
 -- there are 2^24 names or more
 abbrev pub HaveManyNames : List LoadedFile → List (List ℕ) → Cause Refusal
@@ -59,7 +61,7 @@ pub record IsLost (command : Command) (libs : LibraryGraph) (files : List Loaded
   pub least : (other : List ℕ) → IsMissed command libs files keys other → is_lt (slice_cmp nat_cmp other name) ≡ false
   pub told : why ≡ Undefined name file
 
--- the layout has 2^32 bytes or more before `__LINKEDIT`
+-- the layout has 2^32 bytes or more before `__LINKEDIT`, with these bytes of `__unwind_info`
 pub record IsTooLong (m : ImageInputs) (why : Refusal) : Type 0 where
   pub long : 2 ^ 32 ≤ image_size (plan_for m)
   pub told : why ≡ Range m.command.output 0 size.ImageSize (pos (image_size (plan_for m)))
@@ -86,9 +88,17 @@ pub record IsOverlongImage (m : ImageInputs) (why : Refusal) : Type 0 where
   pub overlong : IsOverlong m (ImageSize value)
   pub told : why ≡ Range m.command.output 0 size.ImageSize value
 
+-- the layout is too long with a byte of `__unwind_info` alone, where it has some, or else with all
+abbrev pub IsNotPlaced : ImageInputs → Cause Refusal
+IsNotPlaced m why = IsTooLong (with_least m) why ⊎ ((info : List ℕ) × IsFirstInfo m info × IsTooLong (with_info m info) why)
+
+-- with these bytes of `__unwind_info` a value is out of range, or the image is too long
+abbrev pub IsNotWritten : ImageInputs → Cause Refusal
+IsNotWritten m why = IsSlotOutOfRange m why ⊎ (IsOutOfRange m why ⊎ IsOverlongImage m why)
+
 -- the image is too long, or a value is out of range
 abbrev pub HasNoImage : ImageInputs → Cause Refusal
-HasNoImage m why = IsTooLong m why ⊎ (IsSlotOutOfRange m why ⊎ (IsOutOfRange m why ⊎ IsOverlongImage m why))
+HasNoImage m why = IsNotPlaced m why ⊎ ((info : List ℕ) × IsNotWritten (with_info m info) why)
 
 -- the cause of each refusal, where none before it stands
 abbrev pub LinkCause : Command → LibraryGraph → List LoadedFile → Cause Refusal
@@ -101,7 +111,9 @@ LinkCause command libs files = do
   entry ← always (goal_of_name files libs command command.entry)
   keys ← taken (AreKept command files symbols goals)
   refuses (IsLost command libs files keys)
-  slots ← taken (AreSlotsFor (needs symbols.literals keys goals files (start_of command entry)))
+  passes (LeavesToEhFrame files (kept_unwinds keys files)) (dwarfs (kept_unwinds keys files) ≡ [])
+  passes (AreManyPersonalities (handlers symbols.literals keys goals files)) (AreFewPersonalities (handlers symbols.literals keys goals files))
+  slots ← taken (AreSlotsFor (all_needs symbols.literals keys goals files (start_of command entry)))
   passes (HaveManyImports (binds files symbols.literals keys goals slots)) (¬ AreMany (binds files symbols.literals keys goals slots))
   passes (NeedsAnImage files (unmet keys goals files)) (unmet keys goals files ≡ [])
   HasNoImage (making command libs files symbols keys slots)
@@ -109,8 +121,8 @@ LinkCause command libs files = do
 -- ---- where nothing is refused
 
 -- The files have fewer than 2^24 names and atoms, and no name has two strong definitions. These are the winners of the names,
--- the atoms that are kept, and the slots that they need. Every name leads somewhere, there are fewer than 2^24 imports, and
--- each reference can be met.
+-- the atoms that are kept, and the slots that they need. Every name leads somewhere, no entry leaves unwinding to `__eh_frame`,
+-- an encoding can tell the personalities apart, there are fewer than 2^24 imports, and each reference can be met.
 pub record AreInside (command : Command) (libs : LibraryGraph) (files : List LoadedFile) (symbols : SymbolTable) (keys : List AtomKey)
     (slots : Slots) : Type 0 where
   pub few_names : length (all_names files (wanted command)) < 2 ^ 24
@@ -119,15 +131,18 @@ pub record AreInside (command : Command) (libs : LibraryGraph) (files : List Loa
   pub symbols_are : IsSymbolTable command files symbols
   pub kept : AreKept command files symbols (goal_table files libs command) keys
   pub found : undefined keys files (goal_table files libs command) (lost_wanted command libs files) ≡ None
-  pub slots_are : AreSlotsFor (needs symbols.literals keys (goal_table files libs command) files
+  pub no_dwarf : dwarfs (kept_unwinds keys files) ≡ []
+  pub few_handlers : AreFewPersonalities (handlers symbols.literals keys (goal_table files libs command) files)
+  pub slots_are : AreSlotsFor (all_needs symbols.literals keys (goal_table files libs command) files
       (start_of command (goal_of_name files libs command command.entry))) slots
   pub few_imports : ¬ AreMany (binds files symbols.literals keys (goal_table files libs command) slots)
   pub met : unmet keys (goal_table files libs command) files ≡ []
 
--- an image is made of these
+-- an image is made of these, with these bytes of `__unwind_info`
 pub record WentThrough (command : Command) (libs : LibraryGraph) (files : List LoadedFile) (image : List ℕ) : Type 0 where
   pub symbols : SymbolTable
   pub keys : List AtomKey
   pub slots : Slots
   pub inside : AreInside command libs files symbols keys slots
-  pub made : IsMade (making command libs files symbols keys slots) (Ok image)
+  pub info : List ℕ
+  pub made : IsMadeWith (with_info (making command libs files symbols keys slots) info) (Ok image)

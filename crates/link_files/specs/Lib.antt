@@ -6,4 +6,5 @@ pub mod Lost
 pub mod Missing
 pub mod Refusals
 pub mod Resolved
+pub mod Unwinding
 pub mod Linked

@@ -5,22 +5,24 @@ ghost use Rattle.link_steps.specs.Steps.{Meets};
 ghost use Rattle.mo_types.specs.Keys.{compare_keys};
 ghost use Rattle.mo_types.specs.Loaded.{IsWholeLoaded};
 ghost use Rattle.fixup_chain.specs.Chained.{AreMany};
-ghost use Rattle.input_files.specs.Files.{IsLow};
+ghost use Rattle.input_files.specs.Files.{HasUnwinds, IsLow};
 ghost use Rattle.ref_meet.specs.Binds.{binds};
 ghost use Rattle.link_files.specs.Linked.{AsImage, making, no_islands};
 ghost use Rattle.link_files.specs.Refusals.{IsToldAs};
 ghost use Rattle.link_files.specs.Resolved.{IsResolved, files_of, table_of};
+ghost use Rattle.link_files.specs.Unwinding.{AreFewPersonalities};
+ghost use Rattle.unwind_link.specs.Kept.{kept_unwinds};
+ghost use Rattle.unwind_link.specs.Personalities.{personality_goals};
 
 use crate::flags::header_flags;
 use crate::labels::label_of;
-use crate::resolved::Resolved;
+use crate::resolved::{Kept, Resolved};
 use command_line::Command;
 use image_make::{ImageInputs, MakeFault, make_image};
 use link_steps::StepFault;
 use mo_outside::Gate;
-use mo_types::{Bytes, KeyList, Loaded, OutOfMemory, RangeKind, Refusal};
+use mo_types::{Bytes, Loaded, OutOfMemory, RangeKind, Refusal};
 use sect_place::{AreaList, IslandPlan, PlaceFault, WayList};
-use slot_plan::Slots;
 use std::alloc::Global;
 use std::thread::Threads;
 
@@ -71,15 +73,17 @@ pub(crate) fn image_of<R: Threads + Sync, G: Gate + Sync>(
     gate: &G,
     threads: u32,
     resolved: &Resolved,
-    keys: &KeyList,
-    slots: &Slots,
+    kept: &Kept,
 ) -> Result<Bytes, StepFault<Refusal>>
     requires whole { IsWholeLoaded resolved.now.loaded.now }
     requires low { All IsLow (files_of resolved.now) }
+    requires read { All HasUnwinds (files_of resolved.now) }
     requires resolved { IsResolved resolved.now }
-    requires keys { IsStrictlySortedBy compare_keys keys.now }
-    requires few { ¬ AreMany (binds (files_of resolved.now) resolved.now.symbols.now.literals keys.now (table_of resolved.now) slots.now) }
-    ensures { Meets (AsImage (making resolved.now.command.now resolved.now.libs.now (files_of resolved.now) resolved.now.symbols.now keys.now slots.now)) result }
+    requires keys { IsStrictlySortedBy compare_keys kept.now.keys.now }
+    requires unwinds { kept.now.unwinds.now ≡ kept_unwinds kept.now.keys.now (files_of resolved.now) }
+    requires handlers { AreFewPersonalities (personality_goals resolved.now.symbols.now.literals (table_of resolved.now) kept.now.unwinds.now) }
+    requires few { ¬ AreMany (binds (files_of resolved.now) resolved.now.symbols.now.literals kept.now.keys.now (table_of resolved.now) kept.now.slots.now) }
+    ensures { Meets (AsImage (making resolved.now.command.now resolved.now.libs.now (files_of resolved.now) resolved.now.symbols.now kept.now.keys.now kept.now.slots.now)) result }
 {
     let Resolved {
         command,
@@ -89,6 +93,11 @@ pub(crate) fn image_of<R: Threads + Sync, G: Gate + Sync>(
         goals,
         entry,
     } = *resolved;
+    let Kept {
+        keys,
+        unwinds,
+        slots,
+    } = *kept;
     let islands = no_islands(alloc);
     let scheme = ImageInputs {
         command,
@@ -101,6 +110,7 @@ pub(crate) fn image_of<R: Threads + Sync, G: Gate + Sync>(
         entry,
         slots,
         islands: &islands,
+        unwinds,
     };
     match make_image(rt, alloc, gate, threads, &scheme) {
         Ok(image) => Ok(image),

@@ -4,7 +4,7 @@ ghost use Rattle.link_steps.specs.Steps.{Meets};
 ghost use Rattle.mo_types.specs.Loaded.{IsWholeLoaded};
 ghost use Rattle.name_ids.specs.Names.{AreNames, numbers_of};
 ghost use Rattle.symbol_winners.specs.SymbolTable.{IsSymbolTable};
-ghost use Rattle.input_files.specs.Files.{IsLow};
+ghost use Rattle.input_files.specs.Files.{HasUnwinds, IsLow};
 ghost use Rattle.link_files.specs.Linked.{AsWon, IsLinked};
 ghost use Rattle.link_files.specs.Names.{wanted};
 
@@ -15,7 +15,8 @@ use crate::keeping::kept_keys;
 use crate::lost::all_defined;
 use crate::names::few_atoms;
 use crate::racing::raced_words;
-use crate::resolved::{Inputs, Resolved};
+use crate::resolved::{Inputs, Kept, Resolved};
+use crate::unwinding::{few_personalities, none_by_dwarf};
 use command_line::Command;
 use lib_bind::Libraries;
 use link_steps::StepFault;
@@ -26,11 +27,13 @@ use resolve::{goal_of_name, goal_table};
 use std::alloc::Global;
 use std::thread::Threads;
 use symbol_winners::{SymbolTable, winners};
+use unwind_link::kept_unwinds;
 
 /// The image of loaded files, whose names and those that the command line wants are numbered in any order, written by so many
 /// workers; or the first refusal of these: 2^24 atoms; a name with two strong definitions; one that is referred to or wanted
-/// and leads nowhere; 2^24 imports; a reference that tells an address which another image has; an image of 2^32 bytes; a value
-/// that is out of range. The answer is the same for every number of workers.
+/// and leads nowhere; a frame that only DWARF describes; four personalities; 2^24 imports; a reference that tells an address
+/// which another image has; an image of 2^32 bytes; a value that is out of range. The answer is the same for every number of
+/// workers.
 #[tactic(auto, unfolding(link_steps::specs::Steps::unless))]
 pub fn link_files<R: Threads + Sync, G: Gate + Sync>(
     rt: &R,
@@ -43,6 +46,7 @@ pub fn link_files<R: Threads + Sync, G: Gate + Sync>(
 ) -> Result<Bytes, StepFault<Refusal>>
     requires whole { IsWholeLoaded named.now.loaded }
     requires low { All IsLow named.now.loaded.files }
+    requires unwinds { All HasUnwinds named.now.loaded.files }
     requires names { AreNames named.now.loaded.files (wanted command.now) named.now.numbered.names }
     requires numbers { named.now.numbered.numbers ≡ numbers_of named.now.numbered.names named.now.loaded.files }
     ensures { Meets (IsLinked command.now libs.now named.now.loaded.files) result }
@@ -73,6 +77,7 @@ fn link_winners<R: Threads + Sync, G: Gate + Sync>(
 ) -> Result<Bytes, StepFault<Refusal>>
     requires whole { IsWholeLoaded inputs.now.named.now.loaded }
     requires low { All IsLow inputs.now.named.now.loaded.files }
+    requires unwinds { All HasUnwinds inputs.now.named.now.loaded.files }
     requires symbols { IsSymbolTable inputs.now.command.now inputs.now.named.now.loaded.files symbols.now }
     requires numbers { inputs.now.named.now.numbered.numbers ≡ numbers_of symbols.now.names inputs.now.named.now.loaded.files }
     ensures { Meets (AsWon inputs.now.command.now inputs.now.libs.now inputs.now.named.now.loaded.files symbols.now) result }
@@ -98,9 +103,17 @@ fn link_winners<R: Threads + Sync, G: Gate + Sync>(
     };
     let keys = kept_keys(rt, alloc, gate, threads, &resolved, numbers)?;
     all_defined(alloc, &resolved, &keys)?;
+    let unwinds = kept_unwinds(alloc, loaded, &keys)?;
+    none_by_dwarf(loaded.files.as_slice(), &unwinds)?;
+    let personalities = few_personalities(alloc, &resolved, &unwinds)?;
     let referring = resolved.referring(&keys);
-    let slots = needed_slots(alloc, &referring)?;
+    let slots = needed_slots(alloc, &referring, &personalities)?;
     few_imports(alloc, &referring, &slots)?;
     all_met(&referring)?;
-    image_of(rt, alloc, gate, threads, &resolved, &keys, &slots)
+    let kept = Kept {
+        keys: &keys,
+        unwinds: &unwinds,
+        slots: &slots,
+    };
+    image_of(rt, alloc, gate, threads, &resolved, &kept)
 }

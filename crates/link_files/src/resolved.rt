@@ -1,4 +1,4 @@
-//! Files whose names have winners.
+//! Files whose names have winners, and what is kept of them.
 ghost use Rattle.std.specs.Prelude.{◌≡◌};
 ghost use Rattle.std.specs.Option.{option_copied};
 ghost use Rattle.link_files.specs.Bound.{start_of};
@@ -9,7 +9,9 @@ use mo_types::{Goal, KeyList, Loaded};
 use name_ids::NamedFiles;
 use resolve::GoalTable;
 use slot_needs::Referring;
+use slot_plan::Slots;
 use symbol_winners::SymbolTable;
+use unwind_link::KeptUnwinds;
 
 /// Loaded files with the numbers of their names, with how many workers link them, by which command, and with which libraries.
 #[derive(Clone, Copy)]
@@ -31,6 +33,14 @@ pub(crate) struct Resolved<'a> {
     pub goals: &'a GoalTable,
     /// Where the program begins.
     pub entry: &'a Goal,
+}
+
+/// What an image has of resolved files: the atoms that are kept, with their unwind entries and the slots that these need.
+#[derive(Clone, Copy)]
+pub(crate) struct Kept<'a> {
+    pub keys: &'a KeyList,
+    pub unwinds: &'a KeptUnwinds,
+    pub slots: &'a Slots,
 }
 
 impl<'a> Resolved<'a> {

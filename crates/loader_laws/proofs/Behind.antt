@@ -19,7 +19,7 @@ use Rattle.slot_place.specs.Places.{own_section}
 use Rattle.slot_plan.specs.declared.need.Way.{Way}
 use Rattle.image_make.specs.Atoms.{atom_of, kept_at}
 use Rattle.image_make.specs.Made.{IsLaid, ImageInputs, front_of, kept_of, plan_for, rows_of}
-use Rattle.image_make.specs.Parts.{linkedit_offset}
+use Rattle.image_make.specs.Parts.{info_section, linkedit_offset}
 use Rattle.image_make.specs.declared.kept.KeptAtom.{KeptAtom}
 use Rattle.image_make.proofs.RoomLemmas.{counts}
 use Rattle.image_make.proofs.WorkLemmas.{few_bytes}
@@ -27,6 +27,7 @@ use Rattle.image_read.specs.Mapped.{mapped}
 use Rattle.image_laws.specs.Means.{AreRising, Imaged}
 use Rattle.image_laws.proofs.Begun.{beside_atoms, image_long}
 use Rattle.image_laws.proofs.Blank.{zero_byte}
+use Rattle.image_laws.proofs.InfoPlace.{info_bare}
 use Rattle.image_laws.proofs.Layouts.{HasPlace, all_places, is_plan, own_bare, place_before, row_at_place, same_section, stored_place}
 use Rattle.image_laws.proofs.Mapping.{section_stored}
 use Rattle.image_laws.proofs.Planned.{in_turn}
@@ -155,6 +156,12 @@ zero_behind m image of row k rising h past low =
         let none : section.section.atoms ≡ [] = ap (λ (s : PlacedSection). s.section.atoms) same ∙ own_bare m of.layout way other laid e in
         subst (λ (keys : List AtomKey). In of_section.key keys) none of_section.listed
 
+    bare_info : (other : PlacedSection) → info_section of.layout.sections ≡ Some other → HasPlace m of.layout other (row.at + k) → ⊥
+    bare_info other e there =
+        let same : section ≡ other = same_section m of.layout section other (row.at + k) laid here there in
+        let none : section.section.atoms ≡ [] = ap (λ (s : PlacedSection). s.section.atoms) same ∙ info_bare m of.layout other laid e in
+        subst (λ (keys : List AtomKey). In of_section.key keys) none of_section.listed
+
     past_front : length (front_of m of.layout of.fixups of.chains) ≤ row.at + k
     past_front =
         let room = (counts m of.layout of.fixups of.chains laid).room in
@@ -164,4 +171,4 @@ zero_behind m image of row k rising h past low =
     zero : get_or image (row.at + k) 0 ≡ 0
     zero =
         beside_atoms m image of (row.at + k) (clear_behind m image of row k rising h past low)
-        ∙ zero_byte m of.layout of.chains (front_of m of.layout of.fixups of.chains) (row.at + k) laid past_front before bare
+        ∙ zero_byte m of.layout of.chains (front_of m of.layout of.fixups of.chains) (row.at + k) laid past_front before bare bare_info

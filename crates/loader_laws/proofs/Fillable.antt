@@ -14,6 +14,8 @@ use Rattle.mo_types.specs.declared.loaded.LoadedFile.{LoadedFile}
 use Rattle.mo_types.specs.declared.reference.Ref.{Ref}
 use Rattle.mo_types.specs.declared.reference.RefKind.{RefKind}
 use Rattle.mo_types.specs.declared.reference.RefKind.TheVariants.{Pointer, Diff32, Diff64, Branch, Page, PageOff, GotPage, GotPageOff, GotDelta, GotPointer, TlvPage, TlvPageOff}
+use Rattle.mo_types.specs.declared.reference.Target.{Target}
+use Rattle.mo_types.specs.declared.unwind.Unwind.{Unwind}
 use Rattle.patch.specs.declared.range.PlacedWork.{PlacedWork}
 use Rattle.ref_meet.specs.Addresses.{address_by}
 use Rattle.ref_meet.specs.Pointers.{fixup_of, fixup_to, pointee, pointee_by, slot_fixup, slot_fixups}
@@ -38,7 +40,8 @@ use Rattle.image_laws.proofs.Units.{unit_found}
 use Rattle.link_files.proofs.Lists.{from_mapped, in_slice, no_some, some_is}
 use Rattle.loader_laws.proofs.Addends.{distance_fits, fits_none, ref_fits}
 use Rattle.loader_laws.proofs.Called.{IsCalled, entry_called, no_name, target_called}
-use Rattle.loader_laws.proofs.Needed.{IsNeededBy, by_entry, by_reference, needed_by, unit_need}
+use Rattle.loader_laws.proofs.Handlers.{IsHandler, handler_reached, handler_target}
+use Rattle.loader_laws.proofs.Needed.{IsNeededBy, by_entry, by_handler, by_reference, needed_by, unit_need}
 use Rattle.loader_laws.proofs.Placing.{IsLinking}
 use Rattle.loader_laws.proofs.RowRefs.{IsRowRef, first_target, kept_read, row_ref, whole_at}
 use Rattle.loader_laws.proofs.Targets.{IsKeptRef, IsReached, leads, scene_leads, target_reached}
@@ -74,8 +77,15 @@ good_target m layout at file r linking rising laid is =
       holdable = holds m layout (leads m file r.target) (target_reached m layout at file r r.target linking rising laid is (first_target r) read.target);
     }
 
+good_handler : (m : ImageInputs) (layout : Layout) (at : ℕ) (file : LoadedFile) (unwind : Unwind) (target : Target) → IsLinking m → AreRising m → IsLaid m layout → IsHandler m at file unwind target → IsGood m layout (leads m file target)
+good_handler m layout at file unwind target linking rising laid is = record {
+  called = target_called m file target linking (in_slice m.files at file is.there) (handler_target m at file unwind target linking is);
+  holdable = holds m layout (leads m file target) (handler_reached m layout at file unwind target linking rising laid is);
+}
+
 good_needed : (m : ImageInputs) (layout : Layout) (goal : Goal) → IsLinking m → AreRising m → IsLaid m layout → IsNeededBy m goal → IsGood m layout goal
 good_needed m layout goal linking rising laid (by_reference at file r is same) = subst (IsGood m layout) same (good_target m layout at file r linking rising laid is)
+good_needed m layout goal linking rising laid (by_handler handled) = subst (IsGood m layout) handled.leads_to (good_handler m layout handled.at handled.file handled.unwind handled.target linking rising laid handled.is)
 good_needed m layout goal linking rising laid (by_entry outer same) = subst (IsGood m layout) same (record { called = entry_called m linking; holdable = outer_holds m layout m.entry outer })
 
 -- what has a slot

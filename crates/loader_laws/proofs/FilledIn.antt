@@ -27,7 +27,7 @@ use Rattle.patch.specs.declared.range.PlacedWork.{PlacedWork}
 use Rattle.ref_meet.specs.Pointers.{row_fixups, slot_fixups}
 use Rattle.resolve.specs.Goals.{goal_of_name, goal_table}
 use Rattle.sect_place.specs.Addresses.{address_in}
-use Rattle.slot_needs.specs.Needs.{is_outer, needs}
+use Rattle.slot_needs.specs.Needs.{is_outer}
 use Rattle.slot_place.specs.Places.{goals_for, start_of, starts_of}
 use Rattle.slot_plan.specs.declared.need.Need.{Need}
 use Rattle.slot_plan.specs.declared.need.Way.{Way}
@@ -57,11 +57,11 @@ not_broken image addresses fixup Nobody addend held e = held
 -- ---- slots
 
 -- the needs by the files alone
-needs_same : (m : ImageInputs) → IsLinking m → all_needs m ≡ needs (representatives_of m.files) m.keys (goal_table m.files m.libs m.command) m.files (bounds.start_of m.command (goal_of_name m.files m.libs m.command m.command.entry))
+needs_same : (m : ImageInputs) → IsLinking m → all_needs m ≡ bounds.all_needs (representatives_of m.files) m.keys (goal_table m.files m.libs m.command) m.files (bounds.start_of m.command (goal_of_name m.files m.libs m.command m.command.entry))
 needs_same m linking =
-    ap (λ (literals : List Representative). needs literals m.keys m.goals m.files (bounds.start_of m.command m.entry)) linking.literals
-    ∙ ap (λ (goals : List (List Goal)). needs (representatives_of m.files) m.keys goals m.files (bounds.start_of m.command m.entry)) linking.goals
-    ∙ ap (λ (entry : Goal). needs (representatives_of m.files) m.keys (goal_table m.files m.libs m.command) m.files (bounds.start_of m.command entry)) linking.entry
+    ap (λ (literals : List Representative). bounds.all_needs literals m.keys m.goals m.files (bounds.start_of m.command m.entry)) linking.literals
+    ∙ ap (λ (goals : List (List Goal)). bounds.all_needs (representatives_of m.files) m.keys goals m.files (bounds.start_of m.command m.entry)) linking.goals
+    ∙ ap (λ (entry : Goal). bounds.all_needs (representatives_of m.files) m.keys (goal_table m.files m.libs m.command) m.files (bounds.start_of m.command entry)) linking.entry
 
 is_slot : (m : ImageInputs) (image : List ℕ) (of : Imaged m image) (way : Way) (fixup : Fixup) → IsLinking m → Held image (addresses_of of.layout.placed) (fixup_at image fixup.address) fixup.goal fixup.addend → In fixup (slot_fixups (start_of (starts_of of.layout.sections) way) (goals_for m.slots way)) → IsSlotOf m.command m.libs m.files m.keys image (addresses_of of.layout.placed) fixup.address
 is_slot m image of way fixup linking held h =
@@ -144,7 +144,7 @@ is_filled_in m image of linking rising address = by (find test of.fixups) refl
 -- ---- of files
 
 pub linking : (command : Command) (libs : LibraryGraph) (files : List LoadedFile) (image : List ℕ) (is : IsImageOf command libs files image) → AreOrdered files → AreWhole files → AreNamed command libs files → IsLinking (made_of is)
-linking command libs files image is ordered whole named = linking_of command libs files is.symbols is.keys is.slots ordered whole named is.inside
+linking command libs files image is ordered whole named = linking_of command libs files is.symbols is.keys is.slots is.info ordered whole named is.inside
 
 pub all_filled : (command : Command) (libs : LibraryGraph) (files : List LoadedFile) (image : List ℕ) (is : IsImageOf command libs files image) → AreOrdered files → AreWhole files → AreNamed command libs files → (address : ℕ) → IsFilledIn command libs files is.keys image (addresses_of is.imaged.layout.placed) address
 unfolding making

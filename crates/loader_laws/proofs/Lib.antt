@@ -9,6 +9,7 @@ pub mod FileLinks
 pub mod Fillable
 pub mod FilledIn
 pub mod Finding
+pub mod Handlers
 pub mod Holders
 pub mod Linked
 pub mod Lowest

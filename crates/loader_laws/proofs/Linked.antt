@@ -8,6 +8,7 @@ use Rattle.mo_types.specs.declared.key.AtomKey.{AtomKey}
 use Rattle.mo_types.specs.declared.loaded.LoadedFile.{LoadedFile}
 use Rattle.slot_plan.specs.declared.list.Slots.{Slots}
 use Rattle.symbol_winners.specs.SymbolTable.{SymbolTable}
+use Rattle.image_make.specs.Made.{with_info}
 use Rattle.image_laws.specs.Means.{AreRising}
 use Rattle.image_laws.proofs.Stated.{with_layout}
 use Rattle.link_files.specs.Causes.{AreInside}
@@ -34,9 +35,10 @@ image_linked command libs files image ordered cut few linked =
       symbols = went.symbols;
       keys = went.keys;
       slots = went.slots;
+      info = went.info;
       inside = went.inside;
       rising = rising command libs files went.symbols went.keys went.slots ordered cut few went.inside;
-      imaged = with_layout (making command libs files went.symbols went.keys went.slots) image went.made;
+      imaged = with_layout (with_info (making command libs files went.symbols went.keys went.slots) went.info) image went.made;
     }
 
 pub low_linked : (command : Command) (libs : LibraryGraph) (files : List LoadedFile) (image : List ℕ) → AreOrdered files → AreCut files → All IsLow files → IsLinked command libs files (Ok image) → IsImageOf command libs files image

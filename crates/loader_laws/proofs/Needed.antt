@@ -1,5 +1,5 @@
--- The slots and stubs of an image are those that the references of kept atoms and the entry need.
-use Rattle.std.proofs.Common.{◌≡◌, ℕ, ◌+◌, Bool, true, false, List, [], ◌∷◌, Some, None, inl, inr, Contains, refl, sym, ap, ◌∙◌, subst, arith, if◌then◌else◌}
+-- The slots and stubs of an image are those that kept atoms need, by their references and personalities, and the entry.
+use Rattle.std.proofs.Common.{◌≡◌, ℕ, ◌+◌, Bool, true, false, List, [], ◌∷◌, map, Some, None, inl, inr, Contains, refl, sym, ap, ◌∙◌, subst, arith, if◌then◌else◌}
 use Rattle.std.specs.Prelude.{slice_get}
 use Rattle.std.specs.List.{enumerate_from, filter, flat_map}
 use Rattle.list_lemmas.proofs.Members.{Contains_from_in, In, from_filter, from_filter_map, from_flat, from_map, in_either, in_filter, in_filter_map, in_flat, in_from_Contains, in_left, in_map, in_right}
@@ -18,18 +18,29 @@ use Rattle.slot_plan.specs.declared.need.Need.{Need}
 use Rattle.slot_plan.specs.declared.need.Way.{Way}
 use Rattle.slot_plan.specs.declared.need.Way.TheVariants.{Got, Stub, Tlv}
 use Rattle.slot_plan.proofs.Ordered.{stub_has_slot}
+use Rattle.unwind_link.specs.Personalities.{slot_need}
 use Rattle.image_make.specs.Made.{IsLaid, ImageInputs, scene_of}
 use Rattle.image_laws.specs.References.{HasAddress, StubsHaveSlots}
 use Rattle.image_laws.proofs.Units.{unit_there}
+use Rattle.link_files.specs.Bound as bounds
 use Rattle.link_files.specs.Bound.{start_of}
+use Rattle.link_files.specs.Unwinding.{handlers}
 use Rattle.link_files.proofs.Lists.{from_mapped, from_numbered}
 use Rattle.loader_laws.proofs.Finding.{in_all}
+use Rattle.loader_laws.proofs.Handlers.{IsHandledBy, handled_by}
 use Rattle.loader_laws.proofs.Placing.{IsLinking}
 use Rattle.loader_laws.proofs.Targets.{IsKeptRef, goals_there, leads, target_same}
 
 -- what the kept atoms of an image need, and its entry
 abbrev pub all_needs : ImageInputs → List Need
-all_needs m = needs m.literals m.keys m.goals m.files (start_of m.command m.entry)
+all_needs m = bounds.all_needs m.literals m.keys m.goals m.files (start_of m.command m.entry)
+
+-- by their references, and by the personalities of their unwind entries
+abbrev by_refs : ImageInputs → List Need
+by_refs m = needs m.literals m.keys m.goals m.files (start_of m.command m.entry)
+
+abbrev by_unwinds : ImageInputs → List Need
+by_unwinds m = map slot_need (handlers m.literals m.keys m.goals m.files)
 
 abbrev pub need : Goal → Way → Need
 need goal way = record { goal = goal; way = way }
@@ -48,15 +59,17 @@ is_needed m at file r way linking is e =
     let one : Need = need (leads m file r.target) way in
     let here : In one (needs_in m.literals m.keys goals file) =
     in_filter_map (need_of m.literals goals) (kept_refs m.keys file) r one (in_filter (λ (x : Ref). has m.keys x.atom) file.refs r is.among is.kept) (need_is m file r way linking e) in
-    in_left (flat_map (needs_at m.literals m.keys m.goals) (enumerate_from 0 m.files)) (entry_needs (start_of m.command m.entry)) one
-    (in_flat (needs_at m.literals m.keys m.goals) (enumerate_from 0 m.files) (at, file) one (in_all m.files at file is.there) (rw (goals_there m at file linking is.there) here))
+    in_left (by_refs m) (by_unwinds m) one
+    (in_left (flat_map (needs_at m.literals m.keys m.goals) (enumerate_from 0 m.files)) (entry_needs (start_of m.command m.entry)) one
+    (in_flat (needs_at m.literals m.keys m.goals) (enumerate_from 0 m.files) (at, file) one (in_all m.files at file is.there) (rw (goals_there m at file linking is.there) here)))
 
 -- a program whose entry another image has needs a stub
 entry_is_needed : (m : ImageInputs) → m.command.dylib ≡ false → is_outer m.entry ≡ true → In (need m.entry Stub) (all_needs m)
 unfolding needs
 entry_is_needed m program outer =
-    in_right (flat_map (needs_at m.literals m.keys m.goals) (enumerate_from 0 m.files)) (entry_needs (start_of m.command m.entry)) (need m.entry Stub)
-    (rw (program, outer) (inl refl))
+    in_left (by_refs m) (by_unwinds m) (need m.entry Stub)
+    (in_right (flat_map (needs_at m.literals m.keys m.goals) (enumerate_from 0 m.files)) (entry_needs (start_of m.command m.entry)) (need m.entry Stub)
+    (rw (program, outer) (inl refl)))
 
 -- ---- it is there
 
@@ -85,9 +98,10 @@ stubs_have_slots m linking = record { each = stub_has_slot (all_needs m) m.slots
 
 -- ---- nothing else is
 
--- a need is that of a reference of a kept atom, or of the entry
+-- a need is that of a reference of a kept atom, of a personality of one, or of the entry
 pub data IsNeededBy (m : ImageInputs) (goal : Goal) : Type 0 where
   by_reference : (at : ℕ) (file : LoadedFile) (r : Ref) → IsKeptRef m at file r → leads m file r.target ≡ goal → IsNeededBy m goal
+  by_handler : IsHandledBy m goal → IsNeededBy m goal
   by_entry : is_outer m.entry ≡ true → m.entry ≡ goal → IsNeededBy m goal
 
 from_entry : (m : ImageInputs) (one : Need) → In one (entry_needs (start_of m.command m.entry)) → IsNeededBy m one.goal
@@ -113,15 +127,26 @@ from_file m at file one linking there h =
     let made = from_mapped (λ (way : Way). need goal way) (way_of of_ref.0.kind of_ref.0.addend goal) one of_ref.2 in
     by_reference at file of_ref.0 (record { there = there; among = kept.0; kept = kept.1 }) (sym (target_same m file of_ref.0.target linking) ∙ ap (λ (n : Need). n.goal) made.2)
 
-pub needed_by : (m : ImageInputs) (one : Need) → IsLinking m → In one (all_needs m) → IsNeededBy m one.goal
+from_refs : (m : ImageInputs) (one : Need) → IsLinking m → In one (by_refs m) → IsNeededBy m one.goal
 unfolding needs
-needed_by m one linking h = elim (in_either (flat_map (needs_at m.literals m.keys m.goals) (enumerate_from 0 m.files)) (entry_needs (start_of m.command m.entry)) one h) [
+from_refs m one linking h = elim (in_either (flat_map (needs_at m.literals m.keys m.goals) (enumerate_from 0 m.files)) (entry_needs (start_of m.command m.entry)) one h) [
   | inl of_files ↦
       let of = from_flat (needs_at m.literals m.keys m.goals) (enumerate_from 0 m.files) one of_files in
       let place = from_numbered 0 m.files of.0 of.1 in
       let first : place.0 ≡ 0 + place.0 = omega arith in
       from_file m of.0.0 of.0.1 one linking (subst (λ (n : ℕ). slice_get m.files n ≡ Some of.0.1) (first ∙ place.1) place.2) of.2
   | inr of_entry ↦ from_entry m one of_entry
+]
+
+from_unwinds : (m : ImageInputs) (one : Need) → IsLinking m → In one (by_unwinds m) → IsNeededBy m one.goal
+from_unwinds m one linking h =
+    let from = from_map slot_need (handlers m.literals m.keys m.goals m.files) one h in
+    subst (IsNeededBy m) (ap (λ (n : Need). n.goal) from.2) (by_handler (handled_by m from.0 linking from.1))
+
+pub needed_by : (m : ImageInputs) (one : Need) → IsLinking m → In one (all_needs m) → IsNeededBy m one.goal
+needed_by m one linking h = elim (in_either (by_refs m) (by_unwinds m) one h) [
+  | inl reference ↦ from_refs m one linking reference
+  | inr unwind ↦ from_unwinds m one linking unwind
 ]
 
 -- what has a slot or a stub is needed

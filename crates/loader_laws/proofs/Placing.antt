@@ -19,18 +19,17 @@ use Rattle.mo_types.specs.declared.key.TheConstants.{COMMON_SECTION}
 use Rattle.mo_types.specs.declared.loaded.LoadedFile.{LoadedFile}
 use Rattle.resolve.specs.Goals.{goal_of_name, goal_table}
 use Rattle.sect_place.specs.declared.layout.Layout.{Layout}
-use Rattle.slot_needs.specs.Needs.{needs}
 use Rattle.slot_needs.specs.Unmet.{unmet}
 use Rattle.slot_plan.specs.declared.list.Slots.{Slots}
 use Rattle.symbol_winners.specs.SymbolTable.{SymbolTable}
 use Rattle.symbol_winners.specs.Winners.{AreWinners}
 use Rattle.image_make.specs.Atoms.{common_at, common_of, commons_in, is_common_of, kept_as, kept_atoms, kept_in}
-use Rattle.image_make.specs.Made.{IsLaid, ImageInputs, kept_of}
+use Rattle.image_make.specs.Made.{IsLaid, ImageInputs, kept_of, with_info}
 use Rattle.image_make.specs.declared.kept.KeptAtom.{KeptAtom}
 use Rattle.image_make.proofs.CommonLemmas.{common_key}
 use Rattle.image_laws.specs.Means.{AreRising}
 use Rattle.image_laws.proofs.Complete.{IsSeated}
-use Rattle.link_files.specs.Bound.{AreSlotsFor, start_of}
+use Rattle.link_files.specs.Bound.{AreSlotsFor, all_needs, start_of}
 use Rattle.link_files.specs.Causes.{AreInside}
 use Rattle.link_files.specs.Linked.{AreOrdered, making}
 use Rattle.link_files.proofs.KeptLemmas.{same_file}
@@ -56,12 +55,12 @@ pub record IsLinking (m : ImageInputs) : Type 0 where
   pub led : All (λ (edge : Edge). has m.keys edge.from ≡ true → has m.keys edge.to ≡ true) (edges m.files m.libs m.command)
   pub names : List (List ℕ)
   pub found : undefined m.keys m.files m.goals names ≡ None
-  pub slots : AreSlotsFor (needs m.literals m.keys m.goals m.files (start_of m.command m.entry)) m.slots
+  pub slots : AreSlotsFor (all_needs m.literals m.keys m.goals m.files (start_of m.command m.entry)) m.slots
   pub met : unmet m.keys m.goals m.files ≡ []
 
-pub linking_of : (command : Command) (libs : LibraryGraph) (files : List LoadedFile) (symbols : SymbolTable) (keys : List AtomKey) (slots : Slots) → AreOrdered files → AreWhole files → AreNamed command libs files → AreInside command libs files symbols keys slots → IsLinking (making command libs files symbols keys slots)
+pub linking_of : (command : Command) (libs : LibraryGraph) (files : List LoadedFile) (symbols : SymbolTable) (keys : List AtomKey) (slots : Slots) (info : List ℕ) → AreOrdered files → AreWhole files → AreNamed command libs files → AreInside command libs files symbols keys slots → IsLinking (with_info (making command libs files symbols keys slots) info)
 unfolding making
-linking_of command libs files symbols keys slots ordered whole named inside = record {
+linking_of command libs files symbols keys slots info ordered whole named inside = record {
   ordered = ordered;
   solid = record { whole = whole; commons = named.commons };
   named = named;

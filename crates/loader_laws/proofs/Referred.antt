@@ -157,7 +157,7 @@ pub reference_tells : (command : Command) (libs : LibraryGraph) (files : List Lo
     → TellsItsGoal command libs files image (addresses_of is.imaged.layout.placed) file reference
 unfolding making
 reference_tells command libs files image is file reference ordered whole named among of_refs kept =
-    tells_its_goal (made_of is) image is.imaged file reference (linking_of command libs files is.symbols is.keys is.slots ordered whole named is.inside) is.rising among of_refs kept
+    tells_its_goal (made_of is) image is.imaged file reference (linking_of command libs files is.symbols is.keys is.slots is.info ordered whole named is.inside) is.rising among of_refs kept
 
 -- the same of a reference of a kept atom
 pub kept_reference_tells : (command : Command) (libs : LibraryGraph) (files : List LoadedFile) (image : List ℕ) (is : IsImageOf command libs files image) → AreOrdered files → AreWhole files → AreNamed command libs files → (file : LoadedFile) (reference : Ref) → IsKeptReference files is.keys file reference

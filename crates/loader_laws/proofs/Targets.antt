@@ -135,15 +135,17 @@ unfolding least
 least_none [] e = refl
 least_none (p ∷ pairs) e = let told = least_there pairs p in not_none told.0 (sym told.1 ∙ e)
 
+-- no name of an image does
+pub none_lost : (m : ImageInputs) → IsLinking m → lost m.keys m.files m.goals ≡ []
+unfolding undefined
+none_lost m linking = (both_empty (lost m.keys m.files m.goals) (wanted linking.names) (least_none (lost m.keys m.files m.goals ++ wanted linking.names) linking.found)).0
+
 target_found : (m : ImageInputs) (at : ℕ) (file : LoadedFile) (r : Ref) (target : Target) → IsLinking m → IsKeptRef m at file r → In target (targets_of r.target r.minus) → lost_name file.object.symbols (goals_of_symbols m.files m.libs m.command file) target ≡ None
-unfolding undefined lost lost_in lost_names kept_refs
+unfolding lost lost_in lost_names kept_refs
 target_found m at file r target linking is among = by (lost_name file.object.symbols goals target) refl
   where
     goals : List Goal
     goals = goals_of_symbols m.files m.libs m.command file
-
-    none : lost m.keys m.files m.goals ≡ []
-    none = (both_empty (lost m.keys m.files m.goals) (wanted linking.names) (least_none (lost m.keys m.files m.goals ++ wanted linking.names) linking.found)).0
 
     told : (name : List ℕ) → lost_name file.object.symbols goals target ≡ Some name → In (name, file.label) (lost m.keys m.files m.goals)
     told name e =
@@ -155,7 +157,7 @@ target_found m at file r target linking is among = by (lost_name file.object.sym
 
     by : (o : Option (List ℕ)) → lost_name file.object.symbols goals target ≡ o → o ≡ None
     by None e = refl
-    by (Some name) e = absurd (subst (λ (xs : List (List ℕ × List ℕ)). In (name, file.label) xs) none (told name e))
+    by (Some name) e = absurd (subst (λ (xs : List (List ℕ × List ℕ)). In (name, file.label) xs) (none_lost m linking) (told name e))
 
 not_nobody : (goal : Goal) (symbol : Symbol) → name_if goal (Some symbol) ≡ None → is_nobody goal ≡ false
 not_nobody goal symbol e = by (is_nobody goal) e
@@ -164,15 +166,15 @@ not_nobody goal symbol e = by (is_nobody goal) e
     by true f = not_none symbol.name f
     by false f = refl
 
-somebody : (m : ImageInputs) (at : ℕ) (file : LoadedFile) (r : Ref) (target : Target) → IsLinking m → IsKeptRef m at file r → In target (targets_of r.target r.minus) → IsTargetOf file.object file.id target → is_nobody (leads m file target) ≡ false
+somebody : (m : ImageInputs) (file : LoadedFile) (target : Target) → lost_name file.object.symbols (goals_of_symbols m.files m.libs m.command file) target ≡ None → IsTargetOf file.object file.id target → is_nobody (leads m file target) ≡ false
 unfolding goal_of
-somebody m at file r (Name index) linking is among (symbol, there) =
+somebody m file (Name index) found (symbol, there) =
     let goal : Goal = goal_of_symbol m.files m.libs m.command file (index, symbol) in
-    let found : slice_get (goals_of_symbols m.files m.libs m.command file) index ≡ Some goal = goal_there m.files m.libs m.command file index symbol there in
+    let is : slice_get (goals_of_symbols m.files m.libs m.command file) index ≡ Some goal = goal_there m.files m.libs m.command file index symbol there in
     let none : name_if goal (Some symbol) ≡ None =
-    ap (name_if goal) (sym there) ∙ ap (option_and_then (λ g. name_if g (slice_get file.object.symbols index))) (sym found) ∙ target_found m at file r (Name index) linking is among in
+    ap (name_if goal) (sym there) ∙ ap (option_and_then (λ g. name_if g (slice_get file.object.symbols index))) (sym is) ∙ found in
     rw there (not_nobody goal symbol none)
-somebody m at file r (Local atom offset) linking is among place = refl
+somebody m file (Local atom offset) found place = refl
 
 -- ---- the image has it
 
@@ -193,15 +195,22 @@ inner_stands m layout (Import name ordinal by_weak optional) atom seat some own 
 inner_stands m layout (Flat name) atom seat some own = absurd (false≢true (sym own))
 inner_stands m layout Nobody atom seat some own = absurd (false≢true (sym some))
 
-pub target_reached : (m : ImageInputs) (layout : Layout) (at : ℕ) (file : LoadedFile) (r : Ref) (target : Target) → IsLinking m → AreRising m → IsLaid m layout → IsKeptRef m at file r → In target (targets_of r.target r.minus) → IsTargetOf file.object file.id target → IsReached m layout (leads m file target)
-target_reached m layout at file r target linking rising laid is among there =
-    let some = somebody m at file r target linking is among there in
+-- a target that is there, leads somewhere, and whose atom is kept
+pub reached_by : (m : ImageInputs) (layout : Layout) (file : LoadedFile) (target : Target) → IsLinking m → AreRising m → IsLaid m layout → In file m.files → IsTargetOf file.object file.id target → lost_name file.object.symbols (goals_of_symbols m.files m.libs m.command file) target ≡ None
+    → ((key : AtomKey) → target_atom (representatives_of m.files) (goals_of_symbols m.files m.libs m.command file) target ≡ Some key → has m.keys key ≡ true) → IsReached m layout (leads m file target)
+reached_by m layout file target linking rising laid h there found kept =
+    let some = somebody m file target found there in
     record {
       somebody = some;
-      stands = inner_stands m layout (leads m file target) (target_held m.files m.libs m.command file target linking.solid (in_slice m.files at file is.there) there)
-          (λ key e held. stands m layout key linking rising laid held (target_kept m at file r target key linking is among (goal_atoms m file target key there e)))
+      stands = inner_stands m layout (leads m file target) (target_held m.files m.libs m.command file target linking.solid h there)
+          (λ key e held. stands m layout key linking rising laid held (kept key (goal_atoms m file target key there e)))
           some;
     }
+
+pub target_reached : (m : ImageInputs) (layout : Layout) (at : ℕ) (file : LoadedFile) (r : Ref) (target : Target) → IsLinking m → AreRising m → IsLaid m layout → IsKeptRef m at file r → In target (targets_of r.target r.minus) → IsTargetOf file.object file.id target → IsReached m layout (leads m file target)
+target_reached m layout at file r target linking rising laid is among there =
+    reached_by m layout file target linking rising laid (in_slice m.files at file is.there) there
+    (target_found m at file r target linking is among) (λ key to. target_kept m at file r target key linking is among to)
 
 -- ---- references that tell an address
 

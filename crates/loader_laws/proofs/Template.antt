@@ -1,5 +1,5 @@
 -- The template of thread-local variables in an image begins where the first of its atoms stands.
-use Rattle.std.proofs.Common.{◌≡◌, ◌≢◌, ℕ, ◌+◌, ◌*◌, ◌^◌, ◌≤◌, ◌⊎◌, Bool, true, false, List, [], ◌∷◌, find, map, Option, Some, None, inl, inr, Contains, refl, sym, ap, ◌∙◌, subst, arith}
+use Rattle.std.proofs.Common.{◌≡◌, ◌≢◌, ℕ, ◌+◌, ◌*◌, ◌^◌, ◌≤◌, ◌⊎◌, Bool, true, false, List, [], ◌∷◌, find, length, map, Option, Some, None, inl, inr, Contains, refl, sym, ap, ◌∙◌, subst, arith}
 use Rattle.std.specs.Option.{option_map}
 use Rattle.std.proofs.lemmas.Bool.{false≢true}
 use Rattle.std.proofs.lemmas.List.Sorted.{Contains-permutation}
@@ -33,7 +33,7 @@ use Rattle.image_make.proofs.LowLemmas.{in_layout, placed_found}
 use Rattle.image_make.proofs.OwnLemmas.{have_atoms}
 use Rattle.image_make.proofs.Rowed.{placed_once}
 use Rattle.image_make.proofs.Spots.{HasAtoms, all_have, spot}
-use Rattle.image_make.proofs.SpreadLemmas.{pairs_all}
+use Rattle.image_make.proofs.PairLemmas.{pairs_all}
 use Rattle.image_laws.specs.Means.{AreRising}
 use Rattle.image_laws.proofs.Loading.{from_all}
 use Rattle.loader_laws.proofs.Aligned.{atoms_low, listed_found, stays}
@@ -96,7 +96,7 @@ unfolding plan_with plan_of image_sections
 given m layout p laid h =
     let plan = plan_for m in
     let sections : List OutSection = out_sections m.files (map atom_of (kept_of m)) in
-    let bytes = made_bytes m.slots (sizes_of m.command m.libs) in
+    let bytes = made_bytes m.slots (sizes_of m.command m.libs (length m.info)) in
     let part = placed_groups plan.atoms plan.base 0 plan.lead plan.groups p (subst (λ (ss : List PlacedSection). In p ss) laid.layout_of.sections h) in
     elim (known sections bytes part.part part.planned) [
       | inl listed ↦ inl (subst (λ (s : OutSection). In s sections) (sym part.same) listed)

@@ -1,5 +1,5 @@
 -- A section of an image that lists an atom is of the type to which the atom's own section goes.
-use Rattle.std.proofs.Common.{◌≡◌, ℕ, ◌+◌, ◌==◌, inl, inr, ◌⊎◌, Bool, true, false, List, [], ◌∷◌, ◌++◌, map, Some, codes, refl, sym, ap, ◌∙◌, arith, subst}
+use Rattle.std.proofs.Common.{◌≡◌, ℕ, ◌+◌, ◌==◌, inl, inr, ◌⊎◌, Bool, true, false, List, [], ◌∷◌, ◌++◌, length, map, Some, codes, refl, sym, ap, ◌∙◌, arith, subst}
 use Rattle.std.specs.List.{AllByRecursion, filter}
 use Rattle.std.specs.Str.{bytes_eq}
 use Rattle.std.proofs.lemmas.Bool.{cases_Bool, false≢true, ne_eqb}
@@ -197,7 +197,7 @@ layout_goes m layout section key laid among listed =
     let sections = out_sections m.files atoms in
     let plan = plan_for m in
     let there : In section (image_sections plan) = subst (λ (ss : List PlacedSection). In section ss) laid.layout_of.sections among in
-    let given = all_in (λ (p : PlacedSection). IsGiven sections p.section) (image_sections plan) section (groups_placed plan.atoms plan.base 0 plan.lead plan.groups sections (all_given sections (made_bytes m.slots (sizes_of m.command m.libs)))) there in
+    let given = all_in (λ (p : PlacedSection). IsGiven sections p.section) (image_sections plan) section (groups_placed plan.atoms plan.base 0 plan.lead plan.groups sections (all_given sections (made_bytes m.slots (sizes_of m.command m.libs (length m.info))))) there in
     goes m.files atoms section.section key (given key listed) listed
 
 -- ---- the type

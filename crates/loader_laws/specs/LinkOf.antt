@@ -18,14 +18,14 @@ use Rattle.mo_types.specs.declared.reference.RefKind.TheVariants.{GotPointer, Po
 use Rattle.mo_format.specs.declared.loader.TheConstants.{S_THREAD_LOCAL_REGULAR, S_THREAD_LOCAL_ZEROFILL}
 use Rattle.command_line.specs.declared.command.Command.{Command}
 use Rattle.lib_bind.specs.declared.library.LibraryGraph.{LibraryGraph}
-use Rattle.link_files.specs.Bound.{start_of}
+use Rattle.link_files.specs.Bound.{all_needs, start_of}
 use Rattle.link_files.specs.Lost.{is_lost}
 use Rattle.link_files.specs.Names.{wanted}
 use Rattle.link_files.specs.Refusals.{AreOnce}
 use Rattle.link_files.specs.Resolved.{AreKept}
 use Rattle.resolve.specs.Goals.{goal_of, goal_of_name, goal_table}
 use Rattle.literal_merge.specs.Representatives.{representatives_of}
-use Rattle.slot_needs.specs.Needs.{is_outer, needs}
+use Rattle.slot_needs.specs.Needs.{is_outer}
 use Rattle.slot_plan.specs.declared.need.Need.{Need}
 use Rattle.symbol_winners.specs.SymbolTable.{IsSymbolTable, SymbolTable}
 use Rattle.symbol_winners.specs.Winners.{winner_of}
@@ -160,11 +160,12 @@ pub record IsPointerOf (files : List LoadedFile) (keys : List AtomKey) (addresse
   pub stands : get addresses reference.atom ≡ Some atom
   pub at : address ≡ atom + reference.place
 
--- a slot of a goal, to which a kept atom refers or where an executable begins, stands at an address and leads to the goal
+-- a slot of a goal, to which a kept atom refers, which handles exceptions of one, or where an executable begins, stands at an
+-- address and leads to the goal
 pub record IsSlotOf (command : Command) (libs : LibraryGraph) (files : List LoadedFile) (keys : List AtomKey) (image : List ℕ) (addresses : AtomMap)
     (address : ℕ) : Type 0 where
   pub need : Need
-  pub needed : Contains (needs (representatives_of files) keys (goal_table files libs command) files
+  pub needed : Contains (all_needs (representatives_of files) keys (goal_table files libs command) files
       (start_of command (goal_of_name files libs command command.entry))) need
   pub held : Held image addresses (fixup_at image address) need.goal (pos 0)
 

@@ -1,7 +1,8 @@
 -- What files and libraries are read as, and what an image of them is made of.
 use Rattle.std.specs.Prelude.{ℕ, ◌≡◌, true, false, List, All}
 use Rattle.command_line.specs.declared.command.Command.{Command}
-use Rattle.image_make.specs.Made.{ImageInputs}
+use Rattle.image_make.specs.Made.{ImageInputs, with_info}
+use Rattle.input_files.specs.Files.{HasUnwinds}
 use Rattle.lib_bind.specs.Graph.{IsWhole}
 use Rattle.lib_bind.specs.declared.library.LibraryGraph.{LibraryGraph}
 use Rattle.link_files.specs.Linked.{making}
@@ -29,14 +30,15 @@ abbrev pub IsRegularCode : Section → Type 0
 IsRegularCode section = is_dropped section ≡ false → is_instructions section ≡ true → section.kind ≡ S_REGULAR
 
 -- Names hold no NUL, neither those of symbols nor that of the entry. Common symbols are external, and instructions stand in
--- regular sections. Libraries have ordinals of an image.
+-- regular sections. The unwind entries of files are those of their objects. Libraries have ordinals of an image.
 pub record AreNamed (command : Command) (libs : LibraryGraph) (files : List LoadedFile) : Type 0 where
   pub symbols : All (λ file. All (λ symbol. HasNoNul symbol.name) file.object.symbols) files
   pub commons : All (λ file. All IsCommonToAll file.object.symbols) files
   pub code : All (λ file. All IsRegularCode file.object.sections) files
+  pub unwinds : All HasUnwinds files
   pub entry : HasNoNul command.entry
   pub libraries : IsWhole libs
 
 -- what an image of files is made of
 abbrev pub made_of : {command : Command} {libs : LibraryGraph} {files : List LoadedFile} {image : List ℕ} → IsImageOf command libs files image → ImageInputs
-made_of {command = command} {libs = libs} {files = files} is = making command libs files is.symbols is.keys is.slots
+made_of {command = command} {libs = libs} {files = files} is = with_info (making command libs files is.symbols is.keys is.slots) is.info

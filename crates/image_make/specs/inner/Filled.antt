@@ -8,13 +8,19 @@ use Rattle.patch.specs.declared.met.Met.{Met}
 use Rattle.patch.specs.declared.range.PlacedWork.{PlacedWork}
 use Rattle.patch.specs.Range.{IsLeastFault, IsPlaced}
 use Rattle.sect_place.specs.Layout.{IsTooLarge, Plan, image_size}
-use Rattle.image_make.specs.Made.{IsFilledImage}
+use Rattle.image_make.specs.Made.{ImageInputs, IsFilledImage, IsPlaceFault}
 
 -- what is planned is too large
 abbrev pub IsPlanFault : Plan → MakeFault → Type 0
 IsPlanFault plan (Place fault) = IsTooLarge (image_size plan) fault
 IsPlanFault plan (Range atom fault) = ⊥
 IsPlanFault plan OutOfMemory = Unit {0}
+
+-- what stands before `__LINKEDIT` is too large
+abbrev pub IsLayFault : ImageInputs → MakeFault → Type 0
+IsLayFault m (Place fault) = IsPlaceFault m fault
+IsLayFault m (Range atom fault) = ⊥
+IsLayFault m OutOfMemory = Unit {0}
 
 -- a field can't hold its value
 abbrev pub IsFillFault : List LoadedFile → (PlacedWork → List Met) → List PlacedWork → MakeFault → Type 0

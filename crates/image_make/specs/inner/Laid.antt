@@ -5,6 +5,7 @@ use Rattle.fixup_chain.specs.declared.chains.ChainFault.{ChainFault}
 use Rattle.fixup_chain.specs.declared.chains.Chains.{Chains}
 use Rattle.fixup_chain.specs.declared.chains.Fixup.{Fixup}
 use Rattle.image_make.specs.Atoms.{AreLow, AreRising}
+use Rattle.image_make.specs.Frames.{HaveFrames}
 use Rattle.image_make.specs.Made.{ImageInputs, IsLaid, binds_of, kept_of, rows_of}
 use Rattle.image_make.specs.Made as made
 use Rattle.image_make.specs.Near.{AreNear}
@@ -22,12 +23,14 @@ pub record AreGood (m : ImageInputs) : Type 0 where
   pub rising : AreRising (kept_of m)
   pub low : AreLow (kept_of m)
   pub near : AreNear m
+  pub frames : HaveFrames m
   pub flags : m.flags < 2 ^ 31
   pub few : ¬ AreMany (binds_of m)
 
 -- the layout, the atoms with bytes and the pointers are those of an image
 pub record IsLaidOut (m : ImageInputs) (laid : code.Laid) : Type 0 where
   pub good : AreGood m
+  pub info : m.info ≡ laid.info.now
   pub is_laid : IsLaid m laid.scene.now.layout.now
   pub scene : scene_of laid.scene.now ≡ made.scene_of m laid.scene.now.layout.now
   pub orders : AreOrders m.files laid.orders.now

@@ -17,7 +17,7 @@ pub record AreReadySlots (layout : Layout) (slots : Slots) (all : List ChainWord
   pub words : AreInOrder all
 
 -- and all parts lie apart, below 2^32
-pub record AreReadyParts (layout : Layout) (own : Slots) (chains : Chains) (front : List ℕ) : Type 0 where
+pub record AreReadyParts (layout : Layout) (own : Slots) (info : List ℕ) (chains : Chains) (front : List ℕ) : Type 0 where
   pub slots : AreReadySlots layout own chains.words
-  pub apart : LieApart (record { size = linkedit_offset layout.segments + length chains.blob; parts = image_parts layout own chains front })
+  pub apart : LieApart (record { size = linkedit_offset layout.segments + length chains.blob; parts = image_parts layout own info chains front })
   pub few : linkedit_offset layout.segments + length chains.blob < 2 ^ 32

@@ -1,39 +1,25 @@
-use Rattle.std.proofs.Common.{◌<◌, ◌^◌, subst}
-use Rattle.sect_place.specs.Layout.{IsLayoutOf, IsTooLarge, Plan, image_size}
-use Rattle.sect_list.proofs.Once.{listed_once}
-use Rattle.sect_place.proofs.Single.{layout_rises}
-use Rattle.image_make.proofs.KeptListLemmas.{rising_atoms}
-use Rattle.image_make.proofs.LaidLemmas.{low_atoms, once, same_plan}
+use Rattle.image_make.specs.Inputs.{inputs_of}
+use Rattle.image_make.proofs.LayLemmas.{onces, sections_ready, wholes}
 use Rattle.image_make.proofs.laying.lay_out.Goals as goal
 
-pub place-requires-clause-rising : goal.place-requires-clause-rising
-place-requires-clause-rising c = rw c.atoms-atoms.ensures (rising_atoms c.args.kept.now c.requires.rising)
+pub laid_without-requires-clause-ready : goal.laid_without-requires-clause-ready
+laid_without-requires-clause-ready c =
+    sections_ready (inputs_of c.args.inputs.now) c.args.kept.now c.atoms.result.now c.in_ok-sections.sections c.requires.whole c.requires.rising c.requires.low c.requires.frames c.requires.kept
+    c.atoms.ensures c.in_ok-sections.ensures.exact c.in_ok-sections.ensures.low
 
-pub place-requires-clause-atoms : goal.place-requires-clause-atoms
-place-requires-clause-atoms c = rw c.atoms-atoms.ensures (low_atoms c.args.kept.now c.requires.low)
+pub returns-then-is_empty-clause-whole : goal.returns-then-is_empty-clause-whole
+returns-then-is_empty-clause-whole c = wholes (inputs_of c.args.inputs.now) c.laid_without.result c.laid_without.ensures.laid
 
-pub place-requires-clause-sections : goal.place-requires-clause-sections
-place-requires-clause-sections c = c.in_ok-sections.ensures.low (place-requires-clause-atoms c)
+pub returns-then-is_empty-clause-once : goal.returns-then-is_empty-clause-once
+returns-then-is_empty-clause-once c = onces (inputs_of c.args.inputs.now) c.laid_without.result c.requires.rising c.laid_without.ensures.laid
 
-pub returns-in-Ok-clause-layout_of : goal.returns-in-Ok-clause-layout_of
-returns-in-Ok-clause-layout_of c =
-    let same = same_plan c.args.command.now c.args.libs.now c.args.loaded.now.files c.args.kept.now c.args.slots.now c.args.islands.now c.atoms-atoms.result.now c.in_ok-sections.sections c.other_size.result c.atoms-atoms.ensures c.in_ok-sections.ensures.exact c.other_size.ensures.size in
-    subst (λ (plan : Plan). IsLayoutOf c.args.command.now plan c.in-Ok.layout) same
-    (record { segments = c.in-Ok.ensures.segments; sections = c.in-Ok.ensures.sections; places = c.in-Ok.ensures.places; order = c.in-Ok.ensures.order })
+pub laid_with_info-requires-clause-ready : goal.laid_with_info-requires-clause-ready
+laid_with_info-requires-clause-ready c =
+    sections_ready (inputs_of c.args.inputs.now) c.args.kept.now c.atoms.result.now c.in_ok-sections.sections c.requires.whole c.requires.rising c.requires.low c.requires.frames c.requires.kept
+    c.atoms.ensures c.in_ok-sections.ensures.exact c.in_ok-sections.ensures.low
 
-pub returns-in-Ok-clause-small : goal.returns-in-Ok-clause-small
-returns-in-Ok-clause-small c =
-    let same = same_plan c.args.command.now c.args.libs.now c.args.loaded.now.files c.args.kept.now c.args.slots.now c.args.islands.now c.atoms-atoms.result.now c.in_ok-sections.sections c.other_size.result c.atoms-atoms.ensures c.in_ok-sections.ensures.exact c.other_size.ensures.size in
-    subst (λ (plan : Plan). image_size plan < 2 ^ 32) same c.in-Ok.ensures.size
+pub returns-clause-whole : goal.returns-clause-whole
+returns-clause-whole c = wholes (inputs_of c.args.inputs.now) c.laid_with_info.result c.laid_with_info.ensures.laid
 
-pub returns-in-Ok-clause-once : goal.returns-in-Ok-clause-once
-returns-in-Ok-clause-once c =
-    once c.in-Ok.layout.placed
-    (layout_rises c.atoms-atoms.result.now c.in_ok-sections.sections c.args.slots.now c.args.islands.now _ c.args.command.now c.in-Ok.layout
-    (rw c.in_ok-sections.ensures.exact (listed_once c.args.loaded.now.files c.atoms-atoms.result.now (rw c.atoms-atoms.ensures (rising_atoms c.args.kept.now c.requires.rising))))
-    (record { segments = c.in-Ok.ensures.segments; sections = c.in-Ok.ensures.sections; places = c.in-Ok.ensures.places; order = c.in-Ok.ensures.order }))
-
-pub returns-clause-fault : goal.returns-clause-fault
-returns-clause-fault c =
-    let same = same_plan c.args.command.now c.args.libs.now c.args.loaded.now.files c.args.kept.now c.args.slots.now c.args.islands.now c.atoms-atoms.result.now c.in_ok-sections.sections c.other_size.result c.atoms-atoms.ensures c.in_ok-sections.ensures.exact c.other_size.ensures.size in
-    subst (λ (plan : Plan). IsTooLarge (image_size plan) c.in-Err.fault) same c.in-Err.ensures.size
+pub returns-clause-once : goal.returns-clause-once
+returns-clause-once c = onces (inputs_of c.args.inputs.now) c.laid_with_info.result c.requires.rising c.laid_with_info.ensures.laid
