@@ -1,5 +1,5 @@
 -- The files of inputs: their ids, and what they are read as.
-use Rattle.std.proofs.Common.{◌≡◌, ℕ, zero, suc, ◌+◌, ◌<◌, ◌≤◌, ◌^◌, ◌++◌, Bool, true, false, List, [], ◌∷◌, Option, Some, None, Result, Ok, Err, length, map, refl, sym, ap, ap₂, ◌∙◌, subst, inl, inr, arith, lit<, if◌then◌else◌}
+use Rattle.std.proofs.Common.{◌≡◌, ℕ, zero, suc, ◌+◌, ◌<◌, ◌≤◌, ◌^◌, ◌++◌, List, [], ◌∷◌, Option, Some, None, Result, Ok, Err, length, map, refl, sym, ap, ap₂, ◌∙◌, subst, inl, inr, arith, lit<}
 use Rattle.std.specs.List.{AllByRecursion, flat_map, range_with_len}
 use Rattle.std.specs.List.Sorted.{IsStrictlySortedBy}
 use Rattle.std.specs.Ordering.{nat_cmp}
@@ -8,9 +8,7 @@ use Rattle.std.proofs.lemmas.Cmp.{nat_cmp_total, tied_itself}
 use Rattle.list_lemmas.proofs.Members.{In, all_from_in, all_in, from_map, in_map, from_flat}
 use Rattle.mo_types.specs.Keys.{compare_files}
 use Rattle.mo_types.specs.Kind.{kind_of}
-use Rattle.mo_types.specs.Gives.{◌>>=◌}
-use Rattle.mo_types.specs.declared.answer.Refusal.TheVariants as refusal
-use Rattle.mo_types.specs.declared.cause.Feature.TheVariants.{Bitcode, Later}
+use Rattle.mo_types.specs.declared.cause.Feature.TheVariants.{Bitcode}
 use Rattle.mo_types.specs.declared.key.FileId.{FileId}
 use Rattle.mo_types.specs.declared.kind.Kind.{Kind}
 use Rattle.mo_types.specs.declared.kind.Kind.TheVariants as kind
@@ -21,11 +19,8 @@ use Rattle.mo_ar.specs.Archive.{archive_of}
 use Rattle.mo_ar.specs.declared.archive.Archive.{Archive}
 use Rattle.mo_ar.proofs.LawLemmas.{archive_there}
 use Rattle.mo_obj.specs.Object.{object_of}
-use Rattle.input_files.specs.Files.{all_ids, archive_as, archive_in, content_of, fault_of, file_of, file_with, id_at, ids_as, ids_in, in_form, object_read, read_as, read_by}
-use Rattle.input_files.specs.Form.{is_later}
+use Rattle.input_files.specs.Files.{all_ids, archive_as, archive_in, content_of, fault_of, file_of, file_with, id_at, ids_as, ids_in, object_read, read_as, read_by}
 use Rattle.input_files.specs.Sources.{AreInOrder}
-use Rattle.input_files.specs.declared.fault.LoadFault.{LoadFault}
-use Rattle.input_files.specs.declared.fault.LoadFault.TheVariants as rounds
 use Rattle.input_files.specs.declared.input.Input.{Input}
 
 -- ---- archives
@@ -56,26 +51,14 @@ read_id kind.MachO id label bytes file is = object_id id label (object_of bytes)
 read_id (kind.Refused Bitcode) id label bytes file is = absurd (cc)
 read_id _ id label bytes file is = absurd (cc)
 
--- what has the form that is linked is the file
-pub form_kept : (read : LoadedFile) (file : LoadedFile) → in_form read ≡ Ok file → (read ≡ file) × (is_later file ≡ false)
-form_kept read file is = by (is_later read) refl is
-  where
-    by : (b : Bool) → is_later read ≡ b → (if b then Err (rounds.Refused (refusal.Unsupported read.label Later)) else Ok read) ≡ Ok file → (read ≡ file) × (is_later file ≡ false)
-    by true e h = absurd (let s : Err (rounds.Refused (refusal.Unsupported read.label Later)) ≡ Ok file = h in cc)
-    by false e h = let same : read ≡ file = (let s : Ok read ≡ Ok file = h in cc) in (same, ap is_later (sym same) ∙ e)
-
--- what was read before its form was asked
-pub read_formed : (id : FileId) (label bytes : List ℕ) (file : LoadedFile) → read_as id label bytes ≡ Ok file → (read_by (kind_of bytes) id label bytes ≡ Ok file) × (is_later file ≡ false)
+-- what is read of a file's kind
+pub read_by_kind : (id : FileId) (label bytes : List ℕ) (file : LoadedFile) → read_as id label bytes ≡ Ok file → read_by (kind_of bytes) id label bytes ≡ Ok file
 unfolding read_as
-read_formed id label bytes file is = by (read_by (kind_of bytes) id label bytes) refl is
-  where
-    by : (r : Result LoadedFile LoadFault) → read_by (kind_of bytes) id label bytes ≡ r → (r >>= in_form) ≡ Ok file → (read_by (kind_of bytes) id label bytes ≡ Ok file) × (is_later file ≡ false)
-    by (Err e) r h = absurd (let s : Err e ≡ Ok file = h in cc)
-    by (Ok read) r h = let so = form_kept read file h in (r ∙ ap Ok so.0, so.1)
+read_by_kind id label bytes file is = is
 
 pub id_kept : (inputs : List Input) (id : FileId) (file : LoadedFile) → file_of inputs id ≡ Ok file → file.id ≡ id
 unfolding file_of
-id_kept inputs id file is = read_id (kind_of (content_of inputs id).bytes) id (content_of inputs id).label (content_of inputs id).bytes file (read_formed id (content_of inputs id).label (content_of inputs id).bytes file is).0
+id_kept inputs id file is = read_id (kind_of (content_of inputs id).bytes) id (content_of inputs id).label (content_of inputs id).bytes file (read_by_kind id (content_of inputs id).label (content_of inputs id).bytes file is)
 
 -- ---- ids
 

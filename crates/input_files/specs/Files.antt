@@ -4,12 +4,11 @@ use Rattle.std.specs.Prelude.{ℕ, ◌≡◌, ◌≤◌, ◌-◌, ◌++◌, ◌=
 use Rattle.std.specs.List.{flat_map, list_any, range_with_len}
 use Rattle.std.specs.Result.{result_ok}
 use Rattle.mo_types.specs.Atoms.{atoms_of}
-use Rattle.mo_types.specs.Gives.{◌>>=◌}
 use Rattle.mo_types.specs.Kind.{kind_of}
 use Rattle.mo_types.specs.Refs.{refs_of}
 use Rattle.mo_types.specs.Scan.{first_some}
 use Rattle.mo_types.specs.declared.answer.Refusal.TheVariants as refusal
-use Rattle.mo_types.specs.declared.cause.Feature.TheVariants.{Bitcode, Later}
+use Rattle.mo_types.specs.declared.cause.Feature.TheVariants.{Bitcode}
 use Rattle.mo_types.specs.declared.cause.Rule.TheVariants.{NotAnInput}
 use Rattle.mo_types.specs.declared.key.FileId.{FileId}
 use Rattle.mo_types.specs.declared.kind.Kind.{Kind}
@@ -25,7 +24,6 @@ use Rattle.mo_ar.specs.declared.member.Member.{Member}
 use Rattle.mo_obj.specs.Object.{object_of}
 use Rattle.reader_laws.specs.Facts.{IsLowCommon}
 use Rattle.unwind_read.specs.Unwinds.{unwinds_of}
-use Rattle.input_files.specs.Form.{is_later}
 use Rattle.input_files.specs.declared.fault.LoadFault.{LoadFault}
 use Rattle.input_files.specs.declared.fault.LoadFault.TheVariants as rounds
 use Rattle.input_files.specs.declared.input.Input.{Input}
@@ -112,13 +110,10 @@ read_by kind.MachO id label bytes = object_read id label (object_of bytes)
 read_by (kind.Refused Bitcode) id label bytes = Err (rounds.Refused (refusal.Unsupported label Bitcode))
 read_by _ id label bytes = Err (rounds.Refused (refusal.Malformed label 0 NotAnInput))
 
-abbrev pub in_form : LoadedFile → Result LoadedFile LoadFault
-in_form file = if is_later file then Err (rounds.Refused (refusal.Unsupported file.label Later)) else Ok file
-
--- bytes as a file of the link, or the first of these that stands: another kind of file, a rule that the object breaks or a
--- feature that the linker doesn't have, a form that comes with a later version
+-- bytes as a file of the link, or the first of these that stands: another kind of file, a rule that the object breaks, or a
+-- feature that the linker doesn't have
 unfoldable pub read_as : FileId → List ℕ → List ℕ → Result LoadedFile LoadFault
-read_as id label bytes = read_by (kind_of bytes) id label bytes >>= in_form
+read_as id label bytes = read_by (kind_of bytes) id label bytes
 
 -- a file of the inputs as it is loaded, or its first fault
 unfoldable pub file_of : List Input → FileId → Result LoadedFile LoadFault

@@ -1,6 +1,5 @@
 pub mod Collected
 pub mod Files
-pub mod Form
 pub mod Inputs
 pub mod Sources
 pub mod inner

@@ -9,20 +9,18 @@
 //!
 //! `read_file` reads a file as the link loads it, whole, with its atoms and references, or answers exactly the first
 //! fault of the definition (`read_as`): another kind of file, a rule that the object breaks or a feature that isn't
-//! there, or a form that comes with a later version. `is_later` tells that form (`specs/Form.antt`). A `LoadFault` is
-//! a refusal or want of memory. `collect` joins what pieces of work brought, in their order, or answers the fault of
-//! the first that has one (`specs/Collected.antt`).
+//! there. A `LoadFault` is a refusal or want of memory. `collect` joins what pieces of work brought, in their order, or
+//! answers the fault of the first that has one (`specs/Collected.antt`).
 //!
 //! Inputs are to stand by rising positions (`AreInOrder`, in `specs/Sources.antt`). The contracts refuse a body that
 //! takes an archive for a forced one only where it is the first input, one that reads the member behind, and one that
-//! loads a form of a later version.
+//! takes bitcode for a stub.
 #![tactic(auto)]
 
 mod all_files;
 mod collecting;
 mod contents;
 mod fault;
-mod form;
 mod input;
 mod inputs;
 mod reading;
@@ -32,7 +30,6 @@ pub use all_files::{all_ids, first_ids};
 pub use collecting::collect;
 pub use contents::{Held, content_of};
 pub use fault::LoadFault;
-pub use form::is_later;
 pub use input::{Input, InputList};
 pub use inputs::{Inputs, SourceList};
 pub use reading::read_file;

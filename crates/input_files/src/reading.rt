@@ -9,7 +9,6 @@ ghost use Rattle.input_files.specs.Files as files;
 ghost use Rattle.input_files.specs.Files.{HasUnwinds, IsLoadFault};
 
 use crate::fault::LoadFault;
-use crate::form::is_later;
 use mo_obj::{LinkObject, read_for_link};
 use mo_types::{Bytes, Feature, FileId, Kind, LoadedFile, ObjFault, Refusal, Rule, kind_of};
 use std::alloc::Global;
@@ -67,15 +66,18 @@ fn read_object(
     }
 }
 
-// Reads a file as what its first bytes tell.
-fn read_kind(
+/// Reads a file, an object or an archive's member, as the link loads it: whole, with its atoms, references and unwind
+/// entries; or tells the first of these that stands, under its label: another kind of file than a Mach-O file, LLVM's
+/// bitcode as a feature; a rule that the object breaks, or a feature that the linker doesn't have.
+#[tactic(auto, unfolding(crate::specs::Files::read_as))]
+pub fn read_file(
     alloc: Global,
     id: FileId,
     label: Bytes,
     bytes: &Bytes,
 ) -> Result<LoadedFile, LoadFault>
     requires member { id.member < 2 ^ 20 }
-    ensures exact { Gives IsLoadFault result (files.read_by (kinds.kind_of bytes.now) id label bytes.now) }
+    ensures exact { Gives IsLoadFault result (files.read_as id label bytes.now) }
     ensures whole { IfOk result IsWholeFile }
     ensures unwinds { IfOk result HasUnwinds }
 {
@@ -91,42 +93,4 @@ fn read_kind(
             rule: Rule::NotAnInput,
         })),
     }
-}
-
-// A file, where it has the form that is linked.
-fn in_form(file: LoadedFile) -> Result<LoadedFile, LoadFault>
-    requires whole { IsWholeFile file }
-    requires unwinds { HasUnwinds file }
-    ensures exact { result ≡ files.in_form file }
-    ensures whole { IfOk result IsWholeFile }
-    ensures unwinds { IfOk result HasUnwinds }
-{
-    if is_later(&file) {
-        let LoadedFile { label, .. } = file;
-        return Err(LoadFault::Refused(Refusal::Unsupported {
-            file: label,
-            feature: Feature::Later,
-        }));
-    }
-    Ok(file)
-}
-
-/// Reads a file, an object or an archive's member, as the link loads it: whole, with its atoms, references and unwind
-/// entries; or tells the first of these that stands, under its label: another kind of file than a Mach-O file, LLVM's
-/// bitcode as a feature; a rule that the object breaks, or a feature that the linker doesn't have; a form that comes with
-/// a later version.
-#[tactic(auto, unfolding(crate::specs::Files::read_as))]
-pub fn read_file(
-    alloc: Global,
-    id: FileId,
-    label: Bytes,
-    bytes: &Bytes,
-) -> Result<LoadedFile, LoadFault>
-    requires member { id.member < 2 ^ 20 }
-    ensures exact { Gives IsLoadFault result (files.read_as id label bytes.now) }
-    ensures whole { IfOk result IsWholeFile }
-    ensures unwinds { IfOk result HasUnwinds }
-{
-    let file = read_kind(alloc, id, label, bytes)?;
-    in_form(file)
 }

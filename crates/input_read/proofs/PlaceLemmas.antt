@@ -32,8 +32,7 @@ use Rattle.tbd_doc.specs.declared.fault.StubFault.{StubFault}
 use Rattle.tbd_doc.specs.declared.fault.StubFault.TheVariants as stub
 use Rattle.tbd_doc.specs.declared.stub.StubFile.{StubFile}
 use Rattle.lib_bind.specs.Reexported.{IsFileFault, of_stub, of_text, stub_text, stubs_of, text_of, told}
-use Rattle.input_files.specs.Files.{archive_in as archive_held, IsLoadFault, id_at, in_form, object_read, read_as, read_by}
-use Rattle.input_files.specs.Form.{is_later}
+use Rattle.input_files.specs.Files.{archive_in as archive_held, IsLoadFault, id_at, object_read, read_as, read_by}
 use Rattle.input_files.specs.declared.fault.LoadFault.{LoadFault}
 use Rattle.input_files.specs.declared.fault.LoadFault.TheVariants as load
 use Rattle.input_files.specs.declared.input.Input.{Input}
@@ -42,7 +41,7 @@ use Rattle.input_read.specs.Sound.{AreDocuments}
 use Rattle.input_read.specs.declared.opening.Opening.{Opening}
 use Rattle.input_read.specs.declared.opening.Opening.TheVariants as opening
 use Rattle.input_read.proofs.ArchiveLemmas.{archive_faulty}
-use Rattle.input_read.proofs.FaultLemmas.{either, then_real}
+use Rattle.input_read.proofs.FaultLemmas.{then_real}
 use Rattle.input_read.proofs.SoundLemmas.{archive_sound, no_archive, stub_sound}
 use Rattle.input_read.proofs.TextLemmas.{file_faulty, stubs_faulty}
 
@@ -104,7 +103,7 @@ by_kind id label bytes (kind.Refused what) = by_feature id label bytes what
 
 pub read_faulty : (id : FileId) (label bytes : List ℕ) → IfErr (read_as id label bytes) IsLoadFault
 unfolding read_as
-read_faulty id label bytes = then_real IsLoadFault (read_by (kind_of bytes) id label bytes) in_form (by_kind id label bytes (kind_of bytes)) (λ file. either IsLoadFault (is_later file) _ (Ok file) tt tt)
+read_faulty id label bytes = by_kind id label bytes (kind_of bytes)
 
 object_fine : (input : Input) → kind_of input.bytes ≡ kind.MachO → Fine input.position (opened_object input)
 unfolding opened_object

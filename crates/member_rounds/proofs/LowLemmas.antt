@@ -27,7 +27,7 @@ use Rattle.mo_obj.specs.Commands.{commands_of, frame_of}
 use Rattle.mo_obj.specs.Entries.{entries_of}
 use Rattle.mo_obj.specs.Header.{header_of}
 use Rattle.mo_obj.specs.Object.{accepted, checked_sections, described, lacks, object_of}
-use Rattle.mo_obj.specs.Sections.{each_keeps, has_broken_literals, has_relocs_outside, headers_of, is_outside, sections_of}
+use Rattle.mo_obj.specs.Sections.{each_keeps, has_broken_literals, has_relocs_outside, headers_of, is_outside}
 use Rattle.mo_obj.specs.Symbols.{symbols_of, symtab_of}
 use Rattle.mo_obj.specs.declared.commands.Frame.{Frame}
 use Rattle.mo_obj.proofs.ReadLemmas.{count_sections, few_sections}
@@ -35,7 +35,7 @@ use Rattle.lib_bind.proofs.TextLemmas.{then_holds}
 use Rattle.mo_obj.specs.Relocations.{relocations_of}
 use Rattle.input_files.specs.Files.{IsLow, content_of, fault_of, file_of, file_with, object_read, read_as, read_by}
 use Rattle.input_files.specs.declared.input.Input.{Input}
-use Rattle.input_files.proofs.FileLemmas.{read_formed}
+use Rattle.input_files.proofs.FileLemmas.{read_by_kind}
 use Rattle.input_files.proofs.EachLemmas.{all_from}
 use Rattle.reader_laws.proofs.Commons.{low_commons}
 use Rattle.reader_laws.proofs.Steps.{passed}
@@ -181,7 +181,7 @@ module _ (id : FileId) (label bytes : List ℕ) (file : LoadedFile) where
   from_kind _ is = absurd (cc)
 
   pub from_read : read_as id label bytes ≡ Ok file → IsObjectOf id label bytes file
-  from_read is = from_kind (kind_of bytes) (read_formed id label bytes file is).0
+  from_read is = from_kind (kind_of bytes) (read_by_kind id label bytes file is)
 
   pub low_file : read_as id label bytes ≡ Ok file → IsLow file
   low_file is =
