@@ -20,7 +20,7 @@ cd "$folder"
 objects=()
 for file in main.c numbers.c shared.c shapes.cpp; do
     "$clang" -target arm64-apple-macos11 -O1 -fcommon -stdlib=libc++ -Wno-unused-command-line-argument \
-        -fno-unwind-tables -fno-asynchronous-unwind-tables -fno-exceptions -c "$file" -o "${file%.*}.o"
+        -fno-exceptions -c "$file" -o "${file%.*}.o"
     objects+=("${file%.*}.o")
 done
 "$program" -o image "${objects[@]}" libSystem.tbd libc++.tbd

@@ -15,7 +15,7 @@ folder=$(mktemp -d)
 trap 'rm -rf "$folder"' EXIT
 cd "$folder"
 compile() {
-    "$clang" -target arm64-apple-macos11 -O1 -fno-unwind-tables -fno-asynchronous-unwind-tables "$@"
+    "$clang" -target arm64-apple-macos11 -O1 "$@"
 }
 for file in main numbers operate; do
     compile -c "$examples/several/$file.c" -o "$file.o"
@@ -59,6 +59,11 @@ def read(path):
                 symbols.append((file[names + name : file.index(b"\0", names + name)], kind, section, value))
         at += size
     return sections, symbols
+
+
+def linked(sections):
+    """The sections that stand in an image, with their numbers; one of segment __LD tells the linker of others."""
+    return [(number, section) for number, section in enumerate(sections, 1) if section["name"][0] != b"__LD"]
 
 
 def starts_of(symbols, number, section):
@@ -127,7 +132,7 @@ def check(path, names):
     objects = [read(name) for name in names]
     places, external = {}, {}
     for name, (sections, symbols) in zip(names, objects):
-        for number, section in enumerate(sections, 1):
+        for number, section in linked(sections):
             fields, _ = fields_of(section)
             starts = starts_of(symbols, number, section)
             for start, end in zip(starts, starts[1:] + [section["address"] + section["size"]]):
@@ -139,7 +144,7 @@ def check(path, names):
                             external[symbol] = place
     counts = {}
     for name, (sections, symbols) in zip(names, objects):
-        for number, section in enumerate(sections, 1):
+        for number, section in linked(sections):
             starts = starts_of(symbols, number, section)
             for place, kind, target, first in fields_of(section)[1]:
                 start = max(s for s in starts if s <= section["address"] + place)
@@ -198,7 +203,7 @@ def page_fields(objects, places):
     found = set()
     for name in objects:
         sections, symbols = read(name)
-        for number, section in enumerate(sections, 1):
+        for number, section in linked(sections):
             starts = starts_of(symbols, number, section)
             for place, kind, _, _ in fields_of(section)[1]:
                 if kind in (PAGE21, PAGEOFF12):

@@ -16,8 +16,7 @@ folder=$(mktemp -d)
 trap 'rm -rf "$folder"' EXIT
 cd "$folder"
 for file in main first second third unasked; do
-    "$clang" -target arm64-apple-macos11 -O1 -fno-unwind-tables -fno-asynchronous-unwind-tables \
-        -c "$examples/libraries/$file.c" -o "$file.o"
+    "$clang" -target arm64-apple-macos11 -O1 -c "$examples/libraries/$file.c" -o "$file.o"
 done
 "$clang" -target x86_64-apple-macos11 -O1 -c "$examples/libraries/third.c" -o other.o
 mkdir lib

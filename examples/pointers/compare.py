@@ -104,6 +104,9 @@ def atoms_of(path):
              for name, symbol in zip(names, symbols) if not symbol.section and symbol.value]
     parts = []
     for number, section in enumerate(sections, 1):
+        if section.name == "__compact_unwind":
+            # what it tells isn't compared here
+            continue
         inside = sorted((symbol.value - section.address, not symbol.name.startswith("ltmp"), at)
                         for at, symbol in enumerate(symbols) if symbol.section == number)
         # where the assembler's own name of a section stands beside another one, both mean the latter
