@@ -1,11 +1,10 @@
 -- What is read of the commands.
-use Rattle.std.proofs.Common.{◌≡◌, ℕ, zero, suc, ◌+◌, ◌-◌, ◌<◌, ◌≤◌, Bool, true, false, List, [], ◌∷◌, ◌++◌, length, take, drop, filter, map, get_or, refl, sym, ap, ◌∙◌, arith, Option, Some, None, append-nil, append_assoc}
-use Rattle.std.specs.Option.{option_map, option_and_then}
+use Rattle.std.proofs.Common.{◌≡◌, ℕ, ◌+◌, ◌-◌, ◌<◌, ◌≤◌, true, false, List, [], ◌∷◌, ◌++◌, length, take, drop, get_or, refl, sym, ap, ◌∙◌, Option, append-nil, append_assoc}
+use Rattle.std.specs.Option.{option_map}
 use Rattle.std.proofs.lemmas.List.{take_rest, drop_all, drop_more}
 use Rattle.mo_strings.specs.Strings.{string_at, first_nul}
 use Rattle.mo_strings.proofs.SearchLemmas.{string_past}
-use Rattle.dylib_read.specs.Commands.{command_at, field, size_at}
-use Rattle.dylib_read.specs.Head.{as_text, is_reexport, name_at, name_of, reexports_of}
+use Rattle.dylib_read.specs.Head.{is_reexport, name_at, reexports_of}
 use Rattle.std.proofs.lemmas.Bool.{false_from_ne_true}
 use Rattle.std.proofs.lemmas.Str.{is_utf8-from_IsUtf8, IsUtf8-from_is_utf8}
 use Rattle.std.specs.Str.{IsUtf8, is_utf8}

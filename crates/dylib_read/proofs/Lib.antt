@@ -1,2 +1,11 @@
 pub mod WalkLemmas
 pub mod HeadLemmas
+pub mod TrieNodeLemmas
+pub mod TrieWalkLemmas
+pub mod DylibLemmas
+pub mod BoundLemmas
+pub mod TrieNameLemmas
+pub mod PathLemmas
+pub mod TrieLemmas
+pub mod OwnLemmas
+pub mod EdgeLemmas

@@ -62,7 +62,7 @@ cut_there bytes at size count is few =
     ap (λ n. take n (take (length bytes - at) (drop at bytes))) few
     ∙ (take_min size (take (length bytes - at) (drop at bytes)) ∙ (ap (take size) rest ∙ ap (λ n. take n (drop at bytes)) is))
 
-take_nothing : (n : ℕ) → ◌≡◌ {A = List ℕ} [] (take n [])
+pub take_nothing : (n : ℕ) → ◌≡◌ {A = List ℕ} [] (take n [])
 take_nothing zero = refl
 take_nothing (suc n) = refl
 

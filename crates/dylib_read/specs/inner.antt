@@ -1,0 +1,2 @@
+pub mod TrieLinks
+pub mod TrieExports
