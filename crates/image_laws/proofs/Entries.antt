@@ -32,9 +32,9 @@ use Rattle.image_make.specs.Made.{IsLaid, ImageInputs, scene_of}
 use Rattle.image_make.proofs.RoomLemmas.{counts}
 use Rattle.image_laws.specs.Means.{AreRising, Imaged, IsGoalAt}
 use Rattle.image_laws.specs.References.{AreFillable}
-use Rattle.image_laws.specs.Unwinding.{AreUnwindable, IsDataAt, IsEntryServed, IsHandlerAt, IsInNoFunction, TellsEntry, TellsUnwinding}
+use Rattle.image_laws.specs.Unwinding.{AreUnwindable, IsDataAt, IsEntryServed, IsHandlerAt, IsInNoFunction, TellsEntry, TellsUnwinding, data_flag}
 use Rattle.image_laws.proofs.EntryPlaces.{data_stands, function_stands}
-use Rattle.image_laws.proofs.Goals.{goal_same, way_above}
+use Rattle.image_laws.proofs.Goals.{goal_same, place_behind, way_above}
 use Rattle.image_laws.proofs.Layouts.{held_in_layout, is_plan, own_in}
 use Rattle.image_laws.proofs.Stubbing.{slot_held}
 use Rattle.image_laws.proofs.Units.{unit_found, unit_there}
@@ -95,6 +95,21 @@ unfolding output_encoding
 own_bits slots row few =
     let low = number_low slots row.personality in
     bits_by row.encoding (personality_number slots row.personality) row.lsda (row.lsda == 0) refl (omega (arith, low, few))
+
+flag_by : (n number lsda : ℕ) (none : Bool) → (lsda == 0) ≡ none → number ≤ 3 → data_flag (bit_and n 0x8fffffff + 0x10000000 * number + lsda_bit lsda) ≡ (if none then 0 else 1)
+flag_by n number lsda true e few =
+    let own = masked n in
+    rw e (elim (one_bit (n / 2 ^ 28)) [ inl low ↦ omega (arith, own, low, few) | inr high ↦ omega (arith, own, high, few) ])
+flag_by n number lsda false e few =
+    let own = masked n in
+    rw e (elim (one_bit (n / 2 ^ 28)) [ inl low ↦ omega (arith, own, low, few) | inr high ↦ omega (arith, own, high, few) ])
+
+-- UNWIND_HAS_LSDA is set where there are data
+flag_is : (slots : List ℕ) (row : UnwindRow) → length slots ≤ 3 → data_flag (output_encoding slots row) ≡ (if row.lsda == 0 then 0 else 1)
+unfolding output_encoding
+flag_is slots row few =
+    let low = number_low slots row.personality in
+    flag_by row.encoding (personality_number slots row.personality) row.lsda (row.lsda == 0) refl (omega (arith, low, few))
 
 -- ---- places
 
@@ -170,6 +185,21 @@ data_at : (m : ImageInputs) (image : List ℕ) (of : Imaged m image) (lsda : Opt
 data_at m image of None rising some = refl
 data_at m image of (Some place) rising some = place_goal m image of place.0 place.1 rising some
 
+-- language-specific data stand behind the header
+flagged : (m : ImageInputs) (image : List ℕ) (of : Imaged m image) (lsda : Option (AtomKey × ℕ)) (offset : ℕ) → IfSome lsda (λ (place : AtomKey × ℕ). IsSome (place_address of.layout.placed place.0 place.1)) → offset ≡ option_map_or (λ (place : AtomKey × ℕ). place_offset (scene_of m of.layout) place.0 place.1) lsda 0
+    → ◌≡◌ {A = ℕ} (if offset == 0 then 0 else 1) (option_map_or (λ (place : AtomKey × ℕ). 1) lsda 0)
+flagged m image of None offset some e = rw e refl
+flagged m image of (Some place) offset some e = by (place_address of.layout.placed place.0 place.1) refl some
+  where
+    by : (found : Option ℕ) → place_address of.layout.placed place.0 place.1 ≡ found → IsSome found → ◌≡◌ {A = ℕ} (if offset == 0 then 0 else 1) 1
+    by None at none = absurd (false≢true none)
+    by (Some address) at has =
+        let far : place_offset (scene_of m of.layout) place.0 place.1 ≡ address - base_of m.command = place_far (scene_of m of.layout) place.0 place.1 address at in
+        let behind = place_behind m of.layout place.0 place.1 address of.is_image.laid at in
+        let same : offset ≡ place_offset (scene_of m of.layout) place.0 place.1 = e in
+        let away : (offset == 0) ≡ false = ne_eqb offset 0 (λ none. omega (arith, none, same, far, behind)) in
+        rw away refl
+
 -- a number that isn't 0 is named
 named_some : (slot : ℕ) (found : Option ℕ) → 0 < slot → found ≡ (if slot == 0 then None else Some slot) → found ≡ Some slot
 named_some slot found some is =
@@ -202,6 +232,7 @@ told_entry m image of entry able fillable told there served = record {
   lsda = row.lsda;
   found = λ k low. (let end : row.end ≡ row.function + entry.unwind.length = row_end scene entry in told.finds row (row.function + k) listed (omega arith) (omega (arith, low, end)));
   own = own_bits slots row told.few ∙ ap (λ (n : ℕ). bit_and n 0x8fffffff) (row_encoding scene entry);
+  flag = flag_is slots row told.few ∙ flagged m image of entry.unwind.lsda row.lsda (data_stands m of.layout entry able of.is_image.laid there served.lsda) (row_lsda scene entry);
   lsda_at = subst (IsDataAt m of.layout image entry.unwind.lsda) (sym (row_lsda scene entry)) (data_at m image of entry.unwind.lsda able.rising (data_stands m of.layout entry able of.is_image.laid there served.lsda));
   handler = handler_at m image of entry.file entry.unwind.personality (personality_at m.info (output_encoding slots row)) row.personality able.whole.files able.rising fillable served.handler (row_personality scene entry) (told.names row listed);
 }

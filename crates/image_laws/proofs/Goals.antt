@@ -1,6 +1,6 @@
 -- Where goals stand in an image: what the loader finds is what was written.
-use Rattle.std.proofs.Common.{◌≡◌, ℕ, ◌+◌, ◌≤◌, Bool, true, List, Option, Some, None, refl, sym, ap, ◌∙◌, arith, subst, if◌then◌else◌}
-use Rattle.std.specs.List.{find}
+use Rattle.std.proofs.Common.{◌≡◌, ℕ, ◌+◌, ◌<◌, ◌≤◌, Bool, true, List, [], ◌∷◌, ◌++◌, Option, Some, None, refl, sym, ap, ◌∙◌, arith, subst, if◌then◌else◌}
+use Rattle.std.specs.List.{AllByRecursion, find}
 use Rattle.std.specs.Option.{option_map}
 use Rattle.std.specs.Ordering.{is_eq}
 use Rattle.std.proofs.lemmas.List.Sorted.{Contains-permutation, IsPermutation-sym}
@@ -8,11 +8,14 @@ use Rattle.list_lemmas.proofs.Members.{Contains_from_in, In, all_in, find_some, 
 use Rattle.mo_format.specs.declared.segment.SegmentCommand.{SegmentCommand}
 use Rattle.mo_types.specs.Keys.{compare_keys}
 use Rattle.mo_types.specs.Scan.{first_some}
+use Rattle.mo_types.specs.declared.atom.Atom.{Atom}
 use Rattle.mo_types.specs.declared.goal.Goal.{Goal}
 use Rattle.mo_types.specs.declared.goal.Goal.TheVariants.{Def, WeakSelf, Header, Import, Flat, Nobody}
 use Rattle.mo_types.specs.declared.key.AtomKey.{AtomKey}
 use Rattle.patch.proofs.ChosenLemmas.{some_is}
 use Rattle.sect_place.specs.Layout as layouts
+use Rattle.sect_place.specs.Places.{groups_places, page_up, parts_end, parts_places}
+use Rattle.sect_place.specs.declared.part.Group.{Group}
 use Rattle.sect_place.specs.declared.layout.Layout.{Layout}
 use Rattle.sect_place.specs.declared.layout.Placed.{Placed}
 use Rattle.sect_place.specs.declared.layout.Segment.{Segment}
@@ -71,38 +74,56 @@ goal_same m image of (Import name ordinal by_weak optional) rising = refl
 goal_same m image of (Flat name) rising = refl
 goal_same m image of Nobody rising = refl
 
--- ---- none stands before the image
+-- ---- none stands before the image, and no atom stands where its header does
 
-placed_above : (m : ImageInputs) (layout : Layout) (p : Placed) → IsLaid m layout → In p layout.placed → layouts.base_of m.command ≤ p.address
-placed_above m layout p laid h =
+-- what stands behind the load commands stands as in an image that begins behind them
+places_same : (atoms : List AtomKey → List Atom) (at lead : ℕ) (groups : List Group) → groups_places atoms (at + lead) 0 groups ≡ groups_places atoms at lead groups
+unfolding groups_places
+places_same atoms at lead [] = refl
+places_same atoms at lead (group ∷ groups) =
+    let here : at + lead + 0 ≡ at + lead = omega arith in
+    ap (λ (n : ℕ). parts_places atoms n group.parts ++ groups_places atoms (page_up (parts_end atoms n group.parts)) 0 groups) here
+
+all_behind : (plan : layouts.Plan) → AllByRecursion (λ (p : Placed). plan.base + plan.lead ≤ p.address) (layouts.image_places plan)
+unfolding layouts.image_places
+all_behind plan =
+    let moved : layouts.Plan = record { atoms = plan.atoms; groups = plan.groups; base = plan.base + plan.lead; lead = 0 } in
+    subst (AllByRecursion (λ (p : Placed). plan.base + plan.lead ≤ p.address)) (places_same plan.atoms plan.base plan.lead plan.groups) (all_above moved)
+
+placed_behind : (m : ImageInputs) (layout : Layout) (p : Placed) → IsLaid m layout → In p layout.placed → layouts.base_of m.command < p.address
+placed_behind m layout p laid h =
     let plan = plan_for m in
     let there : In p (layouts.image_places plan) = in_from_Contains (layouts.image_places plan) p (Contains-permutation layout.placed (layouts.image_places plan) p (IsPermutation-sym (layouts.image_places plan) layout.placed laid.layout_of.places) (Contains_from_in layout.placed p h)) in
-    let above = all_in (λ (q : Placed). plan.base ≤ q.address) (layouts.image_places plan) p (all_above plan) there in
+    let behind = all_in (λ (q : Placed). plan.base + plan.lead ≤ q.address) (layouts.image_places plan) p (all_behind plan) there in
     let base = (is_plan m layout laid).base in
-    omega arith
+    let room = (is_plan m layout laid).room in
+    omega (arith, behind, base, room)
 
-atom_above : (m : ImageInputs) (layout : Layout) (key : AtomKey) (start : ℕ) → IsLaid m layout → address_in layout.placed key ≡ Some start → layouts.base_of m.command ≤ start
+atom_behind : (m : ImageInputs) (layout : Layout) (key : AtomKey) (start : ℕ) → IsLaid m layout → address_in layout.placed key ≡ Some start → layouts.base_of m.command < start
 unfolding address_in
-atom_above m layout key start laid e = by (find test layout.placed) refl e
+atom_behind m layout key start laid e = by (find test layout.placed) refl e
   where
     test : Placed → Bool
     test q = is_eq (compare_keys q.atom key)
 
-    by : (found : Option Placed) → find test layout.placed ≡ found → option_map (λ (p : Placed). p.address) found ≡ Some start → layouts.base_of m.command ≤ start
+    by : (found : Option Placed) → find test layout.placed ≡ found → option_map (λ (p : Placed). p.address) found ≡ Some start → layouts.base_of m.command < start
     by None found same = absurd cc
     by (Some p) found same =
         let there = find_some test layout.placed p found in
-        subst (λ (n : ℕ). layouts.base_of m.command ≤ n) (some_is p.address start same) (placed_above m layout p laid there.0)
+        subst (λ (n : ℕ). layouts.base_of m.command < n) (some_is p.address start same) (placed_behind m layout p laid there.0)
 
-place_above : (m : ImageInputs) (layout : Layout) (key : AtomKey) (offset address : ℕ) → IsLaid m layout → work.place_address layout.placed key offset ≡ Some address → layouts.base_of m.command ≤ address
-place_above m layout key offset address laid e = by (address_in layout.placed key) refl e
+pub place_behind : (m : ImageInputs) (layout : Layout) (key : AtomKey) (offset address : ℕ) → IsLaid m layout → work.place_address layout.placed key offset ≡ Some address → layouts.base_of m.command < address
+place_behind m layout key offset address laid e = by (address_in layout.placed key) refl e
   where
-    by : (found : Option ℕ) → address_in layout.placed key ≡ found → option_map (λ (start : ℕ). start + offset) found ≡ Some address → layouts.base_of m.command ≤ address
+    by : (found : Option ℕ) → address_in layout.placed key ≡ found → option_map (λ (start : ℕ). start + offset) found ≡ Some address → layouts.base_of m.command < address
     by None stood same = absurd cc
     by (Some start) stood same =
-        let above = atom_above m layout key start laid stood in
+        let behind = atom_behind m layout key start laid stood in
         let one : start + offset ≡ address = some_is (start + offset) address same in
         omega arith
+
+place_above : (m : ImageInputs) (layout : Layout) (key : AtomKey) (offset address : ℕ) → IsLaid m layout → work.place_address layout.placed key offset ≡ Some address → layouts.base_of m.command ≤ address
+place_above m layout key offset address laid e = let behind = place_behind m layout key offset address laid e in omega (arith, behind)
 
 goal_above : (m : ImageInputs) (layout : Layout) (goal : Goal) (address : ℕ) → IsLaid m layout → work.goal_address (layouts.base_of m.command) layout.placed goal ≡ Some address → layouts.base_of m.command ≤ address
 goal_above m layout (Def key offset) address laid e = place_above m layout key offset address laid e

@@ -1,5 +1,6 @@
 -- What an image that was made tells of the functions that can be unwound (`compact_unwind_encoding.h`).
-use Rattle.std.specs.Prelude.{ℕ, ◌≡◌, ◌+◌, ◌<◌, ◌≤◌, bit_and, pos, true, List, length, Contains, IfSome, Option, Some, None}
+use Rattle.std.specs.Prelude.{ℕ, ◌≡◌, ◌+◌, ◌/◌, ◌%◌, ◌^◌, ◌<◌, ◌≤◌, bit_and, pos, true, List, length, Contains, IfSome, Option, Some, None}
+use Rattle.std.specs.Option.{option_map_or}
 use Rattle.field_laws.specs.Memory.{AreInMemory}
 use Rattle.field_laws.specs.Pointers.{addresses_of}
 use Rattle.image_make.specs.Atoms.{AreLow}
@@ -67,9 +68,13 @@ IsHandlerAt m layout image file None slot = slot ≡ None
 IsHandlerAt m layout image file (Some target) slot =
     (offset : ℕ) × (slot ≡ Some offset) × Held image (addresses_of layout.placed) (fixup_at image (base_of m.command + offset)) (goal_at m.literals m.goals file target) (pos 0)
 
+-- whether an encoding says that there are language-specific data (UNWIND_HAS_LSDA), by 1 and 0
+abbrev pub data_flag : ℕ → ℕ
+data_flag encoding = encoding / 2 ^ 30 % 2
+
 -- What `__unwind_info` says of an entry's function, by how far each of its places is from the image's first address: where
 -- the function begins, how it is unwound (all but the bits of UNWIND_HAS_LSDA and UNWIND_PERSONALITY_MASK are the entry's
--- own), its language-specific data, and its personality.
+-- own), whether it has language-specific data, which, and its personality.
 pub record TellsEntry (m : ImageInputs) (layout : Layout) (image : List ℕ) (entry : KeptUnwind) : Type 0 where
   pub start : ℕ
   pub function : IsGoalAt image layout (Def entry.unwind.atom entry.unwind.offset) (base_of m.command + start)
@@ -77,6 +82,7 @@ pub record TellsEntry (m : ImageInputs) (layout : Layout) (image : List ℕ) (en
   pub lsda : ℕ
   pub found : (k : ℕ) → k < entry.unwind.length → unwind m.info (start + k) ≡ Some (record { function = start; encoding = encoding; lsda = lsda })
   pub own : bit_and encoding 0x8fffffff ≡ bit_and entry.unwind.encoding 0x8fffffff
+  pub flag : data_flag encoding ≡ option_map_or (λ place. 1) entry.unwind.lsda 0
   pub lsda_at : IsDataAt m layout image entry.unwind.lsda lsda
   pub handler : IsHandlerAt m layout image entry.file entry.unwind.personality (personality_at m.info encoding)
 

@@ -13,7 +13,7 @@ use Rattle.link_engine.specs.Stop.{bind_fault_for, usage_fault_for}
 use Rattle.link_engine.specs.declared.plan.Plan.{Plan}
 use Rattle.link_engine.specs.declared.stop.Stop.{Stop}
 use Rattle.link_engine.proofs.FetchedLemmas.{fetched_bytes, inputs_bytes}
-use Rattle.link_engine.proofs.LoadedLemmas.{loaded_objects, loaded_unwinds, loaded_whole}
+use Rattle.link_engine.proofs.LoadedLemmas.{loaded_low, loaded_objects, loaded_unwinds, loaded_whole}
 use Rattle.link_engine.proofs.PartLemmas.{contents_bytes}
 use Rattle.link_files.specs.Names.{wanted}
 use Rattle.link_steps.proofs.StepLemmas.{mapped_value, told_value}
@@ -70,6 +70,7 @@ planned_named words look plan is = record {
   symbols = loaded_objects is.contents.inputs is.libs (wanted is.command) is.loaded is.read (λ (object : Object). All (λ symbol. HasNoNul symbol.name) object.symbols) no_nul_in_names;
   commons = loaded_objects is.contents.inputs is.libs (wanted is.command) is.loaded is.read (λ (object : Object). All IsCommonToAll object.symbols) commons_are_external;
   code = loaded_objects is.contents.inputs is.libs (wanted is.command) is.loaded is.read (λ (object : Object). All IsRegularCode object.sections) code_is_regular;
+  low = loaded_low is.contents.inputs is.libs (wanted is.command) is.loaded is.read;
   unwinds = loaded_unwinds is.contents.inputs is.libs (wanted is.command) is.loaded is.read;
   entry = planned_entry words look plan is;
   libraries = planned_libraries words look plan is;

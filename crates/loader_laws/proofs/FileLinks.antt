@@ -36,6 +36,7 @@ use Rattle.loader_laws.proofs.Seated.{one_in_memory, one_spread}
 use Rattle.loader_laws.proofs.Seats.{IsOfFiles, IsOne, kept_one, kept_size, one_of}
 use Rattle.loader_laws.proofs.Segmented.{one_in_segment}
 use Rattle.loader_laws.proofs.Spread.{IsSpread, stand_apart}
+use Rattle.loader_laws.proofs.Unwound.{image_unwinds}
 
 -- the pieces of whole files are those of their objects, which have few sections
 are_cut : (files : List LoadedFile) → AreWhole files → AreCut files
@@ -110,6 +111,7 @@ image_links command libs files image ordered whole named is =
       references = kept_reference_tells command libs files image is ordered whole named;
       entry = entry_begins command libs files image is ordered whole named;
       filled = all_filled command libs files image is ordered whole named;
+      unwound = image_unwinds command libs files image is ordered whole named;
     }
 
 pub files_link : (command : Command) (libs : LibraryGraph) (files : List LoadedFile) (image : List ℕ) → AreOrdered files → AreWhole files → AreNamed command libs files → IsLinked command libs files (Ok image) → IsLinkOf command libs files image

@@ -164,21 +164,23 @@ handler_edge literals goals unwind target key is to =
     in_left (edge_from unwind.atom (option_and_then (target_atom literals goals) unwind.personality)) (edge_from unwind.atom (option_map (λ lsda. lsda.0) unwind.lsda)) (edge_to unwind.atom key)
     (rw (is, to) (inl refl))
 
-edge_there : (command : Command) (libs : LibraryGraph) (files : List LoadedFile) (at : ℕ) (file : LoadedFile) (unwind : Unwind) (target : Target) (key : AtomKey) → slice_get files at ≡ Some file → In unwind file.unwinds → unwind.personality ≡ Some target → target_atom (representatives_of files) (goals_of_symbols files libs command file) target ≡ Some key → In (edge_to unwind.atom key) (edges files libs command)
+-- what follows from an entry is kept with its atom
+pub entry_edge : (command : Command) (libs : LibraryGraph) (files : List LoadedFile) (at : ℕ) (file : LoadedFile) (unwind : Unwind) (edge : Edge) → slice_get files at ≡ Some file → In unwind file.unwinds → In edge (unwind_edges (representatives_of files) (goals_of_symbols files libs command file) unwind) → In edge (edges files libs command)
 unfolding edges_by file_edges
-edge_there command libs files at file unwind target key is h handles to =
+entry_edge command libs files at file unwind edge is h of_entry =
     let literals = representatives_of files in
     let goals : List Goal = goals_of_symbols files libs command file in
-    let here : In (edge_to unwind.atom key) (file_edges literals goals file) =
-    in_right (flat_map (ref_edges literals goals) file.refs) (flat_map (unwind_edges literals goals) file.unwinds) (edge_to unwind.atom key)
-    (in_flat (unwind_edges literals goals) file.unwinds unwind (edge_to unwind.atom key) h (handler_edge literals goals unwind target key handles to)) in
-    in_flat (edges_at literals (goal_table files libs command)) (enumerate_from 0 files) (at, file) (edge_to unwind.atom key) (in_all files at file is)
+    let here : In edge (file_edges literals goals file) =
+    in_right (flat_map (ref_edges literals goals) file.refs) (flat_map (unwind_edges literals goals) file.unwinds) edge
+    (in_flat (unwind_edges literals goals) file.unwinds unwind edge h of_entry) in
+    in_flat (edges_at literals (goal_table files libs command)) (enumerate_from 0 files) (at, file) edge (in_all files at file is)
     (rw (table_at files libs command at file is) here)
 
 handler_kept : (m : ImageInputs) (at : ℕ) (file : LoadedFile) (unwind : Unwind) (target : Target) (key : AtomKey) → IsLinking m → IsHandler m at file unwind target → target_atom (representatives_of m.files) (goals_of_symbols m.files m.libs m.command file) target ≡ Some key → has m.keys key ≡ true
 handler_kept m at file unwind target key linking is to =
     from_all (λ (edge : Edge). has m.keys edge.from ≡ true → has m.keys edge.to ≡ true) (edges m.files m.libs m.command) (edge_to unwind.atom key) linking.led
-    (edge_there m.command m.libs m.files at file unwind target key is.there is.among is.handles to) is.kept
+    (entry_edge m.command m.libs m.files at file unwind (edge_to unwind.atom key) is.there is.among
+    (handler_edge (representatives_of m.files) (goals_of_symbols m.files m.libs m.command file) unwind target key is.handles to)) is.kept
 
 -- it leads somewhere
 
@@ -209,7 +211,7 @@ handler_reached m layout at file unwind target linking rising laid is =
 
 -- ---- their goals
 
-goal_leads : (m : ImageInputs) (at : ℕ) (file : LoadedFile) (target : Target) → IsLinking m → slice_get m.files at ≡ Some file → goal_at m.literals m.goals at target ≡ leads m file target
+pub goal_leads : (m : ImageInputs) (at : ℕ) (file : LoadedFile) (target : Target) → IsLinking m → slice_get m.files at ≡ Some file → goal_at m.literals m.goals at target ≡ leads m file target
 unfolding goal_at
 goal_leads m at file target linking is =
     ap (λ (found : Option (List Goal)). target_goal m.literals (option_map_or (λ (some : List Goal). some) found []) target) (goals_there m at file linking is)

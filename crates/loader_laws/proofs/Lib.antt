@@ -24,9 +24,11 @@ pub mod Referred
 pub mod RowRefs
 pub mod Seated
 pub mod Seats
+pub mod Sectioned
 pub mod Segmented
 pub mod Served
 pub mod Spread
 pub mod Targets
 pub mod Template
 pub mod Typed
+pub mod Unwound

@@ -63,6 +63,10 @@ is_needed m at file r way linking is e =
     (in_left (flat_map (needs_at m.literals m.keys m.goals) (enumerate_from 0 m.files)) (entry_needs (start_of m.command m.entry)) one
     (in_flat (needs_at m.literals m.keys m.goals) (enumerate_from 0 m.files) (at, file) one (in_all m.files at file is.there) (rw (goals_there m at file linking is.there) here)))
 
+-- the personality of a kept entry is found by a slot
+pub handler_needed : (m : ImageInputs) (goal : Goal) → In goal (handlers m.literals m.keys m.goals m.files) → In (need goal Got) (all_needs m)
+handler_needed m goal h = in_right (by_refs m) (by_unwinds m) (need goal Got) (in_map slot_need (handlers m.literals m.keys m.goals m.files) goal h)
+
 -- a program whose entry another image has needs a stub
 entry_is_needed : (m : ImageInputs) → m.command.dylib ≡ false → is_outer m.entry ≡ true → In (need m.entry Stub) (all_needs m)
 unfolding needs
@@ -79,7 +83,7 @@ needed_in ways all one h passes =
     let chosen = in_filter (λ (n : Need). ways n.way) all one h passes in
     Contains_from_in (needed ways all) one.goal (in_map (λ (n : Need). n.goal) (filter (λ (n : Need). ways n.way) all) one chosen)
 
-has_unit : (m : ImageInputs) (way : Way) (goal : Goal) → IsLinking m → In (need goal way) (all_needs m) → Contains (goals_for m.slots way) goal
+pub has_unit : (m : ImageInputs) (way : Way) (goal : Goal) → IsLinking m → In (need goal way) (all_needs m) → Contains (goals_for m.slots way) goal
 has_unit m Got goal linking h = linking.slots.got.all goal (needed_in in_got (all_needs m) (need goal Got) h refl)
 has_unit m Stub goal linking h = linking.slots.stubs.all goal (needed_in in_stubs (all_needs m) (need goal Stub) h refl)
 has_unit m Tlv goal linking h = linking.slots.tlv.all goal (needed_in in_tlv (all_needs m) (need goal Tlv) h refl)

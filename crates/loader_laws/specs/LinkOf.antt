@@ -41,6 +41,7 @@ use Rattle.sect_place.specs.Places.{protection_of}
 use Rattle.image_read.specs.Reaches.{IsStub}
 use Rattle.image_read.specs.declared.fixups.FixupRead.TheVariants.{Broken, Plain}
 use Rattle.image_laws.specs.Entry.{BeginsAt}
+use Rattle.loader_laws.specs.Unwinding.{HasUnwind, TellsUnwinding}
 
 -- ---- which atoms are kept
 
@@ -195,7 +196,8 @@ pub record BeginsAtItsEntry (command : Command) (libs : LibraryGraph) (files : L
 
 -- An image links files. Each atom that it keeps has an address, where it stands in memory apart from all others and in the
 -- segment to which its section goes. Each reference of these tells its goal, a branch reaches it, and a program begins at
--- its entry. The loader fills in the pointers of these atoms and the slots that they need, and nothing else.
+-- its entry. The loader fills in the pointers of these atoms and the slots that they need, and nothing else. Where atoms have
+-- unwind entries the image tells how their functions are unwound, and tells of no others.
 pub record IsLinkOf (command : Command) (libs : LibraryGraph) (files : List LoadedFile) (image : List ℕ) : Type 0 where
   pub keys : List AtomKey
   pub addresses : AtomMap
@@ -208,3 +210,4 @@ pub record IsLinkOf (command : Command) (libs : LibraryGraph) (files : List Load
       → IsKeptReference files keys file reference → TellsItsGoal command libs files image addresses file reference
   pub entry : command.dylib ≡ false → BeginsAtItsEntry command libs files image addresses
   pub filled : (address : ℕ) → IsFilledIn command libs files keys image addresses address
+  pub unwound : HasUnwind files keys → TellsUnwinding command libs files keys image addresses

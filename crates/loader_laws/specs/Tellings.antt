@@ -2,7 +2,7 @@
 use Rattle.std.specs.Prelude.{ℕ, ◌≡◌, true, false, List, All}
 use Rattle.command_line.specs.declared.command.Command.{Command}
 use Rattle.image_make.specs.Made.{ImageInputs, with_info}
-use Rattle.input_files.specs.Files.{HasUnwinds}
+use Rattle.input_files.specs.Files.{HasUnwinds, IsLow}
 use Rattle.lib_bind.specs.Graph.{IsWhole}
 use Rattle.lib_bind.specs.declared.library.LibraryGraph.{LibraryGraph}
 use Rattle.link_files.specs.Linked.{making}
@@ -30,11 +30,13 @@ abbrev pub IsRegularCode : Section → Type 0
 IsRegularCode section = is_dropped section ≡ false → is_instructions section ≡ true → section.kind ≡ S_REGULAR
 
 -- Names hold no NUL, neither those of symbols nor that of the entry. Common symbols are external, and instructions stand in
--- regular sections. The unwind entries of files are those of their objects. Libraries have ordinals of an image.
+-- regular sections. Nothing is aligned to more than a page. The unwind entries of files are those of their objects. Libraries
+-- have ordinals of an image.
 pub record AreNamed (command : Command) (libs : LibraryGraph) (files : List LoadedFile) : Type 0 where
   pub symbols : All (λ file. All (λ symbol. HasNoNul symbol.name) file.object.symbols) files
   pub commons : All (λ file. All IsCommonToAll file.object.symbols) files
   pub code : All (λ file. All IsRegularCode file.object.sections) files
+  pub low : All IsLow files
   pub unwinds : All HasUnwinds files
   pub entry : HasNoNul command.entry
   pub libraries : IsWhole libs

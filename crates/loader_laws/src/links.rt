@@ -32,8 +32,9 @@ pub fn a_plan_is_a_linked_image()
 
 /// What whole files link to, whose ids rise, is an image that links them: the kept atoms stand apart in memory, each byte as
 /// its object has it but for the fields of its references, which tell where these lead; the loader fills in their pointers and
-/// slots; and a program begins at its entry. Names hold no NUL, common symbols are external, instructions stand in regular
-/// sections, unwind entries are those of objects, and libraries have ordinals of an image.
+/// slots; a program begins at its entry; and the image tells how their functions are unwound. Names hold no NUL, common symbols
+/// are external, instructions stand in regular sections, nothing is aligned to more than a page, unwind entries are those of
+/// objects, and libraries have ordinals of an image.
 pub fn what_is_linked_is_a_link()
     ensures { (command : Commanded) (libs : LibraryGraph) (files : List LoadedFile) (image : List ℕ)
         → AreOrdered files → AreWhole files → AreNamed command libs files → IsLinked command libs files (Ok image) → IsLinkOf command libs files image }
@@ -44,9 +45,9 @@ pub fn a_plan_is_a_link()
     ensures { (words : List (List ℕ)) (look : List ℕ → File) (plan : Plan) → IsVerdict words look (Ok plan) → HaveBytes look → IsPlanOfLink words look plan }
 {}
 
-/// Names of what is planned hold no NUL, its common symbols are external, its instructions stand in regular sections, and its
-/// unwind entries are those of objects; and where files have bytes objects are whole. A map of what files told has bytes under
-/// each path.
+/// Names of what is planned hold no NUL, its common symbols are external, its instructions stand in regular sections, nothing of
+/// it is aligned to more than a page, and its unwind entries are those of objects; and where files have bytes objects are whole.
+/// A map of what files told has bytes under each path.
 pub fn what_is_planned_is_of_whole_objects()
     ensures whole { (words : List (List ℕ)) (look : List ℕ → File) (plan : Plan) (is : IsPlanOfImage words look plan) → HaveBytes look → AreWhole is.loaded.files }
     ensures named { (words : List (List ℕ)) (look : List ℕ → File) (plan : Plan) (is : IsPlanOfImage words look plan) → AreNamed is.command is.libs is.loaded.files }
