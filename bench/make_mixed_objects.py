@@ -22,7 +22,7 @@ from make_many_objects import (
 GOT_PAGE21, GOT_PAGEOFF12 = (pcrel << 24 | 2 << 25 | 1 << 27 | kind << 28 for pcrel, kind in ((1, 5), (0, 6)))
 UNSIGNED = 3 << 25 | 1 << 27
 CSTRING_LITERALS, WEAK_DEFINITION = 2, 0x80
-FRONT = 32 + 72 + 3 * 80 + 24
+HEADERS, SECTION_HEADER = 32 + 72 + 24, 80
 
 # stp x29, x30, [sp, #-16]!; adrp x0, 0; add x0, x0, #0; bl 0; adrp x1, 0; ldr x1, [x1]; bl 0; adrp x2, 0;
 # add x2, x2, #0; bl 0 or nop; nop ...; ldp x29, x30, [sp], #16; ret
@@ -33,7 +33,7 @@ OWN_PAGE, OWN_OFFSET, OWN_CALL, SLOT_PAGE, SLOT_OFFSET, OTHER_CALL, STRING_PAGE,
 STAYING = CALLING[:LIBRARY_CALL] + array("I", [0xD503201F]) + CALLING[LIBRARY_CALL + 1 :]
 FUNCTION_SIZE, DATUM_SIZE, STRING_SIZE = 4 * len(CALLING), 32, 24
 FIRST_POINTER, SECOND_POINTER = 8, 16
-LIBRARY_NAMES = 200
+LIBRARY_NAMES, PERSONALITY = 200, b"___gxx_personality_v0\0"
 # 8.5 relocations of code and 1.5 of data, three definitions and two symbols of other objects with their names
 SIZE_OF_ONE = FUNCTION_SIZE + DATUM_SIZE + STRING_SIZE + 10 * 8 + 5 * (16 + NAME_SIZE)
 
@@ -63,7 +63,10 @@ def string_of(k, i):
 class Object:
     """The symbols of an object in its file's order (local, external, undefined), with the number of each."""
 
+    SIZE_OF_ONE = SIZE_OF_ONE
+
     def __init__(self, k, objects, count):
+        self.k, self.count = k, count
         self.rows, self.names = [], []
         self.functions, self.data, self.strings, self.others, self.slots, self.library = ([0] * count for _ in range(6))
         sizes = FUNCTION_SIZE * count, DATUM_SIZE * count
@@ -77,6 +80,7 @@ class Object:
                     self.add(self.data, i, datum_name(k, i), kind, 2, sizes[0] + DATUM_SIZE * i)
                 if local:
                     self.add(self.strings, i, b"l_.str.%d\0" % i, kind, 3, sum(sizes) + STRING_SIZE * i)
+                    self.add_more(i, kind, sum(sizes) + STRING_SIZE * count)
         for i in range(count):
             # an external one of an object that changes from function to function
             other = (k + 1 + 7 * i) % objects
@@ -94,10 +98,25 @@ class Object:
         self.rows.append((kind, section, flags, value))
         self.names.append(name)
 
-    def code(self, count):
+    def add_more(self, i, kind, start):
+        """Adds local symbols beside those of a function; what they name stands from an address on."""
+
+    def following(self, i):
+        """Which function and datum come after those of a number."""
+        return (i + 1) % self.count
+
+    def sections(self):
+        """Of each section the name, the segment, the contents, the alignment, the relocations and the flags."""
+        code = b"".join((CALLING if i % 2 == 0 else STAYING).tobytes() for i in range(self.count))
+        strings = b"".join(string_of(self.k, i) for i in range(self.count))
+        return [(b"__text", b"__TEXT", code, 2, self.code(), PURE_AND_SOME_INSTRUCTIONS),
+                (b"__data", b"__DATA", *self.pointers(), 0),
+                (b"__cstring", b"__TEXT", strings, 0, (), CSTRING_LITERALS)]
+
+    def code(self):
         """The relocations of the code, the last one first, as an assembler writes them."""
         entries = array("I")
-        for i in reversed(range(count)):
+        for i in reversed(range(self.count)):
             at = FUNCTION_SIZE * i
             if i % 2 == 0:
                 entries.extend((at + 4 * LIBRARY_CALL, BRANCH26 | self.library[i]))
@@ -105,55 +124,52 @@ class Object:
                 at + 4 * STRING_OFFSET, PAGEOFF12 | self.strings[i], at + 4 * STRING_PAGE, PAGE21 | self.strings[i],
                 at + 4 * OTHER_CALL, BRANCH26 | self.others[i],
                 at + 4 * SLOT_OFFSET, GOT_PAGEOFF12 | self.slots[i], at + 4 * SLOT_PAGE, GOT_PAGE21 | self.slots[i],
-                at + 4 * OWN_CALL, BRANCH26 | self.functions[(i + 1) % count],
+                at + 4 * OWN_CALL, BRANCH26 | self.functions[self.following(i)],
                 at + 4 * OWN_OFFSET, PAGEOFF12 | self.data[i], at + 4 * OWN_PAGE, PAGE21 | self.data[i]))
         return entries
 
-    def pointers(self, k, count):
-        """The data, and the relocations of its pointers."""
+    def pointers(self):
+        """The data, their alignment, and the relocations of their pointers."""
         entries, data = array("I"), []
-        for i in reversed(range(count)):
+        for i in reversed(range(self.count)):
             at = DATUM_SIZE * i
             if i % 2 == 0:
                 goal = self.library[i] if i % 8 == 0 else self.slots[i]
                 entries.extend((at + SECOND_POINTER, UNSIGNED | goal))
             goal, addend = (
-                (self.functions[i], 0), (self.strings[i], 4), (self.data[(i + 1) % count], 8), (self.others[i], 0))[i % 4]
+                (self.functions[i], 0), (self.strings[i], 4), (self.data[self.following(i)], 8), (self.others[i], 0))[i % 4]
             entries.extend((at + FIRST_POINTER, UNSIGNED | goal))
-            data.append(struct.pack("<4Q", k << 32 | i, addend, 0, i))
-        return b"".join(reversed(data)), entries
+            data.append(struct.pack("<4Q", self.k << 32 | i, addend, 0, i))
+        return b"".join(reversed(data)), 3, entries
 
 
-def object_of(k, objects, count):
-    made = Object(k, objects, count)
-    code = b"".join((CALLING if i % 2 == 0 else STAYING).tobytes() for i in range(count))
-    data, pointers = made.pointers(k, count)
-    entries = made.code(count)
-    strings = b"".join(string_of(k, i) for i in range(count))
+def file_of(made):
+    """The file of an object."""
+    sections = made.sections()
     table, names = [], bytearray(1)
     for (kind, section, flags, value), name in zip(made.rows, made.names):
         table.append(struct.pack("<IBBHQ", len(names), kind, section, flags, value))
         names += name
     names += bytes(-len(names) % 8)
-    size = len(code) + len(data) + len(strings)
-    relocations = FRONT + size
-    symbols = relocations + 4 * (len(entries) + len(pointers))
-    front = struct.pack("<8I", MAGIC_64, CPU_ARM64, 0, OBJECT, 2, FRONT - 32, SUBSECTIONS_VIA_SYMBOLS, 0)
-    front += struct.pack("<II16s4Q4I", SEGMENT_64, 72 + 3 * 80, b"", 0, size, FRONT, size, 7, 7, 3, 0)
-    place = FRONT
-    for name, segment, contents, align, first, rows, flags in (
-            (b"__text", b"__TEXT", code, 2, relocations, entries, PURE_AND_SOME_INSTRUCTIONS),
-            (b"__data", b"__DATA", data, 3, relocations + 4 * len(entries), pointers, 0),
-            (b"__cstring", b"__TEXT", strings, 0, 0, (), CSTRING_LITERALS)):
-        front += struct.pack("<16s16sQQ8I", name, segment, place - FRONT, len(contents), place, align, first, len(rows) // 2,
-                             flags, 0, 0, 0)
-        place += len(contents)
+    front_size = HEADERS + SECTION_HEADER * len(sections)
+    contents = b"".join(section[2] for section in sections)
+    size = len(contents)
+    front = struct.pack("<8I", MAGIC_64, CPU_ARM64, 0, OBJECT, 2, front_size - 32, SUBSECTIONS_VIA_SYMBOLS, 0)
+    front += struct.pack("<II16s4Q4I", SEGMENT_64, front_size - 32 - 24, b"", 0, size, front_size, size, 7, 7, len(sections), 0)
+    address, place, relocations = 0, front_size + size, b""
+    for name, segment, held, align, rows, flags in sections:
+        front += struct.pack("<16s16sQQ8I", name, segment, address, len(held), front_size + address, align,
+                             place + len(relocations) if rows else 0, len(rows) // 2, flags, 0, 0, 0)
+        address += len(held)
+        relocations += bytes(rows)
+    symbols = place + len(relocations)
     front += struct.pack("<6I", SYMTAB, 24, symbols, len(table), symbols + 16 * len(table), len(names))
-    return b"".join((front, code, data, strings, entries.tobytes(), pointers.tobytes(), *table, bytes(names)))
+    return front + contents + relocations + b"".join(table) + bytes(names)
 
 
 def library():
-    names = ", ".join(["dyld_stub_binder", *(library_name(i)[:-1].decode() for i in range(LIBRARY_NAMES))])
+    of_objects = (*map(library_name, range(LIBRARY_NAMES)), PERSONALITY)
+    names = ", ".join(["dyld_stub_binder", *(name[:-1].decode() for name in of_objects)])
     return f"""--- !tapi-tbd
 tbd-version: 4
 targets: [ arm64-macos ]
@@ -165,11 +181,11 @@ exports:
 """
 
 
-def main(folder, objects, size):
-    count = max(16, (size // objects - FRONT) // SIZE_OF_ONE // 4 * 4)
+def main(folder, objects, size, kind=Object):
+    count = max(16, (size // objects - HEADERS - 3 * SECTION_HEADER) // kind.SIZE_OF_ONE // 4 * 4)
     for k in range(objects):
         with open(f"{folder}/{k:04}.o", "wb") as out:
-            out.write(object_of(k, objects, count))
+            out.write(file_of(kind(k, objects, count)))
     with open(f"{folder}/library.tbd", "w") as out:
         out.write(library())
 

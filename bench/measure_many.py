@@ -1,15 +1,17 @@
 #!/usr/bin/env python3
-"""Times the link of a folder's objects by atomld and by ld64.lld: `measure_many.py ATOMLD FOLDER RUNS`.
+"""Times the link of a folder's objects by atomld and by ld64.lld: `measure_many.py ATOMLD FOLDER RUNS [OPTION]...`.
 
-The objects are those of make_many_objects.py or, where a stub library stands beside them, of make_mixed_objects.py. Both
-linkers are first run once, and their images compared: the same code with the same calls, and each address that is taken at
-the same place of its section; of mixed objects, that each reference and pointer leads to the same, be it by a stub or a
-slot, where ld64.lld has chained fixups (LLVM 15 or later). Then each is run once in each of RUNS rounds, with one worker and
-with four (ld64.lld: with as many as it takes by itself), ld64.lld with and without a signature, and beside them the objects
-are copied by cp. Each round has an order of its own, so that none always follows the same one. Prints the least and the
-median of seconds and of the processor's, the peak memory, and the seconds as parts of those of ld64.lld with as many workers
-and no signature: of the least, of the median, and the median of the parts of each round, which a machine whose speed drifts
-disturbs least; and how much memory atomld needs at most beyond the inputs and the image, in bytes a relocation.
+The objects are those of make_many_objects.py or, where a stub library stands beside them, of make_mixed_objects.py or
+make_unwound_objects.py; both linkers are given the options. They are first run once, and their images compared: the same code
+with the same calls, and each address that is taken at the same place of its section; of mixed objects, that the same
+functions and data stay, that the same unwinds each function, and, where ld64.lld has chained fixups (LLVM 15 or later), that
+each reference and pointer leads to the same, be it by a stub or a slot. Then each is run once in each of RUNS rounds, with
+one worker and with four (ld64.lld: with as many as it takes by itself), ld64.lld with and without a signature, and beside
+them the objects are copied by cp. Each round has an order of its own, so that none always follows the same one. Prints the
+least and the median of seconds and of the processor's, the peak memory, and the seconds as parts of those of ld64.lld with
+as many workers and no signature: of the least, of the median, and the median of the parts of each round, which a machine
+whose speed drifts disturbs least; and how much memory atomld needs at most beyond the inputs and the image, in bytes a
+relocation.
 """
 import glob
 import os
@@ -26,7 +28,7 @@ from pathlib import Path
 
 from make_many_objects import FUNCTION, OTHER_OFFSET, OTHER_PAGE, OWN_OFFSET, OWN_PAGE
 from measure import LLD_WORDS, find_lld, run
-from mixed_image import commands_of, meanings_of
+from mixed_image import commands_of, meanings_of, stays_of
 
 LLD_FORMS = {
     "ld64.lld, 1": ["--threads=1"],
@@ -144,10 +146,15 @@ def report(measured, lld, objects, beyond):
         print(f"{name}: {more:.0f} bytes for each of {relocations} relocations, beyond inputs and image")
 
 
-def main(program, folder, runs):
+WHAT_IS_SAME = {
+    code_of: "the code is", meanings_of: "what stays, what unwinds it and where references lead are",
+    stays_of: "what stays and what unwinds it are"}
+
+
+def main(program, folder, runs, *options):
     objects, libraries = (sorted(glob.glob(f"{folder}/*.{kind}")) for kind in ("o", "tbd"))
-    inputs = [*objects, *libraries]
-    size = sum(map(os.path.getsize, inputs))
+    size = sum(map(os.path.getsize, [*objects, *libraries]))
+    inputs = [*options, *objects, *libraries]
     lld = lld_path()
     with tempfile.TemporaryDirectory() as out_folder:
         image, other = f"{out_folder}/atomld", f"{out_folder}/lld"
@@ -155,11 +162,11 @@ def main(program, folder, runs):
         read = None
         if lld and not libraries:
             read = code_of
-        elif lld and chains_of(lld):
-            read = meanings_of
+        elif lld:
+            read = meanings_of if chains_of(lld) else stays_of
         copies = f"{out_folder}/copies"
         os.mkdir(copies)
-        commands["cp"] = ["cp", "-t", copies, *inputs]
+        commands["cp"] = ["cp", "-t", copies, *objects, *libraries]
         measured = {name: [] for name in commands}
         check(commands, read, image, other, out_folder)
         beyond = size + os.path.getsize(image)
@@ -171,18 +178,15 @@ def main(program, folder, runs):
                     if os.path.exists(path):
                         os.remove(path)
                 measured[name].append(run(words))
-    kind = "mixed objects" if libraries else "objects"
-    print(f"{len(objects)} {kind}, {size} bytes, {runs} runs, load {os.getloadavg()[0]:.1f} at the end")
+    what = " ".join([Path(folder).name, *options])
+    print(f"{what}: {len(objects)} objects, {size} bytes, {runs} runs, load {os.getloadavg()[0]:.1f} at the end")
     report(measured, lld, objects, beyond)
-    if read:
-        what = "where references lead" if libraries else "the code"
-        print(f"{what} is the same for both linkers, and the image of atomld is one for all numbers of workers")
-    elif lld:
-        print("this ld64.lld has no chained fixups: images weren't compared")
+    compared = f"{WHAT_IS_SAME[read]} the same for both linkers, and " if read else ""
+    print(f"{compared}the image of atomld is one for all numbers of workers")
     return 0
 
 
 if __name__ == "__main__":
-    if len(sys.argv) != 4:
+    if len(sys.argv) < 4:
         sys.exit(__doc__)
-    sys.exit(main(sys.argv[1], sys.argv[2], int(sys.argv[3])))
+    sys.exit(main(sys.argv[1], sys.argv[2], int(sys.argv[3]), *sys.argv[4:]))

@@ -1,4 +1,4 @@
-"""Where the references of the objects of make_mixed_objects.py lead in an image of them, whatever its layout."""
+"""What an image has of the objects of make_mixed_objects.py, and where references lead in it, whatever its layout."""
 import struct
 from array import array
 from pathlib import Path
@@ -6,8 +6,10 @@ from pathlib import Path
 from make_mixed_objects import (
     DATUM_SIZE, FIRST_POINTER, FUNCTION_SIZE, LIBRARY_CALL, OTHER_CALL, OWN_CALL, OWN_PAGE, SECOND_POINTER, SLOT_OFFSET,
     SLOT_PAGE, STRING_PAGE)
+from make_unwound_objects import LSDA_SIZE
 
 PTR_64, PTR_64_OFFSET, IMPORT = 2, 6, 1
+REGULAR, COMPRESSED = 2, 3
 # the highest byte of `ldr x, [x]` with an offset, and the six highest bits of `bl`
 LDR_64, BL = 0xF9, 0x25
 
@@ -35,6 +37,7 @@ class Image:
                     self.sections[image[section : section + 16].rstrip(b"\0")] = (address, image[offset : offset + length])
             elif command == 0x80000034:
                 chains = struct.unpack_from("<I", image, at + 8)[0]
+        self.base = next(address for address, size, offset in self.segments if offset == 0 and address)
         if chains is not None:
             self.read_chains(image, chains)
         self.text, self.code = self.sections[b"__text"]
@@ -49,13 +52,12 @@ class Image:
         for row in struct.unpack_from(f"<{count}I", image, at + imports):
             name = at + names + (row >> 9)
             bound.append((row & 0xFF, image[name : image.index(b"\0", name)]))
-        base = next(address for address, size, offset in self.segments if offset == 0 and address)
         for segment, (address, _, offset) in enumerate(self.segments):
             start = struct.unpack_from("<I", image, at + starts + 4 + 4 * segment)[0]
             if start:
                 start += at + starts
                 page_size, form, _, _, pages = struct.unpack_from("<HHQIH", image, start + 4)
-                base_of_target = {PTR_64: 0, PTR_64_OFFSET: base}[form]
+                base_of_target = {PTR_64: 0, PTR_64_OFFSET: self.base}[form]
                 for page, first in enumerate(struct.unpack_from(f"<{pages}H", image, start + 22)):
                     place = page * page_size + first
                     while first != 0xFFFF:
@@ -99,8 +101,55 @@ class Image:
         return self.in_page(page, low, led)
 
 
+    def encodings(self):
+        """The rows of `__unwind_info`, each an address and the encoding from there on, and the addresses of language-specific
+        data by those of their functions, as compact_unwind_encoding.h has them."""
+        if b"__unwind_info" not in self.sections:
+            return [], {}
+        _, info = self.sections[b"__unwind_info"]
+        _, common_at, common, _, _, index_at, pages = struct.unpack_from("<7I", info)
+        index = [struct.unpack_from("<3I", info, index_at + 12 * i) for i in range(pages)]
+        rows = []
+        for first, at, _ in index[:-1]:
+            kind, rows_at, count = struct.unpack_from("<I2H", info, at)
+            if kind == REGULAR:
+                rows += struct.iter_unpack("<2I", info[at + rows_at : at + rows_at + 8 * count])
+                continue
+            assert kind == COMPRESSED
+            own_at, own = struct.unpack_from("<2H", info, at + 8)
+            held = struct.unpack_from(f"<{common}I", info, common_at) + struct.unpack_from(f"<{own}I", info, at + own_at)
+            rows += ((first + (row & 0xFFFFFF), held[row >> 24])
+                     for row in struct.unpack_from(f"<{count}I", info, at + rows_at))
+        lsdas = dict(struct.iter_unpack("<2I", info[index[0][2] : index[-1][2]]))
+        return rows, {self.base + function: self.base + lsda for function, lsda in lsdas.items()}
+
+    def unwinds(self):
+        """Of each function the encoding, and the language-specific data or nothing."""
+        rows, lsdas = self.encodings()
+        start, tables = self.sections.get(b"__gcc_except_tab", (0, b""))
+        at, told = -1, []
+        for function in range(self.text, self.text + len(self.code), FUNCTION_SIZE):
+            while at + 1 < len(rows) and self.base + rows[at + 1][0] <= function:
+                at += 1
+            lsda = lsdas.get(function)
+            told.append((rows[at][1] if at >= 0 else 0, lsda and tables[lsda - start : lsda - start + LSDA_SIZE]))
+        return told
+
+
+def stays_of(path):
+    """Which functions an image has, each by the number of the datum whose address it takes, with what unwinds it, and the
+    numbers of the data."""
+    image = Image(path)
+    functions, data = [], range(0, len(image.contents) // DATUM_SIZE * DATUM_SIZE, DATUM_SIZE)
+    for first in range(0, len(image.words), FUNCTION_SIZE // 4):
+        page, low = image.words[first + OWN_PAGE : first + OWN_PAGE + 2]
+        datum = image.in_page(page, low, image.text + 4 * (first + OWN_PAGE)) - image.data
+        functions.append(image.contents[datum : datum + 8])
+    return functions, image.unwinds(), [image.contents[at : at + 8] for at in data]
+
+
 def meanings_of(path):
-    """Where each reference of the code leads and each pointer of the data, by their places, and the data's numbers."""
+    """Which functions and data an image has, and where each reference of the code leads and each pointer of the data."""
     image = Image(path)
     told = []
     for first in range(0, len(image.words), FUNCTION_SIZE // 4):
@@ -115,5 +164,4 @@ def meanings_of(path):
         for pointer in (FIRST_POINTER, SECOND_POINTER):
             led = image.fixups.get(image.data + at + pointer)
             told.append(None if led is None else image.meaning(led))
-        told.append(image.contents[at : at + 8])
-    return told
+    return stays_of(path), told
