@@ -52,7 +52,8 @@ use Rattle.loader_laws.specs.Tellings.{IsRegularCode}
 use Rattle.loader_laws.proofs.Finding.{cut_from, file_found, key_found, key_itself, one_file}
 use Rattle.loader_laws.proofs.Placing.{IsCommonOf, IsKeptFrom, IsLinking, kept_from}
 use Rattle.loader_laws.proofs.Template.{IsHosted, IsTemplateStart, hosted, placed_kept, starts}
-use Rattle.loader_laws.proofs.Typed.{GoesTo, layout_goes}
+use Rattle.image_make.proofs.HomeLemmas.{GoesTo}
+use Rattle.loader_laws.proofs.Typed.{layout_goes}
 
 -- ---- the least of some numbers
 

@@ -1,11 +1,11 @@
 -- A section of an image that lists an atom is of the type to which the atom's own section goes.
-use Rattle.std.proofs.Common.{◌≡◌, ℕ, ◌+◌, ◌==◌, inl, inr, ◌⊎◌, Bool, true, false, List, [], ◌∷◌, ◌++◌, length, map, Some, codes, refl, sym, ap, ◌∙◌, arith, subst}
+use Rattle.std.proofs.Common.{◌≡◌, ℕ, ◌+◌, ◌==◌, inl, inr, Bool, true, false, List, [], ◌∷◌, ◌++◌, length, map, Some, codes, refl, sym, ap, ◌∙◌, arith, subst}
 use Rattle.std.specs.List.{AllByRecursion, filter}
 use Rattle.std.specs.Str.{bytes_eq}
 use Rattle.std.proofs.lemmas.Bool.{cases_Bool, false≢true, ne_eqb}
 use Rattle.std.proofs.lemmas.Option.{slice_get_within}
-use Rattle.list_lemmas.proofs.Members.{In, all_from_in, all_in, from_filter, from_filter_map, from_map}
-use Rattle.mo_types.specs.Destination.{Destination, destination_kind, is_instructions}
+use Rattle.list_lemmas.proofs.Members.{In, all_from_in, all_in, from_filter, from_map}
+use Rattle.mo_types.specs.Destination.{destination_kind, is_instructions}
 use Rattle.mo_types.specs.RelocationRules.{section_numbered}
 use Rattle.mo_types.specs.Whole.{IsWhole, is_zerofill}
 use Rattle.mo_types.specs.declared.atom.Atom.{Atom}
@@ -13,10 +13,7 @@ use Rattle.mo_types.specs.declared.key.AtomKey.{AtomKey}
 use Rattle.mo_types.specs.declared.loaded.LoadedFile.{LoadedFile}
 use Rattle.mo_types.specs.declared.object.Section.{Section}
 use Rattle.mo_types.specs.declared.out_section.OutSection.{OutSection}
-use Rattle.tlv_plan.specs.Template.{greatest_align, is_thread_local, thread_local}
-use Rattle.sect_list.specs.OutSections.{Home, Row, going_to, home_in, home_of, in_order, led, led_by, out_sections, row_of, rows, same_destination, section_with, sections_of}
-use Rattle.sect_list.proofs.Gathering.{equal}
-use Rattle.sect_list.proofs.Once.{order_members, section_behind}
+use Rattle.sect_list.specs.OutSections.{Home, home_in, home_of, out_sections}
 use Rattle.sect_place.specs.Arrangement.{MadeBytes, chosen, constant_parts, group_named, groups_of, is_chosen, own, runs, runs_from, section_of, text_parts, with_atoms, writable_parts}
 use Rattle.sect_place.specs.Layout.{image_sections, made_bytes, plan_of}
 use Rattle.sect_place.specs.Places.{file_bytes, group_end, groups_sections, page_up, part_end, parts_sections, placed_section}
@@ -28,82 +25,14 @@ use Rattle.sect_place.specs.declared.part.Group.{Group}
 use Rattle.sect_place.specs.declared.part.Made.{Made}
 use Rattle.sect_place.specs.declared.part.Made.TheVariants.{Stubs, UnwindInfo, Got, ThreadPtrs}
 use Rattle.sect_place.specs.declared.part.Part.{Part}
+use Rattle.image_make.proofs.HomeLemmas.{GoesTo, goes}
 use Rattle.image_make.specs.Atoms.{atom_of}
 use Rattle.image_make.specs.Made.{IsLaid, ImageInputs, kept_of, plan_for, plan_with, sizes_of}
 use Rattle.link_files.proofs.Cuts.{at_place}
-use Rattle.link_files.proofs.Lists.{from_mapped, some_is}
+use Rattle.link_files.proofs.Lists.{some_is}
 use Rattle.loader_laws.proofs.Finding.{file_found}
 use Rattle.image_laws.proofs.Turned.{appended}
 use Rattle.link_files.specs.Linked.{AreOrdered}
-
--- ---- the sections with atoms
-
--- an atom with this key goes to a section of this segment and type
-pub record GoesTo (files : List LoadedFile) (key : AtomKey) (segment : List ℕ) (kind : ℕ) : Type 0 where
-  pub home : Home
-  pub of_key : home_of files key.file key.section ≡ Some home
-  pub into : home.to.segment ≡ segment
-  pub to : home.to.kind ≡ kind
-
--- a section of some has the atoms, the segment and the type
-record IsFrom (sections : List OutSection) (section : OutSection) : Type 0 where
-  pub from : OutSection
-  pub among : In from sections
-  pub atoms : from.atoms ≡ section.atoms
-  pub segment : from.segment ≡ section.segment
-  pub kind : from.kind ≡ section.kind
-
-led_from : (align : ℕ) (sections : List OutSection) (section : OutSection) → In section (led_by align sections) → IsFrom sections section
-led_from align [] section h = absurd h
-led_from align (s ∷ sections) section h = by (is_thread_local s) refl (led_from align sections section)
-  where
-    later : IsFrom sections section → IsFrom (s ∷ sections) section
-    later rest = record { from = rest.from; among = inr rest.among; atoms = rest.atoms; segment = rest.segment; kind = rest.kind }
-
-    raised : (record s { align = align } ≡ section) ⊎ In section sections → IsFrom (s ∷ sections) section
-    raised (inl e) = record { from = s; among = inl refl; atoms = ap (λ (q : OutSection). q.atoms) e; segment = ap (λ (q : OutSection). q.segment) e; kind = ap (λ (q : OutSection). q.kind) e }
-    raised (inr there) = record { from = section; among = inr there; atoms = refl; segment = refl; kind = refl }
-
-    plain : (s ≡ section) ⊎ In section (led_by align sections) → (In section (led_by align sections) → IsFrom sections section) → IsFrom (s ∷ sections) section
-    plain (inl e) rest = record { from = s; among = inl refl; atoms = ap (λ (q : OutSection). q.atoms) e; segment = ap (λ (q : OutSection). q.segment) e; kind = ap (λ (q : OutSection). q.kind) e }
-    plain (inr there) rest = later (rest there)
-
-    by : (b : Bool) → is_thread_local s ≡ b → (In section (led_by align sections) → IsFrom sections section) → IsFrom (s ∷ sections) section
-    by true e rest = raised (rw e at h)
-    by false e rest = plain (rw e at h) rest
-
--- a row goes where its atom does
-row_goes : (files : List LoadedFile) (kept : List Atom) (row : Row) → In row (rows files kept) → home_of files row.atom.key.file row.atom.key.section ≡ Some row.home
-unfolding rows row_of
-row_goes files kept row h =
-    let of_atom = from_filter_map (row_of files) kept row h in
-    let made = from_mapped (λ (home : Home). let r : Row = record { atom = of_atom.0; home = home } in r) (home_of files of_atom.0.key.file of_atom.0.key.section) row of_atom.2 in
-    let same : of_atom.0 ≡ row.atom = ap (λ (r : Row). r.atom) made.2 in
-    ap (λ (a : Atom). home_of files a.key.file a.key.section) (sym same) ∙ made.1 ∙ ap (λ (r : Row). Some r.home) made.2
-
-of_rows : (files : List LoadedFile) (kept : List Atom) (section : OutSection) (key : AtomKey) → In section (sections_of (rows files kept)) → In key section.atoms → GoesTo files key section.segment section.kind
-unfolding section_with going_to
-of_rows files kept section key h listed =
-    let all : List Row = rows files kept in
-    let behind = section_behind all section h in
-    let there : In key (section_with behind.0 (going_to all behind.0)).atoms = subst (λ (s : OutSection). In key s.atoms) (sym behind.1) listed in
-    let row = from_map (λ (r : Row). r.atom.key) (going_to all behind.0) key there in
-    let passed = from_filter (λ (r : Row). same_destination r.home.to behind.0) all row.0 row.1 in
-    let to = (equal row.0.home.to behind.0).0 passed.1 in
-    record {
-      home = row.0.home;
-      of_key = ap (λ (k : AtomKey). home_of files k.file k.section) (sym row.2) ∙ row_goes files kept row.0 passed.0;
-      into = ap (λ (d : Destination). d.segment) to ∙ ap (λ (s : OutSection). s.segment) behind.1;
-      to = ap (λ (d : Destination). d.kind) to ∙ ap (λ (s : OutSection). s.kind) behind.1;
-    }
-
-goes : (files : List LoadedFile) (kept : List Atom) (section : OutSection) (key : AtomKey) → In section (out_sections files kept) → In key section.atoms → GoesTo files key section.segment section.kind
-unfolding out_sections led
-goes files kept section key h listed =
-    let ordered : List OutSection = in_order (sections_of (rows files kept)) in
-    let one = led_from (greatest_align (thread_local ordered)) ordered section h in
-    subst (λ (n : ℕ). GoesTo files key section.segment n) one.kind (subst (λ (name : List ℕ). GoesTo files key name one.from.kind) one.segment
-    (of_rows files kept one.from key (order_members (sections_of (rows files kept)) one.from one.among) (subst (λ (keys : List AtomKey). In key keys) (sym one.atoms) listed)))
 
 -- ---- where they stand
 
